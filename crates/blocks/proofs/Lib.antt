@@ -1,0 +1,7 @@
+-- Laws of specs/, for the proofs here and for those of the layers above.
+pub mod Tests
+pub mod Parts
+pub mod Sums
+pub mod Sealing
+pub mod Noticing
+pub mod Layouts

@@ -1,0 +1,86 @@
+-- Laws of specs/Block.antt: the parts of a file and of a block. Assumes nothing.
+use mathlib.Core.Path.{_≡_, refl, ap, _∙_, sym}
+use mathlib.Core.List.{List, [], _∷_, _++_}
+use Prim.Native.Nat.{ℕ, zero, suc, _+_, _-_, _*_, _/_, _≤_, _<_}
+use native.Mathlib.Nat.{sub-zero, zero-sub, suc-sub-suc}
+use native.Mathlib.Omega.{arith}
+use native.Mathlib.Decide.{decLe}
+use lib.Dec.{ltb}
+use borrow.Author.Tests.{lt-ltb, le-ltb, le-leb, lt-leb}
+use lib.ListN.{length, getD, take, drop, length-take, length-drop}
+use lib.Seq.{getD-take, getD-drop, take-nil, take-take, drop-drop, take-add, length-take-le}
+use Rattle.blocks.specs.Block.{HasBlock, hasBlock, blockAt, byteAt, entriesOf, firstEntries, secondEntries, firstCount, secondCount, Fitting}
+
+-- What is left of the first m elements after n are dropped.
+drop-take : (n m : ℕ) (l : List ℕ) → drop n (take m l) ≡ take (m - n) (drop n l)
+drop-take zero m l = rw sub-zero
+drop-take (suc n) zero l = rw zero-sub
+drop-take (suc n) (suc m) [] = sym (take-nil (suc m - suc n))
+drop-take (suc n) (suc m) (x ∷ l) = rw suc-sub-suc (drop-take n m l)
+
+pub block-length : (file : List ℕ) (i : ℕ) → HasBlock file i → length (blockAt file i) ≡ 512
+unfolding blockAt
+block-length file i h = length-take-le 512 (drop (512 * i) file) (simp length-drop (omega arith))
+
+-- The part that the code takes is the block.
+pub block-part : (file : List ℕ) (i : ℕ) → take (512 * i + 512 - 512 * i) (drop (512 * i) file) ≡ blockAt file i
+unfolding blockAt
+block-part file i =
+    let count : 512 * i + 512 - 512 * i ≡ 512 = omega arith in
+    rw count
+
+-- The test that the code makes.
+pub has-block : (file : List ℕ) (i : ℕ) → ltb i (length file / 512) ≡ hasBlock file i
+has-block file i = go (decLe (512 * i + 512) (length file))
+  where
+    go : Dec (512 * i + 512 ≤ length file) → ltb i (length file / 512) ≡ hasBlock file i
+    go (yes h) =
+        let below : i < length file / 512 = omega arith in
+        lt-ltb _ _ below ∙ sym (le-leb _ _ h)
+    go (no g) =
+        let above : length file / 512 ≤ i = omega arith in
+        let more : length file < 512 * i + 512 = omega arith in
+        le-ltb _ _ above ∙ sym (lt-leb _ _ more)
+
+-- A byte of a block is a byte of the file.
+pub block-byte : (file : List ℕ) (i k : ℕ) → k < 512 → byteAt (blockAt file i) k ≡ byteAt file (512 * i + k)
+unfolding blockAt
+block-byte file i k h = rw (getD-take, getD-drop)
+
+module _ (b : List ℕ) (fits : Fitting b) where
+  pub first-entries : firstEntries b ≡ take (4 * firstCount b) (drop 4 b)
+  unfolding firstEntries entriesOf
+  first-entries =
+      let h : 4 * firstCount b ≤ 504 = omega arith in
+      take-take (4 * firstCount b) 504 (drop 4 b) h
+
+  pub second-entries : secondEntries b ≡ take (4 * secondCount b) (drop (4 + 4 * firstCount b) b)
+  unfolding secondEntries entriesOf
+  second-entries =
+      let h : 4 * secondCount b ≤ 504 - 4 * firstCount b = omega arith in
+      rw (drop-take, drop-drop) (take-take (4 * secondCount b) (504 - 4 * firstCount b) (drop (4 + 4 * firstCount b) b) h)
+
+  -- The parts that the code takes, n and m being the counts.
+  pub first-part : (n : ℕ) → n ≡ firstCount b → take (4 + 4 * n - 4) (drop 4 b) ≡ firstEntries b
+  first-part n e =
+      let count : 4 + 4 * n - 4 ≡ 4 * firstCount b = omega arith in
+      rw (count, first-entries)
+
+  pub second-part : (n m : ℕ) → n ≡ firstCount b → m ≡ secondCount b
+      → take (4 + 4 * n + 4 * m - (4 + 4 * n)) (drop (4 + 4 * n) b) ≡ secondEntries b
+  second-part n m e f =
+      let count : 4 + 4 * n + 4 * m - (4 + 4 * n) ≡ 4 * m = omega arith in
+      rw (count, e, f, second-entries)
+
+  pub first-length : length (firstEntries b) ≡ 4 * firstCount b
+  first-length = rw first-entries (length-take-le (4 * firstCount b) (drop 4 b) (simp length-drop (omega arith)))
+
+  pub second-length : length (secondEntries b) ≡ 4 * secondCount b
+  second-length =
+      rw second-entries
+      (length-take-le (4 * secondCount b) (drop (4 + 4 * firstCount b) b) (simp length-drop (omega arith)))
+
+-- The entries in use are the first ones, and then the second ones.
+pub entries-used : (b : List ℕ) → take (4 * firstCount b + 4 * secondCount b) (entriesOf b) ≡ firstEntries b ++ secondEntries b
+unfolding firstEntries secondEntries
+entries-used b = take-add (4 * firstCount b) (4 * secondCount b) (entriesOf b)

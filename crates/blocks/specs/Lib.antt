@@ -1,0 +1,4 @@
+-- The meaning of the byte layer, in the order of document 01, "Blocks of 512 bytes".
+pub mod Block
+pub mod Check
+pub mod Layout

@@ -1,0 +1,85 @@
+-- Safe messages: every secret in them is protected.
+use mathlib.Core.Path.{_≡_, refl, sym, _∙_}
+use mathlib.Core.Logic.{_⊎_, inl, inr}
+use mathlib.Core.List.{[], _∷_, _++_, append-assoc}
+use mathlib.Core.Option.{some}
+use Rattle.terms.specs.Term.{Term, Message, Variable}
+use Rattle.terms.specs.Place.{Place, subtermAt, StrictlyAbove, AtOrAbove}
+use Rattle.terms.specs.Laws.{subtermAt-append, beginnings, nothing-above-root, strictly-above-under, at-or-above-under}
+use Rattle.terms.specs.Laws.{strictly-above-from, at-or-above-from}
+use Rattle.judge.specs.Certificate.{Certificate, Secret}
+use Rattle.judge.specs.Hat.{Hat, Protected}
+
+pub record Safe (certificate : Certificate) (m : Message) : Type 0 where
+  pub safe : (p : Place) (s : Message) → Secret certificate s → subtermAt p m ≡ some s → Protected certificate m p
+
+-- A hat stands strictly above a place.
+pub record HatAbove (certificate : Certificate) (m : Message) (p : Place) : Type 0 where
+  pub place : Place
+  pub above : StrictlyAbove place p
+  pub message : Message
+  pub stands : subtermAt place m ≡ some message
+  pub good : Term Variable
+  pub hat : Hat certificate good message
+
+module _ {certificate : Certificate} where
+  -- A safe message is no secret itself: nothing stands above its root.
+  pub safe-no-secret : {m : Message} → Safe certificate m → Secret certificate m → ⊥
+  unfolding subtermAt
+  safe-no-secret {m} x secret = nothing-above-root (x .safe [] m secret refl .above)
+
+  -- What is protected in a part is protected in the whole.
+  pub protected-under : {m n : Message} (q : Place) {p : Place} → subtermAt q n ≡ some m →
+      Protected certificate m p → Protected certificate n (q ++ p)
+  protected-under {n} q stands x = record {
+    place = q ++ x .place;
+    above = strictly-above-under q (x .above);
+    message = x .message;
+    stands = subtermAt-append q (x .place) n stands ∙ x .stands;
+    good = x .good;
+    hat = x .hat;
+    mark = record {
+      number = x .mark .number;
+      place = x .mark .place;
+      stands = x .mark .stands;
+      above = rw append-assoc (at-or-above-under q (x .mark .above));
+    };
+  }
+
+  -- What is protected in the whole is protected in a part that has no hat above it.
+  protected-from : {m n : Message} (q p : Place) → subtermAt q n ≡ some m → (HatAbove certificate n q → ⊥) →
+      Protected certificate n (q ++ p) → Protected certificate m p
+  protected-from {m} {n} q p stands noHat x =
+      go (beginnings q (x .place) p (x .above .turn ∷ x .above .rest) (x .above .split))
+    where
+      go : StrictlyAbove (x .place) q ⊎ AtOrAbove q (x .place) → Protected certificate m p
+      go (inl above) = absurd (noHat (record {
+        place = x .place;
+        above = above;
+        message = x .message;
+        stands = x .stands;
+        good = x .good;
+        hat = x .hat;
+      }))
+      go (inr w) = record {
+        place = w .rest;
+        above = strictly-above-from q (rw (w .split) at (x .above));
+        message = x .message;
+        stands = sym (subtermAt-append q (w .rest) n stands) ∙ (rw (w .split) at (x .stands));
+        good = x .good;
+        hat = x .hat;
+        mark = record {
+          number = x .mark .number;
+          place = x .mark .place;
+          stands = x .mark .stands;
+          above = at-or-above-from q (rw (w .split, append-assoc) at (x .mark .above));
+        };
+      }
+
+  -- So a part of a safe message is safe, if no hat stands above it.
+  pub safe-part : {m n : Message} (q : Place) → subtermAt q n ≡ some m → (HatAbove certificate n q → ⊥) →
+      Safe certificate n → Safe certificate m
+  safe-part {m} {n} q stands noHat x = record {
+    safe = λ p s secret e.
+        protected-from q p stands noHat (x .safe (q ++ p) s secret (subtermAt-append q p n stands ∙ e));
+  }

@@ -1,0 +1,270 @@
+-- Each condition, decided. The decisions compute.
+use mathlib.Core.Path.{_≡_, refl, sym, ap, subst, _∙_}
+use mathlib.Core.Logic.{_⊎_, inl, inr}
+use mathlib.Core.List.{_++_}
+use mathlib.Core.Option.{Option, none, some, Option·none-ne-some}
+use lib.ListN.{length}
+use Prim.Native.Nat.{ℕ}
+use native.Mathlib.Decide.{ℕ-discrete, decLt}
+use native.Mathlib.Omega.{arith}
+use Rattle.terms.specs.Term.{Term, variable, atom, pair, encrypted, Term-discrete, Message, replace, asTerm}
+use Rattle.terms.specs.Term.{Variable, plain, marked, Variable-discrete}
+use Rattle.terms.specs.Atom.{knownOf, atomAt}
+use Rattle.terms.specs.Place.{Place, subtermAt}
+use Rattle.terms.specs.Decide as decide
+use Rattle.terms.specs.Instance.{Matches, Share}
+use Rattle.terms.specs.Search.{dec-map, dec-not, dec-and, dec-or, dec-implies, any?, all?, member?, any-above?}
+use Rattle.terms.specs.Search.{all-above?, at-or-above?, Spot, Stands, any-place?, all-places?}
+use Rattle.judge.specs.Certificate.{Rule, Certificate, Secret, Good, Bad, Known, inverse}
+use Rattle.judge.specs.Hat.{Mark}
+use Rattle.judge.specs.Cover.{SureHat, NoHat, sharesNoGood, isBad, Open, AtOpenPlace, Risky, isVariable}
+use Rattle.judge.specs.Cover.{sharesSecret, Covered, sureHat, inPremise, Dead, Passes, dead, covered}
+use Rattle.judge.specs.Conditions.{KnownAtom, WeaklyClosed, KeptKey}
+
+unfoldable pub same-term? : (t u : Term Variable) → Dec (t ≡ u)
+unfolding ℕ-discrete
+same-term? = Term-discrete (Variable-discrete ℕ-discrete) ℕ-discrete
+
+unfoldable pub same-message? : (m n : Message) → Dec (m ≡ n)
+unfolding ℕ-discrete
+same-message? = Term-discrete (λ x. absurd x) ℕ-discrete
+
+unfoldable pub secret? : (certificate : Certificate) (m : Message) → Dec (Secret certificate m)
+unfolding member? same-message?
+secret? certificate m = member? same-message? m (certificate .secrets)
+
+-- 9
+unfoldable pub known? : (certificate : Certificate) (a : ℕ) → Dec (Known certificate a)
+unfolding dec-map dec-and decLt ℕ-discrete atomAt
+known? certificate a =
+    dec-map (λ w. record { listed = w .0; known = w .1 }) (λ h. (h .listed, h .known))
+    (dec-and (decLt a (length (certificate .atoms))) (λ l. ℕ-discrete (knownOf (certificate .atoms) a) 1))
+
+unfoldable pub known-atom? : (certificate : Certificate) (m : Message) → Dec (KnownAtom certificate m)
+unfolding dec-map known?
+known-atom? certificate (variable x) = absurd x
+known-atom? certificate (atom a) =
+    dec-map (λ h. record { number = a; same = refl; known = h })
+    (λ h. let same : h .number ≡ a = cc in rw same at (h .known)) (known? certificate a)
+known-atom? certificate (pair m n) = no (λ h. let e = h .same in let z : _≡_ {A = ℕ} 0 1 = cc in omega arith)
+known-atom? certificate (encrypted k m) = no (λ h. let e = h .same in let z : _≡_ {A = ℕ} 0 1 = cc in omega arith)
+
+-- 10
+unfoldable pub weakly-closed? : (certificate : Certificate) (m : Message) → Dec (WeaklyClosed certificate m)
+unfolding dec-map dec-or secret?
+weakly-closed? certificate (variable x) = absurd x
+weakly-closed? certificate (atom a) = yes (record {
+  ofPair = λ m n e. let z : _≡_ {A = ℕ} 0 1 = cc in absurd (omega arith);
+  ofEncrypted = λ m k e. let z : _≡_ {A = ℕ} 0 1 = cc in absurd (omega arith);
+})
+weakly-closed? certificate (pair m n) =
+    dec-map (λ h. record {
+      ofPair = λ m′ n′ e. let a : m ≡ m′ = cc in let b : n ≡ n′ = cc in rw (a, b) at h;
+      ofEncrypted = λ m′ k e. let z : _≡_ {A = ℕ} 0 1 = cc in absurd (omega arith);
+    })
+    (λ h. h .ofPair m n refl)
+    (dec-or (secret? certificate m) (λ o. secret? certificate n))
+weakly-closed? certificate (encrypted k m) =
+    dec-map (λ h. record {
+      ofPair = λ m′ n e. let z : _≡_ {A = ℕ} 0 1 = cc in absurd (omega arith);
+      ofEncrypted = λ m′ k′ e. let a : m ≡ m′ = cc in let b : k ≡ k′ = cc in rw (a, b) at h;
+    })
+    (λ h. h .ofEncrypted m k refl)
+    (dec-or (secret? certificate m) (λ o. secret? certificate (atom k)))
+
+-- 11
+unfoldable pub kept-key? : (certificate : Certificate) (good : Term Variable) → Dec (KeptKey certificate good)
+unfolding dec-map secret?
+kept-key? certificate (encrypted k t) =
+    dec-map (λ h. record { key = k; inner = t; same = refl; kept = h })
+    (λ h. let same : h .key ≡ k = cc in rw same at (h .kept)) (secret? certificate (atom (inverse certificate k)))
+kept-key? certificate (variable x) = no (λ h. let e = h .same in let z : _≡_ {A = ℕ} 0 1 = cc in omega arith)
+kept-key? certificate (atom a) = no (λ h. let e = h .same in let z : _≡_ {A = ℕ} 0 1 = cc in omega arith)
+kept-key? certificate (pair t u) = no (λ h. let e = h .same in let z : _≡_ {A = ℕ} 0 1 = cc in omega arith)
+
+-- A mark at or above the place.
+unfoldable pub marked? : (t : Term Variable) → Dec ((n : ℕ) × (t ≡ variable (marked n)))
+marked? (variable (plain n)) = no (λ w. let e = w .1 in let z : _≡_ {A = ℕ} 0 1 = cc in omega arith)
+marked? (variable (marked n)) = yes (n, refl)
+marked? (atom a) = no (λ w. let e = w .1 in let z : _≡_ {A = ℕ} 0 1 = cc in omega arith)
+marked? (pair t u) = no (λ w. let e = w .1 in let z : _≡_ {A = ℕ} 0 1 = cc in omega arith)
+marked? (encrypted k t) = no (λ w. let e = w .1 in let z : _≡_ {A = ℕ} 0 1 = cc in omega arith)
+
+unfoldable pub is-variable? : (t : Term Variable) → Dec ((x : Variable) × (t ≡ variable x))
+is-variable? (variable x) = yes (x, refl)
+is-variable? (atom a) = no (λ w. let e = w .1 in let z : _≡_ {A = ℕ} 0 1 = cc in omega arith)
+is-variable? (pair t u) = no (λ w. let e = w .1 in let z : _≡_ {A = ℕ} 0 1 = cc in omega arith)
+is-variable? (encrypted k t) = no (λ w. let e = w .1 in let z : _≡_ {A = ℕ} 0 1 = cc in omega arith)
+
+unfoldable pub mark? : (good : Term Variable) (q p : Place) → Dec (Mark good q p)
+unfolding dec-map dec-and any-place? marked? at-or-above?
+mark? good q p =
+    dec-map (λ w. record { number = w .2 .0 .0; place = w .0 .0; stands = w .1 ∙ ap some (w .2 .0 .1); above = w .2 .1 })
+    (λ h. ((h .place, variable (marked (h .number))), h .stands, ((h .number, refl), h .above)))
+    (any-place? good (λ w. dec-and (marked? (w .1)) (λ m. at-or-above? (q ++ w .0) p)))
+
+-- A pattern with its variables replaced, and a shared instance, at the variables of a file.
+unfoldable pub matches? : (p t : Term Variable) → Dec (Matches p t)
+unfolding decide.match? decide.variable?
+matches? p t = decide.match? decide.variable? decide.variable? p t
+
+unfoldable pub shares? : (s t : Term Variable) → Dec (Share s t)
+unfolding decide.share? decide.variable?
+shares? s t = decide.share? decide.variable? decide.variable? s t
+
+unfoldable pub shares-secret? : (t : Term Variable) (secret : Message) → Dec (Share t secret)
+unfolding decide.share? decide.variable?
+shares-secret? t secret = decide.share? decide.variable? (λ x. absurd x) t secret
+
+module _ (certificate : Certificate) where
+  abbrev pub NotBad : Term Variable → Type 0
+  NotBad t = (bad : Term Variable) → Bad certificate bad → Share bad t → ⊥
+
+  unfoldable pub not-bad? : (t : Term Variable) → Dec (NotBad t)
+  unfolding all? dec-not shares?
+  not-bad? t = all? (certificate .bads) (λ bad. dec-not (shares? bad t))
+
+  -- Sure hat for a place p of t.
+  unfoldable pub sure-hat? : (t : Term Variable) (p : Place) → Dec (SureHat certificate t p)
+  unfolding subtermAt dec-map dec-and any? any-above? not-bad? mark? matches?
+  sure-hat? t p =
+      dec-map (λ w. record {
+        place = w .0;
+        above = w .1;
+        subterm = w .2 .0;
+        stands = w .2 .1;
+        good = w .2 .2 .0;
+        listed = w .2 .2 .1;
+        match = w .2 .2 .2 .0;
+        mark = w .2 .2 .2 .1 .0;
+        notBad = w .2 .2 .2 .1 .1;
+      })
+      (λ h. (h .place, h .above, (h .subterm, h .stands, (h .good, h .listed, (h .match, (h .mark, h .notBad))))))
+      (any-above? p (λ q. here q (subtermAt q t) refl))
+    where
+      Fits : Place → Term Variable → Type 0
+      Fits q u = (good : Term Variable) × Good certificate good × (Matches good u × (Mark good q p × NotBad u))
+
+      here : (q : Place) (o : Option (Term Variable)) → subtermAt q t ≡ o →
+          Dec ((u : Term Variable) × (subtermAt q t ≡ some u) × Fits q u)
+      here q none e = no (λ w. Option·none-ne-some (w .0) (sym e ∙ w .1))
+      here q (some u) e =
+          dec-map (λ w. (u, e, w)) (λ w. let same : w .0 ≡ u = cc in subst (Fits q) same (w .2))
+          (any? (certificate .goods)
+          (λ good. dec-and (matches? good u) (λ m. dec-and (mark? good q p) (λ k. not-bad? u))))
+
+  unfoldable pub no-hat? : (t : Term Variable) → Dec (NoHat certificate t)
+  unfolding dec-map dec-or dec-not all? any? shares? matches?
+  no-hat? t =
+      dec-map to from
+      (dec-or (all? (certificate .goods) (λ good. dec-not (shares? good t)))
+      (λ n. any? (certificate .bads) (λ bad. matches? bad t)))
+    where
+      Ways : Type 0
+      Ways = ((good : Term Variable) → Good certificate good → Share good t → ⊥) ⊎
+          ((bad : Term Variable) × Bad certificate bad × Matches bad t)
+
+      to : Ways → NoHat certificate t
+      to (inl h) = sharesNoGood h
+      to (inr w) = isBad (w .1) (w .2)
+
+      from : NoHat certificate t → Ways
+      from (sharesNoGood h) = inl h
+      from (isBad {bad = bad} listed match) = inr (bad, listed, match)
+
+  -- Open place of a premise.
+  unfoldable pub open? : (premise : Term Variable) (p : Place) → Dec (Open certificate premise p)
+  unfolding subtermAt dec-map all-above? no-hat?
+  open? premise p =
+      dec-map (λ h. record { every = h }) (λ h. h .every) (all-above? p (λ q. here q (subtermAt q premise) refl))
+    where
+      Fine : Place → Type 0
+      Fine q = (k : ℕ) (t : Term Variable) → subtermAt q premise ≡ some (encrypted k t) →
+          NoHat certificate (encrypted k t)
+
+      other : (q : Place) {o : Option (Term Variable)} → subtermAt q premise ≡ o →
+          ((k : ℕ) (t : Term Variable) → o ≡ some (encrypted k t) → ⊥) → Dec (Fine q)
+      other q e n = yes (λ k t f. absurd (n k t (sym e ∙ f)))
+
+      here : (q : Place) (o : Option (Term Variable)) → subtermAt q premise ≡ o → Dec (Fine q)
+      here q none e = other q e (λ k t f. Option·none-ne-some _ f)
+      here q (some (variable x)) e = other q e (λ k t f. let z : _≡_ {A = ℕ} 0 1 = cc in omega arith)
+      here q (some (atom a)) e = other q e (λ k t f. let z : _≡_ {A = ℕ} 0 1 = cc in omega arith)
+      here q (some (pair u w)) e = other q e (λ k t f. let z : _≡_ {A = ℕ} 0 1 = cc in omega arith)
+      here q (some (encrypted k t)) e =
+          dec-map (λ h k′ t′ f. let a : k ≡ k′ = cc in let b : t ≡ t′ = cc in rw (a, b) at h) (λ h. h k t e)
+          (no-hat? (encrypted k t))
+
+  -- The term, symbol for symbol, at an open place of the premise.
+  unfoldable pub at-open-place? : (rule : Rule) (t : Term Variable) → Dec (AtOpenPlace certificate rule t)
+  unfolding dec-map dec-and any-place? same-term? open?
+  at-open-place? rule t = here (rule .premise) refl
+    where
+      here : (o : Option (Term Variable)) → rule .premise ≡ o → Dec (AtOpenPlace certificate rule t)
+      here none e = no (λ h. Option·none-ne-some (h .premise) (sym e ∙ h .given))
+      here (some premise) e =
+          dec-map (λ w. record {
+            premise = premise;
+            given = e;
+            place = w .0 .0;
+            stands = w .1 ∙ ap some (w .2 .0);
+            isOpen = w .2 .1;
+          })
+          (λ h. let same : h .premise ≡ premise = cc in
+          ((h .place, t), (rw same at (h .stands)), (refl, (rw same at (h .isOpen)))))
+          (any-place? premise (λ w. dec-and (same-term? (w .1) t) (λ s. open? premise (w .0))))
+
+  -- Risky place of a conclusion.
+  unfoldable pub risky? : (t : Term Variable) → Dec (Risky certificate t)
+  unfolding dec-map dec-or any? is-variable? shares-secret?
+  risky? t =
+      dec-map to from
+      (dec-or (is-variable? t) (λ n. any? (certificate .secrets) (λ secret. shares-secret? t secret)))
+    where
+      Ways : Type 0
+      Ways = ((x : Variable) × (t ≡ variable x)) ⊎ ((secret : Message) × Secret certificate secret × Share t secret)
+
+      to : Ways → Risky certificate t
+      to (inl w) = isVariable (w .1)
+      to (inr w) = sharesSecret (w .1) (w .2)
+
+      from : Risky certificate t → Ways
+      from (isVariable {x = x} e) = inl (x, e)
+      from (sharesSecret {secret = secret} listed share) = inr (secret, listed, share)
+
+  unfoldable pub covered? : (rule : Rule) (p : Place) (t : Term Variable) → Dec (Covered certificate rule p t)
+  unfolding dec-map dec-or sure-hat? at-open-place?
+  covered? rule p t = dec-map to from (dec-or (sure-hat? (rule .conclusion) p) (λ n. at-open-place? rule t))
+    where
+      to : SureHat certificate (rule .conclusion) p ⊎ AtOpenPlace certificate rule t → Covered certificate rule p t
+      to (inl h) = sureHat h
+      to (inr h) = inPremise h
+
+      from : Covered certificate rule p t → SureHat certificate (rule .conclusion) p ⊎ AtOpenPlace certificate rule t
+      from (sureHat h) = inl h
+      from (inPremise h) = inr h
+
+  unfoldable pub dead? : (rule : Rule) → Dec (Dead certificate rule)
+  unfolding dec-map any? at-open-place? asTerm replace
+  dead? rule =
+      dec-map (λ w. record { secret = w .0; listed = w .1; stands = w .2 }) (λ h. (h .secret, h .listed, h .stands))
+      (any? (certificate .secrets) (λ secret. at-open-place? rule (asTerm secret)))
+
+  -- 12
+  unfoldable pub passes? : (rule : Rule) → Dec (Passes certificate rule)
+  unfolding dec-map dec-or dec-implies all-places? dead? risky? covered?
+  passes? rule =
+      dec-map to from (dec-or (dead? rule)
+      (λ n. all-places? (rule .conclusion) (λ w. dec-implies (risky? (w .1)) (λ r. covered? rule (w .0) (w .1)))))
+    where
+      Every : Type 0
+      Every = (w : Spot Variable) → Stands (rule .conclusion) w → Risky certificate (w .1) →
+          Covered certificate rule (w .0) (w .1)
+
+      to : Dead certificate rule ⊎ Every → Passes certificate rule
+      to (inl h) = dead h
+      to (inr h) = covered (λ p t e r. h (p, t) e r)
+
+      from : Passes certificate rule → Dead certificate rule ⊎ Every
+      from (dead h) = inl h
+      from (covered h) = inr (λ w e r. h (w .0) (w .1) e r)

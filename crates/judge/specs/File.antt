@@ -1,0 +1,58 @@
+-- A file as a certificate (document 01, "Blocks of 512 bytes"): what its blocks say once their layout is right.
+use mathlib.Core.Bool.{Bool, true, false}
+use mathlib.Core.List.{List, [], _∷_, map}
+use mathlib.Core.Option.{Option, none, some}
+use Prim.Native.Nat.{ℕ, zero, suc, _/_}
+use lib.Dec.{eqb}
+use lib.ListN.{length}
+use Rattle.blocks.specs.Block.{blockAt, kindOf, firstCount, firstEntries, secondEntries}
+use Rattle.terms.specs.Term.{Term, Message, Variable, atom, instance}
+use Rattle.terms.specs.Entry.{termOf}
+use Rattle.terms.specs.Atom.{atomsOf}
+use Rattle.judge.specs.Certificate.{Certificate, Rule}
+
+-- The blocks of a file from block i on, so many of them.
+unfoldable pub blocksFrom : List ℕ → ℕ → ℕ → List (List ℕ)
+blocksFrom file i zero = []
+blocksFrom file i (suc left) = blockAt file i ∷ blocksFrom file (suc i) left
+
+-- How many blocks a file has, and all of them.
+abbrev pub blockCount : List ℕ → ℕ
+blockCount file = length file / 512
+
+unfoldable pub blocksOf : List ℕ → List (List ℕ)
+unfolding blocksFrom
+blocksOf file = blocksFrom file 0 (blockCount file)
+
+-- The blocks of one kind, in file order.
+unfoldable pub ofKind : ℕ → List (List ℕ) → List (List ℕ)
+ofKind kind [] = []
+ofKind kind (b ∷ l) = elim (eqb (kindOf b) kind) [ true ↦ b ∷ ofKind kind l | false ↦ ofKind kind l ]
+
+-- The term of a block of kind 2 to 4.
+unfoldable pub patternOf : List ℕ → Term Variable
+patternOf b = termOf (firstEntries b)
+
+-- The secret of a block of kind 2. Secrets have no variables, so it is the only instance of its term.
+unfoldable pub secretOf : List ℕ → Message
+unfolding patternOf
+secretOf b = instance (λ x. atom 0) (patternOf b)
+
+-- The rule of a block of kind 5: from its premise, if it has one, to its conclusion.
+abbrev premiseBy : Bool → Term Variable → Option (Term Variable)
+premiseBy true t = none
+premiseBy false t = some t
+
+unfoldable pub ruleOf : List ℕ → Rule
+ruleOf b = record { premise = premiseBy (eqb (firstCount b) 0) (termOf (firstEntries b)); conclusion = termOf (secondEntries b) }
+
+-- The certificate: atoms in block 0, secrets of kind 2, good patterns of kind 3, bad ones of kind 4, rules of kind 5.
+unfoldable pub certificateOf : List ℕ → Certificate
+unfolding blocksOf ofKind patternOf secretOf ruleOf
+certificateOf file = record {
+  atoms = atomsOf (firstEntries (blockAt file 0));
+  secrets = map secretOf (ofKind 2 (blocksOf file));
+  goods = map patternOf (ofKind 3 (blocksOf file));
+  bads = map patternOf (ofKind 4 (blocksOf file));
+  rules = map ruleOf (ofKind 5 (blocksOf file));
+}

@@ -1,0 +1,44 @@
+-- A file whose length and blocks have passed numbers 1 to 8, as the conditions after them find it.
+use mathlib.Core.Path.{_≡_}
+use mathlib.Core.List.{List}
+use Prim.Native.Nat.{ℕ, _*_, _<_, _≤_}
+use lib.ListN.{length}
+use Rattle.blocks.specs.Block.{blockAt, kindOf, firstCount, secondCount, firstEntries, secondEntries, Fitting}
+use Rattle.terms.specs.Term.{Term, Message, Variable, encrypted, asTerm}
+use Rattle.terms.specs.Entry.{Begins}
+use Rattle.judge.specs.File.{blockCount, patternOf}
+
+-- A block of kind 2 to 4 holds one term of at most 63 entries.
+pub record TermBlock (b : List ℕ) : Type 0 where
+  pub fitting : Fitting b
+  pub term : Begins (firstEntries b)
+  pub short : firstCount b ≤ 63
+
+-- A block of kind 5 holds a premise, or none, and a conclusion, each of at most 63 entries.
+pub record RuleBlock (b : List ℕ) : Type 0 where
+  pub fitting : Fitting b
+  pub premise : (firstCount b ≡ 0 → ⊥) → Begins (firstEntries b)
+  pub conclusion : Begins (secondEntries b)
+  pub premise-short : firstCount b ≤ 63
+  pub conclusion-short : secondCount b ≤ 63
+
+-- A secret has no variables.
+pub record SecretBlock (b : List ℕ) : Type 0 where
+  pub message : Message
+  pub same : patternOf b ≡ asTerm message
+
+-- A good pattern is an encryption.
+pub record GoodBlock (b : List ℕ) : Type 0 where
+  pub key : ℕ
+  pub content : Term Variable
+  pub same : patternOf b ≡ encrypted key content
+
+pub record Laid (file : List ℕ) : Type 0 where
+  pub exact : 512 * blockCount file ≡ length file
+  pub some-block : 1 ≤ blockCount file
+  pub few : blockCount file ≤ 64
+  pub atoms : Fitting (blockAt file 0)
+  pub terms : (i : ℕ) → i < blockCount file → 2 ≤ kindOf (blockAt file i) → kindOf (blockAt file i) ≤ 4 → TermBlock (blockAt file i)
+  pub rules : (i : ℕ) → i < blockCount file → kindOf (blockAt file i) ≡ 5 → RuleBlock (blockAt file i)
+  pub secrets : (i : ℕ) → i < blockCount file → kindOf (blockAt file i) ≡ 2 → SecretBlock (blockAt file i)
+  pub goods : (i : ℕ) → i < blockCount file → kindOf (blockAt file i) ≡ 3 → GoodBlock (blockAt file i)

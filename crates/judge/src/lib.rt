@@ -1,0 +1,2 @@
+// The judging layer: a certificate file gets its verdict.
+pub mod verdict;

@@ -1,0 +1,27 @@
+use mathlib.Core.Path.{sym, ap, _∙_}
+use mathlib.Core.Bool.{false}
+use Rattle.terms.specs.OneTerm.{oneTerm?}
+use Rattle.terms.specs.Decide.{answer}
+use Rattle.term_tests.specs.Asked.{keys, then, nothingFound, too-long, not-whole, by-entries, found-symbols}
+use native.Mathlib.Omega.{arith}
+use borrow.Author.Needs.{needs}
+use Rattle.term_tests.proofs.is_term.Statement.{statement}
+use Rattle.term_tests.proofs.is_term.Tie as tie
+use Rattle.term_tests.proofs.is_term.Reads as reads
+use Rattle.term_tests.proofs.is_term.Lts as lts
+use Rattle.terms.proofs.valid.is_one_term.Reads as is-one-term-reads
+use Rattle.terms.proofs.valid.wrong_entry.Reads as wrong-entry-reads
+
+pub is-term-spec : {M : Type 1} → statement M
+unfolding keys
+is-term-spec = tie.close (tie.spec
+    (λ c. too-long (c .before .before .args .e .now) (c .if1 .taken))  -- returns
+    (λ c. not-whole (c .before .before .before .args .e .now) (c .before .if1 .left) (c .if2 .taken))  -- returns-2
+    (λ c. search needs)  -- slice-aggregate-wrong-entry
+    (λ c κs. search needs)  -- wrong-entry-requires
+    (λ c. search needs)  -- enum-told
+    (λ c. search needs)  -- enum-told-2
+    (λ c κs. found-symbols (c .before .before .before .before .before .before .before .args .e .now) (c .before .before .before .before .if2 .left) (c .before .before .wrong-entry .ensures) (c .enum-told2 .given .1))  -- is-one-term-requires
+    (λ c. by-entries (c .before .before .before .before .before .before .before .args .e .now) false (c .before .before .before .before .before .if1 .left) (c .before .before .before .before .if2 .left) (c .before .before .wrong-entry .ensures) (sym (ap (λ g. then (nothingFound g) (answer (oneTerm? (c .before .before .before .before .before .before .before .args .e .now)))) (c .enum-told .given .1))))  -- returns-3
+    (λ c. by-entries (c .before .before .before .before .before .before .before .before .args .e .now) (c .is-one-term .result) (c .before .before .before .before .before .before .if1 .left) (c .before .before .before .before .before .if2 .left) (c .before .before .before .wrong-entry .ensures) (c .is-one-term .ensures ∙ sym (ap (λ g. then (nothingFound g) (answer (oneTerm? (c .before .before .before .before .before .before .before .before .args .e .now)))) (c .before .enum-told2 .given .1))))  -- returns-4
+    )

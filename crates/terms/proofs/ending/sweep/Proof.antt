@@ -1,0 +1,38 @@
+use mathlib.Core.Path.{refl, sym, ap, _∙_, subst}
+use mathlib.Core.Bool.{true≢false, false≢true}
+use lib.ListN.{length-set}
+use Rattle.terms.specs.Ending.{Readiness, zero-mark, some-mark, mark-sound, fewer-zeros, no-more-zeros, stuck-none, stuck-down}
+use mathlib.Core.Path.{_≡_}
+use mathlib.Core.Bool.{true, false}
+use Prim.Native.Nat.{ℕ, _≤_, _<_, _-_}
+use lib.ListN.{length, getD}
+use Rattle.terms.specs.Ending.{isMarked, Sound, StuckFrom, zeros}
+use borrow.Author.Needs.{needs}
+use native.Mathlib.Omega.{arith}
+use Rattle.terms.proofs.ending.sweep.Statement.{statement}
+use Rattle.terms.proofs.ending.sweep.Tie as tie
+use Rattle.terms.proofs.ending.sweep.Reads as reads
+use Rattle.terms.proofs.ending.sweep.Lts as lts
+use Rattle.terms.proofs.ending.is_ready.Reads as is-ready-reads
+
+abbrev Inv-loop : tie.InvT-loop
+Inv-loop s t c done₀ changed₀ left₀ done changed left = (left ≤ 128) × (length done ≡ 128) × Sound s t c done × (changed ≡ true → zeros done < zeros done₀) × (changed ≡ false → (zeros done ≡ zeros done₀) × StuckFrom s t c done left)
+
+abbrev μ-loop : tie.MeasureT-loop
+μ-loop s t c done₀ changed₀ left₀ done changed left = left
+
+pub sweep-spec : {M : Type 1} → statement M
+sweep-spec = tie.close (tie.spec Inv-loop μ-loop
+    (λ c. (search needs, c .before .before .pre .2, c .before .before .pre .3, (λ e. absurd (false≢true e)), λ e. (refl, stuck-none _ _ _ _)))  -- loop-holds
+    (λ c. search needs)  -- sub-left
+    (λ c. search needs)  -- element-copy-out-if1
+    (λ c κs. (c .before .before .before .before .before .before .before .pre .0, c .before .before .before .before .before .before .before .pre .1, c .before .before .before .before .loop .inv .1, search needs))  -- is-ready-requires
+    (λ c. search needs)  -- element-write-done
+    (λ c. search needs)  -- loop-less
+    (λ c. let ready = subst (Readiness (c .before .before .before .before .before .before .before .before .before .args .s .now) (c .before .before .before .before .before .before .before .before .before .args .t .now) (c .before .before .before .before .before .before .before .before .before .args .c .now) (c .before .before .before .before .before .before .loop .done) (c .before .before .before .before .before .before .loop .left - 1)) (c .if2 .taken) (c .before .is-ready .ensures) in let unset = zero-mark (c .before .before .before .if1 .taken) in (search needs, simp length-set (c .before .before .before .before .before .before .loop .inv .1), mark-sound (c .before .before .before .before .before .before .before .before .before .args .s .now) (c .before .before .before .before .before .before .before .before .before .args .t .now) (c .before .before .before .before .before .before .before .before .before .args .c .now) (c .before .before .before .before .before .before .loop .done) (c .before .before .before .before .before .before .loop .left - 1) (search needs) (c .before .before .before .before .before .before .loop .inv .2) ready, (λ e. omega (arith, no-more-zeros (c .before .before .before .before .before .before .loop .changed) (c .before .before .before .before .before .before .loop .inv .3) (c .before .before .before .before .before .before .loop .inv .4), fewer-zeros (c .before .before .before .before .before .before .loop .done) (c .before .before .before .before .before .before .loop .left - 1) (search needs) unset)), λ e. absurd (true≢false e)))  -- loop-again
+    (λ c. search needs)  -- loop-less-2
+    (λ c. let waits = subst (Readiness (c .before .before .before .before .before .before .before .before .before .args .s .now) (c .before .before .before .before .before .before .before .before .before .args .t .now) (c .before .before .before .before .before .before .before .before .before .args .c .now) (c .before .before .before .before .before .before .loop .done) (c .before .before .before .before .before .before .loop .left - 1)) (c .if2 .left) (c .before .is-ready .ensures) in (search needs, c .before .before .before .before .before .before .loop .inv .1, c .before .before .before .before .before .before .loop .inv .2, c .before .before .before .before .before .before .loop .inv .3, λ e. (c .before .before .before .before .before .before .loop .inv .4 e .0, stuck-down (c .before .before .before .before .before .before .before .before .before .args .s .now) (c .before .before .before .before .before .before .before .before .before .args .t .now) (c .before .before .before .before .before .before .before .before .before .args .c .now) (c .before .before .before .before .before .before .loop .done) (c .before .before .before .before .before .before .loop .left) (search needs) (c .before .before .before .before .before .before .loop .inv .4 e .1) (λ q. waits))))  -- loop-again-2
+    (λ c. search needs)  -- loop-less-3
+    (λ c. (search needs, c .before .before .before .loop .inv .1, c .before .before .before .loop .inv .2, c .before .before .before .loop .inv .3, λ e. (c .before .before .before .loop .inv .4 e .0, stuck-down (c .before .before .before .before .before .before .args .s .now) (c .before .before .before .before .before .before .args .t .now) (c .before .before .before .before .before .before .args .c .now) (c .before .before .before .loop .done) (c .before .before .before .loop .left) (search needs) (c .before .before .before .loop .inv .4 e .1) (λ q. absurd (true≢false (sym (some-mark _ (c .if1 .left)) ∙ q))))))  -- loop-again-3
+    (λ c. let none : c .before .loop .left ≡ 0 = omega arith in (c .before .loop .inv .1, c .before .loop .inv .2, c .before .loop .inv .3, (λ e. subst (StuckFrom (c .before .before .before .before .args .s .now) (c .before .before .before .before .args .t .now) (c .before .before .before .before .args .c .now) (c .before .loop .done)) none (c .before .loop .inv .4 e .1)), no-more-zeros (c .before .loop .changed) (c .before .loop .inv .3) (c .before .loop .inv .4)))  -- returns
+    )

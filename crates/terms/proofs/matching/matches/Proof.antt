@@ -1,0 +1,10 @@
+use borrow.Author.Needs.{needs}
+use Rattle.terms.specs.MatchLaws.{match-ready, match-answer}
+use Rattle.terms.proofs.matching.matches.Statement.{statement}
+use Rattle.terms.proofs.matching.matches.Tie as tie
+
+pub matches-spec : {M : Type 1} → statement M
+matches-spec = tie.close (tie.spec
+    (λ c κs. let pre = c .before .before .pre in match-ready (pre .0) (pre .1) (pre .2) (search needs))  -- match-front-requires
+    (λ c. let pre = c .before .before .before .pre in match-answer (pre .0) (pre .1) (c .match-front .result) (c .match-front .ensures))  -- returns
+    )

@@ -1,0 +1,28 @@
+use lib.ListN.{length-set}
+use Rattle.terms.specs.Names.{stored}
+use mathlib.Core.Path.{_≡_}
+use Prim.Native.Nat.{ℕ, _≤_, _<_, _-_}
+use lib.ListN.{length, getD}
+use borrow.Author.Needs.{needs}
+use native.Mathlib.Omega.{arith}
+use Rattle.terms.proofs.sharing.alone.Statement.{statement}
+use Rattle.terms.proofs.sharing.alone.Tie as tie
+use Rattle.terms.proofs.sharing.alone.Reads as reads
+use Rattle.terms.proofs.sharing.alone.Lts as lts
+
+abbrev Inv-loop : tie.InvT-loop
+Inv-loop c₀ k₀ c k = (k ≤ 256) × (length c ≡ 256) × ((i : ℕ) → i < k → getD c i 0 ≡ i)
+
+abbrev μ-loop : tie.MeasureT-loop
+μ-loop c₀ k₀ c k = 256 - k
+
+pub alone-spec : {M : Type 1} → statement M
+alone-spec = tie.close (tie.spec Inv-loop μ-loop
+    (λ c. search needs)  -- loop-holds
+    (λ c. search needs)  -- cast-c
+    (λ c. search needs)  -- array-write-c
+    (λ c. search needs)  -- add-k
+    (λ c. search needs)  -- loop-less
+    (λ c. (search needs, simp length-set (search needs), stored (c .before .loop .c) (c .before .loop .k) (search needs) (c .before .loop .inv .2)))  -- loop-again
+    (λ c. λ i h. c .before .loop .inv .2 i (search needs))  -- returns
+    )

@@ -1,0 +1,13 @@
+use Rattle.terms.specs.ValidLaws.{encryption-tag}
+use Rattle.terms.specs.OneTerm.{encryption?}
+use Rattle.terms.specs.Entry.{termOf}
+use Rattle.terms.specs.Decide.{says-answer}
+use borrow.Author.Needs.{needs}
+use Rattle.terms.proofs.valid.is_encryption.Statement.{statement}
+use Rattle.terms.proofs.valid.is_encryption.Tie as tie
+
+pub is-encryption-spec : {M : Type 1} → statement M
+is-encryption-spec = tie.close (tie.spec
+    (λ c. search needs)  -- shared-slice-read-tag
+    (λ c. says-answer _ (encryption-tag (c .before .pre)) (encryption? (termOf (c .before .args .e .now))))  -- returns
+    )

@@ -1,0 +1,27 @@
+use borrow.Author.Needs.{needs}
+use native.Mathlib.Omega.{arith}
+use Prim.Native.Nat.{ℕ, _≤_, _<_, _/_, _-_}
+use lib.ListN.{length}
+use borrow.Author.Count.{below-none, below-more}
+use Rattle.terms.specs.Decisions.{says-yes, says-no}
+use Rattle.terms.specs.Atom.{AtomRight, atomsOf}
+use Rattle.terms.specs.ValidLaws.{atom-wrong, atoms-right}
+use Rattle.terms.proofs.valid.wrong_atom.Statement.{statement}
+use Rattle.terms.proofs.valid.wrong_atom.Tie as tie
+
+abbrev Inv-loop : tie.InvT-loop
+Inv-loop atoms count i₀ i = (i ≤ length atoms / 4) × ((k : ℕ) → k < i → AtomRight (atomsOf atoms) k)
+
+abbrev μ-loop : tie.MeasureT-loop
+μ-loop atoms count i₀ i = length atoms / 4 - i
+
+pub wrong-atom-spec : {M : Type 1} → statement M
+wrong-atom-spec = tie.close (tie.spec Inv-loop μ-loop
+    (λ c. (search needs, below-none _))  -- loop-holds
+    (λ c κs. search needs)  -- right-atom-requires
+    (λ c. search needs)  -- add-i
+    (λ c. search needs)  -- loop-less
+    (λ c. (search needs, below-more _ _ (c .before .before .before .loop .inv .1) (says-yes (c .before .right-atom .result) (c .before .right-atom .ensures) (c .if1 .taken))))  -- loop-again
+    (λ c. atom-wrong _ _ (search needs) (c .before .before .before .loop .inv .1) (says-no (c .before .right-atom .result) (c .before .right-atom .ensures) (c .if1 .left)))  -- returns
+    (λ c. atoms-right _ (λ k l. c .before .loop .inv .1 k (omega arith)))  -- returns-2
+    )

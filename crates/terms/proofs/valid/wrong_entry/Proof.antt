@@ -1,0 +1,32 @@
+use borrow.Author.Needs.{needs}
+use native.Mathlib.Omega.{arith}
+use Prim.Native.Nat.{ℕ, _≤_, _<_, _/_, _-_}
+use lib.ListN.{length}
+use borrow.Author.Count.{below-none, below-more}
+use Rattle.terms.specs.Atom.{atomsOf}
+use Rattle.terms.specs.TermEntry.{EntryRight}
+use Rattle.terms.specs.Each.{EntryIs}
+use Rattle.terms.specs.ValidLaws.{entry-yes, entry-no, entry-wrong, entries-right}
+use Rattle.terms.proofs.valid.wrong_entry.Statement.{statement}
+use Rattle.terms.proofs.valid.wrong_entry.Tie as tie
+
+abbrev Inv-loop : tie.InvT-loop
+Inv-loop atoms kind e count i₀ i = (i ≤ length e / 4) × ((k : ℕ) → k < i → EntryIs (EntryRight (atomsOf atoms) kind) e k)
+
+abbrev μ-loop : tie.MeasureT-loop
+μ-loop atoms kind e count i₀ i = length e / 4 - i
+
+pub wrong-entry-spec : {M : Type 1} → statement M
+wrong-entry-spec = tie.close (tie.spec Inv-loop μ-loop
+    (λ c. (search needs, below-none _))  -- loop-holds
+    (λ c. search needs)  -- mul-right-entry
+    (λ c. search needs)  -- sub-right-entry
+    (λ c. search needs)  -- part-right-entry-start
+    (λ c. search needs)  -- part-right-entry-end
+    (λ c κs. search needs)  -- right-entry-requires
+    (λ c. search needs)  -- add-i
+    (λ c. search needs)  -- loop-less
+    (λ c. let a = c .before .before .before .before .before .before .before .args in (search needs, below-more _ _ (c .before .before .before .before .loop .inv .1) (entry-yes (a .atoms .now) (a .kind) (a .e .now) (c .before .before .before .before .loop .i) (c .before .right-entry .result) (c .before .right-entry .ensures) (c .if1 .taken))))  -- loop-again
+    (λ c. let a = c .before .before .before .before .before .before .before .args in entry-wrong (a .atoms .now) (a .kind) (a .e .now) (c .before .before .before .before .loop .i) (search needs) (c .before .before .before .before .loop .inv .1) (entry-no (a .atoms .now) (a .kind) (a .e .now) (c .before .before .before .before .loop .i) (c .before .right-entry .result) (c .before .right-entry .ensures) (c .if1 .left)))  -- returns
+    (λ c. let a = c .before .before .before .before .args in entries-right (a .atoms .now) (a .kind) (a .e .now) (λ k l. c .before .loop .inv .1 k (omega arith)))  -- returns-2
+    )

@@ -1,0 +1,187 @@
+-- Atom entries, and what number 6 asks of them (document 01, "Atom entry").
+use mathlib.Core.Path.{_≡_, refl, ap}
+use mathlib.Core.List.{List, [], _∷_}
+use Prim.Native.Nat.{ℕ, zero, suc, _+_, _*_, _/_, _≤_, _<_}
+use native.Mathlib.Omega.{arith}
+use native.Mathlib.Decide.{ℕ-discrete, decLe, decLt}
+use lib.ListN.{length, getD, drop, List·getD-eq-default}
+use Rattle.terms.specs.declared.valid.Found.{Found}
+use Rattle.terms.specs.declared.valid.Found.the-variants.{Nothing}
+use Rattle.terms.specs.Entry.{tagAt, valueAt}
+use Rattle.terms.specs.Decisions.{both?, via?}
+use Rattle.terms.specs.First.{firstNot, first-none}
+
+-- Kind (1 principal, 2 nonce, 3 public, 4 private, 5 symmetric key), known (0 or 1), partner (two bytes).
+pub record Atom : Type 0 where
+  pub kind : ℕ
+  pub known : ℕ
+  pub partner : ℕ
+
+-- The atoms of the entries, four bytes each; two-byte numbers are little-endian.
+unfoldable pub atomsOf : List ℕ → List Atom
+atomsOf [] = []
+atomsOf (a ∷ []) = []
+atomsOf (a ∷ b ∷ []) = []
+atomsOf (a ∷ b ∷ c ∷ []) = []
+atomsOf (kind ∷ known ∷ low ∷ high ∷ rest) = record { kind = kind; known = known; partner = low + 256 * high } ∷ atomsOf rest
+
+-- The atom of a number (all zero where there is none).
+unfoldable pub atomAt : List Atom → ℕ → Atom
+atomAt atoms n = getD atoms n (record { kind = 0; known = 0; partner = 0 })
+
+abbrev pub kindOf : List Atom → ℕ → ℕ
+kindOf atoms n = atomAt atoms n .kind
+
+abbrev pub knownOf : List Atom → ℕ → ℕ
+knownOf atoms n = atomAt atoms n .known
+
+abbrev pub partnerOf : List Atom → ℕ → ℕ
+partnerOf atoms n = atomAt atoms n .partner
+
+-- A key: public, private or symmetric.
+pub data IsKey (atoms : List Atom) (n : ℕ) : Type 0 where
+  isPublic : kindOf atoms n ≡ 3 → IsKey atoms n
+  isPrivate : kindOf atoms n ≡ 4 → IsKey atoms n
+  isSymmetric : kindOf atoms n ≡ 5 → IsKey atoms n
+
+-- That is, a kind from 3 to 5.
+pub key-kind : {atoms : List Atom} {n : ℕ} → IsKey atoms n → (3 ≤ kindOf atoms n) × (kindOf atoms n ≤ 5)
+key-kind (isPublic e) = (omega arith, omega arith)
+key-kind (isPrivate e) = (omega arith, omega arith)
+key-kind (isSymmetric e) = (omega arith, omega arith)
+
+pub kind-key : {atoms : List Atom} {n : ℕ} → 3 ≤ kindOf atoms n → kindOf atoms n ≤ 5 → IsKey atoms n
+kind-key {atoms} {n} low high = elim (ℕ-discrete (kindOf atoms n) 3) [
+  | yes p ↦ isPublic p
+  | no p ↦ elim (ℕ-discrete (kindOf atoms n) 4) [ yes q ↦ isPrivate q | no q ↦ isSymmetric (omega arith) ]
+]
+
+unfoldable pub isKey? : (atoms : List Atom) (n : ℕ) → Dec (IsKey atoms n)
+unfolding atomAt decLe
+isKey? atoms n = via? (λ h. kind-key (h .0) (h .1)) key-kind (both? (decLe 3 (kindOf atoms n)) (decLe (kindOf atoms n) 5))
+
+-- A key is listed.
+pub key-listed : {atoms : List Atom} {n : ℕ} → IsKey atoms n → n < length atoms
+unfolding atomAt
+key-listed {atoms} {n} k = elim (decLt n (length atoms)) [
+  | yes l ↦ l
+  | no ge ↦ absurd (away (ap (λ (a : Atom). a .kind) (List·getD-eq-default atoms _ (omega arith))))
+]
+  where
+    away : kindOf atoms n ≡ 0 → ⊥
+    away z = let b = key-kind k in omega arith
+
+-- A public and a private key name each other: the partner is an entry of the other kind whose partner field is this
+-- entry's number. Of the partner's entry only its kind and its partner field count.
+pub record NamedBack (atoms : List Atom) (n other : ℕ) : Type 0 where
+  pub there : partnerOf atoms n < length atoms
+  pub kind : kindOf atoms (partnerOf atoms n) ≡ other
+  pub back : partnerOf atoms (partnerOf atoms n) ≡ n
+
+-- Partner: zero for kinds 1 and 2; a public and a private key name each other; a symmetric key names itself.
+pub data PartnerRight (atoms : List Atom) (n : ℕ) : Type 0 where
+  principal : kindOf atoms n ≡ 1 → partnerOf atoms n ≡ 0 → PartnerRight atoms n
+  nonce : kindOf atoms n ≡ 2 → partnerOf atoms n ≡ 0 → PartnerRight atoms n
+  publicKey : kindOf atoms n ≡ 3 → NamedBack atoms n 4 → PartnerRight atoms n
+  privateKey : kindOf atoms n ≡ 4 → NamedBack atoms n 3 → PartnerRight atoms n
+  symmetricKey : kindOf atoms n ≡ 5 → partnerOf atoms n ≡ n → PartnerRight atoms n
+
+-- Number 6: the atom entry is right; known is 0 or 1.
+pub record AtomRight (atoms : List Atom) (n : ℕ) : Type 0 where
+  pub known : knownOf atoms n ≤ 1
+  pub partner : PartnerRight atoms n
+
+-- Decided by the kind.
+module _ (atoms : List Atom) (n : ℕ) where
+  -- What an entry of this kind has to have.
+  unfoldable pub Wanted : ℕ → Type 0
+  Wanted zero = ⊥
+  Wanted (suc zero) = partnerOf atoms n ≡ 0
+  Wanted (suc (suc zero)) = partnerOf atoms n ≡ 0
+  Wanted (suc (suc (suc zero))) = NamedBack atoms n 4
+  Wanted (suc (suc (suc (suc zero)))) = NamedBack atoms n 3
+  Wanted (suc (suc (suc (suc (suc zero))))) = partnerOf atoms n ≡ n
+  Wanted (suc (suc (suc (suc (suc (suc k)))))) = ⊥
+
+  pub partner-wanted : PartnerRight atoms n → Wanted (kindOf atoms n)
+  unfolding Wanted
+  partner-wanted (principal k p) = rw k p
+  partner-wanted (nonce k p) = rw k p
+  partner-wanted (publicKey k p) = rw k p
+  partner-wanted (privateKey k p) = rw k p
+  partner-wanted (symmetricKey k p) = rw k p
+
+  pub partner-right : (k : ℕ) → kindOf atoms n ≡ k → Wanted k → PartnerRight atoms n
+  unfolding Wanted
+  partner-right zero e w = absurd w
+  partner-right (suc zero) e w = principal e w
+  partner-right (suc (suc zero)) e w = nonce e w
+  partner-right (suc (suc (suc zero))) e w = publicKey e w
+  partner-right (suc (suc (suc (suc zero)))) e w = privateKey e w
+  partner-right (suc (suc (suc (suc (suc zero))))) e w = symmetricKey e w
+  partner-right (suc (suc (suc (suc (suc (suc k)))))) e w = absurd w
+
+  unfoldable pub namedBack? : (other : ℕ) → Dec (NamedBack atoms n other)
+  unfolding atomAt ℕ-discrete decLt
+  namedBack? other = via? (λ h. record { there = h .0; kind = h .1 .0; back = h .1 .1 }) (λ r. (r .there, (r .kind, r .back)))
+      (both? (decLt (partnerOf atoms n) (length atoms))
+      (both? (ℕ-discrete (kindOf atoms (partnerOf atoms n)) other) (ℕ-discrete (partnerOf atoms (partnerOf atoms n)) n)))
+
+  wanted? : (k : ℕ) → Dec (Wanted k)
+  unfolding Wanted namedBack? ℕ-discrete atomAt
+  wanted? zero = no (λ h. h)
+  wanted? (suc zero) = ℕ-discrete (partnerOf atoms n) 0
+  wanted? (suc (suc zero)) = ℕ-discrete (partnerOf atoms n) 0
+  wanted? (suc (suc (suc zero))) = namedBack? 4
+  wanted? (suc (suc (suc (suc zero)))) = namedBack? 3
+  wanted? (suc (suc (suc (suc (suc zero))))) = ℕ-discrete (partnerOf atoms n) n
+  wanted? (suc (suc (suc (suc (suc (suc k)))))) = no (λ h. h)
+
+  -- Is the atom entry right?
+  unfoldable pub atomRight? : Dec (AtomRight atoms n)
+  unfolding atomAt wanted? decLe
+  atomRight? = via? (λ h. record { known = h .0; partner = partner-right (kindOf atoms n) refl (h .1) }) (λ r. (r .known, partner-wanted (r .partner)))
+      (both? (decLe (knownOf atoms n) 1) (wanted? (kindOf atoms n)))
+
+-- The first atom entry that is not right.
+unfoldable pub wrongAtom : List Atom → Found
+unfolding firstNot atomRight?
+wrongAtom atoms = firstNot (atomRight? atoms) (length atoms)
+
+-- Nothing found: each is right.
+pub all-right : (atoms : List Atom) → wrongAtom atoms ≡ Nothing → (n : ℕ) → n < length atoms → AtomRight atoms n
+unfolding wrongAtom
+all-right atoms nothing = first-none (atomRight? atoms) nothing
+
+-- A key's partner is a key, and names it back.
+pub partner-key : {atoms : List Atom} {n : ℕ} → AtomRight atoms n → IsKey atoms n
+    → IsKey atoms (partnerOf atoms n) × (partnerOf atoms (partnerOf atoms n) ≡ n)
+partner-key {atoms} {n} w key = go (w .partner)
+  where
+    go : PartnerRight atoms n → IsKey atoms (partnerOf atoms n) × (partnerOf atoms (partnerOf atoms n) ≡ n)
+    go (principal k p) = let b = key-kind key in absurd (omega arith)
+    go (nonce k p) = let b = key-kind key in absurd (omega arith)
+    go (publicKey k p) = (isPrivate (p .kind), p .back)
+    go (privateKey k p) = (isPublic (p .kind), p .back)
+    go (symmetricKey k p) = (rw p key, rw (p, p) refl)
+
+-- What the bytes say of the entry of a number.
+pub length-atoms : (b : List ℕ) → length (atomsOf b) ≡ length b / 4
+unfolding atomsOf
+length-atoms [] = refl
+length-atoms (x ∷ []) = refl
+length-atoms (x ∷ y ∷ []) = refl
+length-atoms (x ∷ y ∷ z ∷ []) = refl
+length-atoms (x ∷ y ∷ z ∷ w ∷ b) = let ih = length-atoms b in omega arith
+
+pub atom-bytes : (b : List ℕ) (n : ℕ) → n < length b / 4
+    → atomAt (atomsOf b) n ≡ record { kind = tagAt (drop (4 * n) b); known = getD (drop (4 * n) b) 1 0; partner = valueAt (drop (4 * n) b) }
+unfolding atomsOf atomAt
+atom-bytes [] n h = absurd (omega arith)
+atom-bytes (x ∷ []) n h = absurd (omega arith)
+atom-bytes (x ∷ y ∷ []) n h = absurd (omega arith)
+atom-bytes (x ∷ y ∷ z ∷ []) n h = absurd (omega arith)
+atom-bytes (x ∷ y ∷ z ∷ w ∷ b) zero h = refl
+atom-bytes (x ∷ y ∷ z ∷ w ∷ b) (suc n) h =
+    let far : 4 * suc n ≡ suc (suc (suc (suc (4 * n)))) = omega arith in
+    rw far (atom-bytes b n (omega arith))

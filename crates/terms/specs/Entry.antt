@@ -1,0 +1,121 @@
+-- The entries of a block as terms (document 01, "Term entry").
+use mathlib.Core.Path.{_≡_}
+use mathlib.Core.Bool.{Bool, true, false}
+use mathlib.Core.List.{List, [], _∷_, _++_}
+use mathlib.Core.Option.{Option, none, some}
+use Prim.Native.Nat.{ℕ, zero, suc, _+_, _*_, _/_, _%_, _<_, _≤_}
+use lib.Dec.{ltb}
+use lib.ListN.{length, getD, drop}
+use Rattle.terms.specs.Term.{Term, Variable, variable, atom, pair, encrypted, plain, marked}
+
+-- What one entry says: an atom, a pair, an encryption under a key, or a variable.
+pub data Symbol : Type 0 where
+  atomSymbol : ℕ → Symbol
+  pairSymbol : Symbol
+  encryptionSymbol : ℕ → Symbol
+  variableSymbol : Variable → Symbol
+
+-- Tags: 1 atom; 2 pair; 3 encryption; 4 plain variable; 5 marked variable.
+unfoldable pub tagOf : Symbol → ℕ
+tagOf (atomSymbol a) = 1
+tagOf pairSymbol = 2
+tagOf (encryptionSymbol k) = 3
+tagOf (variableSymbol (plain x)) = 4
+tagOf (variableSymbol (marked x)) = 5
+
+-- The value: an atom's number, 0 for a pair, the key's number, a variable's number.
+unfoldable pub valueOf : Symbol → ℕ
+valueOf (atomSymbol a) = a
+valueOf pairSymbol = 0
+valueOf (encryptionSymbol k) = k
+valueOf (variableSymbol (plain x)) = x
+valueOf (variableSymbol (marked x)) = x
+
+-- A term entry: tag, a zero byte, value (two bytes, little-endian).
+unfoldable pub entryOf : Symbol → List ℕ
+entryOf s = tagOf s ∷ 0 ∷ valueOf s % 256 ∷ valueOf s / 256 ∷ []
+
+-- The entries of a term: parents before children, left before right.
+unfoldable pub entriesOf : Term Variable → List ℕ
+entriesOf (variable x) = entryOf (variableSymbol x)
+entriesOf (atom a) = entryOf (atomSymbol a)
+entriesOf (pair t u) = entryOf pairSymbol ++ (entriesOf t ++ entriesOf u)
+entriesOf (encrypted k t) = entryOf (encryptionSymbol k) ++ entriesOf t
+
+-- How many entries a term has.
+unfoldable pub size : {X : Type 0} → Term X → ℕ
+size (variable x) = 1
+size (atom a) = 1
+size (pair t u) = 1 + (size t + size u)
+size (encrypted k t) = 1 + size t
+
+-- Reading back: the variable of a number from 0 to 7.
+abbrev pub numbered : Bool → Variable → Option Symbol
+numbered true x = some (variableSymbol x)
+numbered false x = none
+
+-- The symbol of a tag and a value, if there is one.
+unfoldable pub symbolOf : ℕ → ℕ → Option Symbol
+symbolOf zero n = none
+symbolOf (suc zero) n = some (atomSymbol n)
+symbolOf (suc (suc zero)) zero = some pairSymbol
+symbolOf (suc (suc zero)) (suc n) = none
+symbolOf (suc (suc (suc zero))) n = some (encryptionSymbol n)
+symbolOf (suc (suc (suc (suc zero)))) n = numbered (ltb n 8) (plain n)
+symbolOf (suc (suc (suc (suc (suc zero))))) n = numbered (ltb n 8) (marked n)
+symbolOf (suc (suc (suc (suc (suc (suc m)))))) n = none
+
+-- A symbol put before terms takes its children from their front.
+unfoldable pub before : Symbol → List (Term Variable) → Option (List (Term Variable))
+before (atomSymbol a) l = some (atom a ∷ l)
+before (variableSymbol x) l = some (variable x ∷ l)
+before pairSymbol [] = none
+before pairSymbol (t ∷ []) = none
+before pairSymbol (t ∷ u ∷ l) = some (pair t u ∷ l)
+before (encryptionSymbol k) [] = none
+before (encryptionSymbol k) (t ∷ l) = some (encrypted k t ∷ l)
+
+unfoldable pub beforeAll : Option Symbol → Option (List (Term Variable)) → Option (List (Term Variable))
+beforeAll none l = none
+beforeAll (some s) none = none
+beforeAll (some s) (some l) = before s l
+
+-- The second byte of an entry is zero.
+unfoldable pub withZero : ℕ → Option Symbol → Option Symbol
+withZero zero s = s
+withZero (suc n) s = none
+
+-- The terms that the entries are, one after the other, if they are terms.
+unfoldable pub termsOf : List ℕ → Option (List (Term Variable))
+termsOf [] = some []
+termsOf (a ∷ []) = none
+termsOf (a ∷ b ∷ []) = none
+termsOf (a ∷ b ∷ c ∷ []) = none
+termsOf (tag ∷ zeroByte ∷ low ∷ high ∷ rest) = beforeAll (withZero zeroByte (symbolOf tag (low + 256 * high))) (termsOf rest)
+
+abbrev pub firstOf : Option (List (Term Variable)) → Term Variable
+firstOf none = atom 0
+firstOf (some []) = atom 0
+firstOf (some (t ∷ l)) = t
+
+-- The term that the entries begin with (atom 0 where they begin with none).
+unfoldable pub termOf : List ℕ → Term Variable
+termOf e = firstOf (termsOf e)
+
+-- The entries are these terms, one after the other.
+pub record Reads (e : List ℕ) (l : List (Term Variable)) : Type 0 where
+  pub is : termsOf e ≡ some l
+
+-- The entries begin with a term, and more terms may follow.
+pub record Begins (e : List ℕ) : Type 0 where
+  pub term : Term Variable
+  pub others : List (Term Variable)
+  pub reads : Reads e (term ∷ others)
+  pub room : 4 ≤ length e
+
+-- Tag and value of the entry that stands first.
+abbrev pub tagAt : List ℕ → ℕ
+tagAt e = getD e 0 0
+
+abbrev pub valueAt : List ℕ → ℕ
+valueAt e = getD e 2 0 + 256 * getD e 3 0

@@ -1,0 +1,244 @@
+-- Laws of entries: what stands first, and what is left after it.
+use mathlib.Core.Path.{_≡_, refl, sym, ap, _∙_}
+use mathlib.Core.Bool.{Bool, true, false}
+use mathlib.Core.List.{List, [], _∷_, _++_}
+use mathlib.Core.Option.{Option, none, some}
+use Prim.Native.Nat.{ℕ, zero, suc, _+_, _*_, _-_, _<_, _≤_}
+use native.Mathlib.Omega.{arith}
+use native.Mathlib.Nat.{add-zero}
+use lib.Dec.{ltb}
+use borrow.Author.Tests.{ltb-true}
+use lib.ListN.{length, getD, take, drop, length-drop}
+use lib.Seq.{drop-drop}
+use Rattle.terms.specs.Term.{Term, Variable, variable, atom, pair, encrypted, plain, marked}
+use Rattle.terms.specs.Entry.{Symbol, atomSymbol, pairSymbol, encryptionSymbol, variableSymbol, symbolOf, numbered, before, beforeAll, withZero, termsOf, termOf, firstOf, tagAt, valueAt, size, Reads, Begins}
+
+-- The entry of this tag and value, before these entries, makes these terms.
+pub data First (tag n : ℕ) (rest : List ℕ) (l : List (Term Variable)) : Type 0 where
+  first-atom : {m : List (Term Variable)} → tag ≡ 1 → l ≡ atom n ∷ m → Reads rest m → First tag n rest l
+  first-pair : {t u : Term Variable} {m : List (Term Variable)} → tag ≡ 2 → n ≡ 0 → l ≡ pair t u ∷ m → Reads rest (t ∷ u ∷ m) → First tag n rest l
+  first-encrypted : {t : Term Variable} {m : List (Term Variable)} → tag ≡ 3 → l ≡ encrypted n t ∷ m → Reads rest (t ∷ m) → First tag n rest l
+  first-plain : {m : List (Term Variable)} → tag ≡ 4 → n < 8 → l ≡ variable (plain n) ∷ m → Reads rest m → First tag n rest l
+  first-marked : {m : List (Term Variable)} → tag ≡ 5 → n < 8 → l ≡ variable (marked n) ∷ m → Reads rest m → First tag n rest l
+
+pub none≢some : {A : Type 0} (x : A) → none ≡ some x → ⊥
+none≢some x e = let z : _≡_ {A = ℕ} 0 1 = cc in omega arith
+
+module _ (rest : List ℕ) (l : List (Term Variable)) where
+  atomCase : (n : ℕ) (o : Option (List (Term Variable))) → termsOf rest ≡ o → beforeAll (some (atomSymbol n)) o ≡ some l → First 1 n rest l
+  unfolding beforeAll before
+  atomCase n none q r = absurd (none≢some _ r)
+  atomCase n (some m) q r = first-atom {m = m} refl (cc) (record { is = q })
+
+  pairCase : (o : Option (List (Term Variable))) → termsOf rest ≡ o → beforeAll (some pairSymbol) o ≡ some l → First 2 0 rest l
+  unfolding beforeAll before
+  pairCase none q r = absurd (none≢some _ r)
+  pairCase (some []) q r = absurd (none≢some _ r)
+  pairCase (some (t ∷ [])) q r = absurd (none≢some _ r)
+  pairCase (some (t ∷ u ∷ m)) q r = first-pair {t = t} {u = u} {m = m} refl refl (cc) (record { is = q })
+
+  encryptedCase : (n : ℕ) (o : Option (List (Term Variable))) → termsOf rest ≡ o → beforeAll (some (encryptionSymbol n)) o ≡ some l → First 3 n rest l
+  unfolding beforeAll before
+  encryptedCase n none q r = absurd (none≢some _ r)
+  encryptedCase n (some []) q r = absurd (none≢some _ r)
+  encryptedCase n (some (t ∷ m)) q r = first-encrypted {t = t} {m = m} refl (cc) (record { is = q })
+
+  plainCase : (n : ℕ) (b : Bool) (o : Option (List (Term Variable))) → termsOf rest ≡ o → ltb n 8 ≡ b → beforeAll (numbered b (plain n)) o ≡ some l → First 4 n rest l
+  unfolding beforeAll before
+  plainCase n false o q b r = absurd (none≢some _ r)
+  plainCase n true none q b r = absurd (none≢some _ r)
+  plainCase n true (some m) q b r = first-plain {m = m} refl (ltb-true n 8 b) (cc) (record { is = q })
+
+  markedCase : (n : ℕ) (b : Bool) (o : Option (List (Term Variable))) → termsOf rest ≡ o → ltb n 8 ≡ b → beforeAll (numbered b (marked n)) o ≡ some l → First 5 n rest l
+  unfolding beforeAll before
+  markedCase n false o q b r = absurd (none≢some _ r)
+  markedCase n true none q b r = absurd (none≢some _ r)
+  markedCase n true (some m) q b r = first-marked {m = m} refl (ltb-true n 8 b) (cc) (record { is = q })
+
+  fromSymbol : (tag n : ℕ) → beforeAll (symbolOf tag n) (termsOf rest) ≡ some l → First tag n rest l
+  unfolding symbolOf beforeAll
+  fromSymbol zero n r = absurd (none≢some _ r)
+  fromSymbol (suc zero) n r = atomCase n (termsOf rest) refl r
+  fromSymbol (suc (suc zero)) zero r = pairCase (termsOf rest) refl r
+  fromSymbol (suc (suc zero)) (suc n) r = absurd (none≢some _ r)
+  fromSymbol (suc (suc (suc zero))) n r = encryptedCase n (termsOf rest) refl r
+  fromSymbol (suc (suc (suc (suc zero)))) n r = plainCase n (ltb n 8) (termsOf rest) refl refl r
+  fromSymbol (suc (suc (suc (suc (suc zero))))) n r = markedCase n (ltb n 8) (termsOf rest) refl refl r
+  fromSymbol (suc (suc (suc (suc (suc (suc m)))))) n r = absurd (none≢some _ r)
+
+  fromEntry : (z tag n : ℕ) → beforeAll (withZero z (symbolOf tag n)) (termsOf rest) ≡ some l → First tag n rest l
+  unfolding withZero beforeAll
+  fromEntry zero tag n r = fromSymbol tag n r
+  fromEntry (suc z) tag n r = absurd (none≢some _ r)
+
+nothing-read : {A : Type 0} {t : Term Variable} {l : List (Term Variable)} → some [] ≡ some (t ∷ l) → A
+nothing-read r = let z : _≡_ {A = ℕ} 0 1 = cc in absurd (omega arith)
+
+-- Entries that begin with a term have a first entry, and what is left after it are terms again.
+pub first : {e : List ℕ} {t : Term Variable} {l : List (Term Variable)} → Reads e (t ∷ l) → First (tagAt e) (valueAt e) (drop 4 e) (t ∷ l)
+unfolding termsOf
+first {e} {t} {l} r = go e (r .is)
+  where
+    go : (e : List ℕ) → termsOf e ≡ some (t ∷ l) → First (tagAt e) (valueAt e) (drop 4 e) (t ∷ l)
+    go [] r = nothing-read r
+    go (a ∷ []) r = absurd (none≢some _ r)
+    go (a ∷ b ∷ []) r = absurd (none≢some _ r)
+    go (a ∷ b ∷ c ∷ []) r = absurd (none≢some _ r)
+    go (a ∷ b ∷ c ∷ d ∷ e) r = fromEntry e (t ∷ l) b a (c + 256 * d) r
+
+-- There is at least one entry.
+pub four : {e : List ℕ} {t : Term Variable} {l : List (Term Variable)} → Reads e (t ∷ l) → 4 ≤ length e
+unfolding termsOf
+four {e} {t} {l} r = go e (r .is)
+  where
+    go : (e : List ℕ) → termsOf e ≡ some (t ∷ l) → 4 ≤ length e
+    go [] r = nothing-read r
+    go (a ∷ []) r = absurd (none≢some _ r)
+    go (a ∷ b ∷ []) r = absurd (none≢some _ r)
+    go (a ∷ b ∷ c ∷ []) r = absurd (none≢some _ r)
+    go (a ∷ b ∷ c ∷ d ∷ e) r = omega arith
+
+-- The term that the entries begin with.
+pub termOf-reads : {e : List ℕ} {t : Term Variable} {l : List (Term Variable)} → Reads e (t ∷ l) → termOf e ≡ t
+unfolding termOf
+termOf-reads r = ap firstOf (r .is)
+
+-- Reading a term of a known shape: tag, value, and what is left.
+module _ {e : List ℕ} {l : List (Term Variable)} where
+  pub reads-atom : {a : ℕ} → Reads e (atom a ∷ l) → (tagAt e ≡ 1) × (valueAt e ≡ a) × Reads (drop 4 e) l
+  reads-atom {a} r = go (first r)
+    where
+      go : First (tagAt e) (valueAt e) (drop 4 e) (atom a ∷ l) → (tagAt e ≡ 1) × (valueAt e ≡ a) × Reads (drop 4 e) l
+      go (first-atom {m} g q k) = let same : m ≡ l = cc in (g, cc, rw same at k)
+      go (first-pair {t} {u} {m} g n q k) = let z : _≡_ {A = ℕ} 0 1 = cc in absurd (omega arith)
+      go (first-encrypted {t} {m} g q k) = let z : _≡_ {A = ℕ} 0 1 = cc in absurd (omega arith)
+      go (first-plain {m} g n q k) = let z : _≡_ {A = ℕ} 0 1 = cc in absurd (omega arith)
+      go (first-marked {m} g n q k) = let z : _≡_ {A = ℕ} 0 1 = cc in absurd (omega arith)
+
+  pub reads-pair : {v w : Term Variable} → Reads e (pair v w ∷ l) → (tagAt e ≡ 2) × (valueAt e ≡ 0) × Reads (drop 4 e) (v ∷ w ∷ l)
+  reads-pair {v} {w} r = go (first r)
+    where
+      go : First (tagAt e) (valueAt e) (drop 4 e) (pair v w ∷ l) → (tagAt e ≡ 2) × (valueAt e ≡ 0) × Reads (drop 4 e) (v ∷ w ∷ l)
+      go (first-atom {m} g q k) = let z : _≡_ {A = ℕ} 0 1 = cc in absurd (omega arith)
+      go (first-pair {t} {u} {m} g n q k) = let same : t ∷ u ∷ m ≡ v ∷ w ∷ l = cc in (g, n, rw same at k)
+      go (first-encrypted {t} {m} g q k) = let z : _≡_ {A = ℕ} 0 1 = cc in absurd (omega arith)
+      go (first-plain {m} g n q k) = let z : _≡_ {A = ℕ} 0 1 = cc in absurd (omega arith)
+      go (first-marked {m} g n q k) = let z : _≡_ {A = ℕ} 0 1 = cc in absurd (omega arith)
+
+  pub reads-encrypted : {k0 : ℕ} {v : Term Variable} → Reads e (encrypted k0 v ∷ l) → (tagAt e ≡ 3) × (valueAt e ≡ k0) × Reads (drop 4 e) (v ∷ l)
+  reads-encrypted {k0} {v} r = go (first r)
+    where
+      go : First (tagAt e) (valueAt e) (drop 4 e) (encrypted k0 v ∷ l) → (tagAt e ≡ 3) × (valueAt e ≡ k0) × Reads (drop 4 e) (v ∷ l)
+      go (first-atom {m} g q k) = let z : _≡_ {A = ℕ} 0 1 = cc in absurd (omega arith)
+      go (first-pair {t} {u} {m} g n q k) = let z : _≡_ {A = ℕ} 0 1 = cc in absurd (omega arith)
+      go (first-encrypted {t} {m} g q k) = let same : t ∷ m ≡ v ∷ l = cc in (g, cc, rw same at k)
+      go (first-plain {m} g n q k) = let z : _≡_ {A = ℕ} 0 1 = cc in absurd (omega arith)
+      go (first-marked {m} g n q k) = let z : _≡_ {A = ℕ} 0 1 = cc in absurd (omega arith)
+
+  pub reads-plain : {x : ℕ} → Reads e (variable (plain x) ∷ l) → (tagAt e ≡ 4) × (valueAt e ≡ x) × (x < 8) × Reads (drop 4 e) l
+  reads-plain {x} r = go (first r)
+    where
+      go : First (tagAt e) (valueAt e) (drop 4 e) (variable (plain x) ∷ l) → (tagAt e ≡ 4) × (valueAt e ≡ x) × (x < 8) × Reads (drop 4 e) l
+      go (first-atom {m} g q k) = let z : _≡_ {A = ℕ} 0 1 = cc in absurd (omega arith)
+      go (first-pair {t} {u} {m} g n q k) = let z : _≡_ {A = ℕ} 0 1 = cc in absurd (omega arith)
+      go (first-encrypted {t} {m} g q k) = let z : _≡_ {A = ℕ} 0 1 = cc in absurd (omega arith)
+      go (first-plain {m} g n q k) = let same : m ≡ l = cc in let number : valueAt e ≡ x = cc in (g, number, rw number at n, rw same at k)
+      go (first-marked {m} g n q k) = let z : _≡_ {A = ℕ} 0 1 = cc in absurd (omega arith)
+
+  pub reads-marked : {x : ℕ} → Reads e (variable (marked x) ∷ l) → (tagAt e ≡ 5) × (valueAt e ≡ x) × (x < 8) × Reads (drop 4 e) l
+  reads-marked {x} r = go (first r)
+    where
+      go : First (tagAt e) (valueAt e) (drop 4 e) (variable (marked x) ∷ l) → (tagAt e ≡ 5) × (valueAt e ≡ x) × (x < 8) × Reads (drop 4 e) l
+      go (first-atom {m} g q k) = let z : _≡_ {A = ℕ} 0 1 = cc in absurd (omega arith)
+      go (first-pair {t} {u} {m} g n q k) = let z : _≡_ {A = ℕ} 0 1 = cc in absurd (omega arith)
+      go (first-encrypted {t} {m} g q k) = let z : _≡_ {A = ℕ} 0 1 = cc in absurd (omega arith)
+      go (first-plain {m} g n q k) = let z : _≡_ {A = ℕ} 0 1 = cc in absurd (omega arith)
+      go (first-marked {m} g n q k) = let same : m ≡ l = cc in let number : valueAt e ≡ x = cc in (g, number, rw number at n, rw same at k)
+
+-- Past a term stand the others.
+pub past : (t : Term Variable) {l : List (Term Variable)} {e : List ℕ} → Reads e (t ∷ l) → Reads (drop (4 * size t) e) l
+unfolding size
+past (variable (plain x)) r = reads-plain r .3
+past (variable (marked x)) r = reads-marked r .3
+past (atom a) r = reads-atom r .2
+past (pair t u) {l} {e} r =
+    let right : Reads (drop (4 * size u) (drop (4 * size t) (drop 4 e))) l = past u (past t (reads-pair r .2)) in
+    let far : 4 + (4 * size t + 4 * size u) ≡ 4 * (1 + (size t + size u)) = omega arith in
+    rw (drop-drop, drop-drop, far) at right
+past (encrypted k t) {l} {e} r =
+    let below : Reads (drop (4 * size t) (drop 4 e)) l = past t (reads-encrypted r .2) in
+    let far : 4 + 4 * size t ≡ 4 * (1 + size t) = omega arith in
+    rw (drop-drop, far) at below
+
+-- A term's entries fit.
+pub fits : (t : Term Variable) {l : List (Term Variable)} {e : List ℕ} → Reads e (t ∷ l) → 4 * size t ≤ length e
+unfolding size
+fits (variable (plain x)) r = four r
+fits (variable (marked x)) r = four r
+fits (atom a) r = four r
+fits (pair t u) {l} {e} r =
+    let a = fits t (reads-pair r .2) in
+    let b = fits u (past t (reads-pair r .2)) in
+    let c = four r in
+    omega (arith, length-drop 4 e, length-drop (4 * size t) (drop 4 e))
+fits (encrypted k t) {l} {e} r =
+    let a = fits t (reads-encrypted r .2) in
+    let c = four r in
+    omega (arith, length-drop 4 e)
+
+pub size-positive : {X : Type 0} (t : Term X) → 1 ≤ size t
+unfolding size
+size-positive (variable x) = omega arith
+size-positive (atom a) = omega arith
+size-positive (pair t u) = omega arith
+size-positive (encrypted k t) = omega arith
+
+pub begins : {e : List ℕ} {t : Term Variable} {l : List (Term Variable)} → Reads e (t ∷ l) → Begins e
+begins {t = t} {l = l} r = record { term = t; others = l; reads = r; room = four r }
+
+-- What is left after the first entry are terms.
+pub rest-reads : {e : List ℕ} {t : Term Variable} {l : List (Term Variable)} → Reads e (t ∷ l) → (m : List (Term Variable)) × Reads (drop 4 e) m
+rest-reads {e} {t} {l} r = go (first r)
+  where
+    go : First (tagAt e) (valueAt e) (drop 4 e) (t ∷ l) → (m : List (Term Variable)) × Reads (drop 4 e) m
+    go (first-atom {m} g q k) = (m, k)
+    go (first-pair {t} {u} {m} g n q k) = (t ∷ u ∷ m, k)
+    go (first-encrypted {t} {m} g q k) = (t ∷ m, k)
+    go (first-plain {m} g n q k) = (m, k)
+    go (first-marked {m} g n q k) = (m, k)
+
+-- Entries that are no terms at all are no entries.
+never-empty : (s : Option Symbol) (o : Option (List (Term Variable))) → beforeAll s o ≡ some [] → ⊥
+unfolding beforeAll before
+never-empty none o r = none≢some _ r
+never-empty (some s) none r = none≢some _ r
+never-empty (some (atomSymbol a)) (some l) r = let z : _≡_ {A = ℕ} 0 1 = cc in omega arith
+never-empty (some (variableSymbol x)) (some l) r = let z : _≡_ {A = ℕ} 0 1 = cc in omega arith
+never-empty (some pairSymbol) (some []) r = none≢some _ r
+never-empty (some pairSymbol) (some (t ∷ [])) r = none≢some _ r
+never-empty (some pairSymbol) (some (t ∷ u ∷ l)) r = let z : _≡_ {A = ℕ} 0 1 = cc in omega arith
+never-empty (some (encryptionSymbol k)) (some []) r = none≢some _ r
+never-empty (some (encryptionSymbol k)) (some (t ∷ l)) r = let z : _≡_ {A = ℕ} 0 1 = cc in omega arith
+
+no-terms : (e : List ℕ) → Reads e [] → 0 < length e → ⊥
+unfolding termsOf
+no-terms [] r h = omega arith
+no-terms (a ∷ []) r h = none≢some _ (r .is)
+no-terms (a ∷ b ∷ []) r h = none≢some _ (r .is)
+no-terms (a ∷ b ∷ c ∷ []) r h = none≢some _ (r .is)
+no-terms (a ∷ b ∷ c ∷ d ∷ e) r h = never-empty (withZero b (symbolOf a (c + 256 * d))) (termsOf e) (r .is)
+
+some-terms : {e : List ℕ} (l : List (Term Variable)) → Reads e l → 0 < length e → Begins e
+some-terms {e} [] r h = absurd (no-terms e r h)
+some-terms (t ∷ l) r h = begins r
+
+-- From any entry on stand terms.
+pub suffix : (k : ℕ) {e : List ℕ} → Begins e → 4 * k < length e → Begins (drop (4 * k) e)
+suffix zero b h = b
+suffix (suc k) {e} b h =
+    let m = rest-reads (b .reads) in
+    let room : 0 < length (drop 4 e) = omega (arith, length-drop 4 e) in
+    let rest : Begins (drop 4 e) = some-terms (m .0) (m .1) room in
+    let far : 4 * k < length (drop 4 e) = omega (arith, length-drop 4 e) in
+    let there : 4 + 4 * k ≡ 4 * suc k = omega arith in
+    rw (drop-drop, there) at (suffix k rest far)

@@ -1,0 +1,92 @@
+-- The first terms of entries, compared entry by entry: what the walks of matching promise.
+use mathlib.Core.Path.{_≡_}
+use mathlib.Core.Bool.{Bool, true, false}
+use mathlib.Core.List.{List, [], map}
+use mathlib.Core.Option.{Option, none, some}
+use Prim.Native.Nat.{ℕ, zero, suc, _+_, _*_, _-_, _<_, _≤_}
+use lib.Dec.{ltb}
+use lib.ListN.{length, getD, take}
+use Rattle.terms.specs.Term.{Term, Variable, variable, atom, pair, encrypted, plain, marked, replace}
+use Rattle.terms.specs.Entry.{termsOf, termOf, tagAt, valueAt, Reads, Begins}
+use Rattle.terms.specs.WalkLaws.{from}
+
+-- How many children an entry of this tag has.
+unfoldable pub childrenOf : ℕ → ℕ
+childrenOf zero = 0
+childrenOf (suc zero) = 0
+childrenOf (suc (suc zero)) = 2
+childrenOf (suc (suc (suc zero))) = 1
+childrenOf (suc (suc (suc (suc n)))) = 0
+
+abbrev pub listOf : Option (List (Term Variable)) → List (Term Variable)
+listOf none = []
+listOf (some l) = l
+
+-- The first n terms of the entries.
+unfoldable pub frontOf : ℕ → List ℕ → List (Term Variable)
+frontOf n e = take n (listOf (termsOf e))
+
+-- The entries are terms, n or more of them.
+pub record Front (n : ℕ) (e : List ℕ) : Type 0 where
+  pub all : List (Term Variable)
+  pub reads : Reads e all
+  pub enough : n ≤ length all
+  pub room : 4 * n ≤ length e
+
+-- The replacement makes the first n terms of f from those of e.
+pub record Takes (by : Variable → Term Variable) (n : ℕ) (e f : List ℕ) : Type 0 where
+  pub same : map (replace by) (frontOf n e) ≡ frontOf n f
+
+-- Both begin with the same entry.
+pub record SameFirst (e f : List ℕ) : Type 0 where
+  pub tag : tagAt e ≡ tagAt f
+  pub value : valueAt e ≡ valueAt f
+
+-- The slot of a variable that is a term: 0 to 7 plain, 8 to 15 marked; 16 for any other term.
+unfoldable pub slotOf : Term Variable → ℕ
+slotOf (variable (plain x)) = x
+slotOf (variable (marked x)) = 8 + x
+slotOf (atom a) = 16
+slotOf (pair t u) = 16
+slotOf (encrypted k t) = 16
+
+-- The variable of a slot.
+abbrev pub inHalf : Bool → ℕ → Variable
+inHalf true i = plain i
+inHalf false i = marked (i - 8)
+
+unfoldable pub inSlot : ℕ → Variable
+inSlot i = inHalf (ltb i 8) i
+
+-- Bindings: for each of 16 slots the entry of t where its variable's term stands, 255 for a variable that is not bound.
+abbrev pub Bound : List ℕ → ℕ → Type 0
+Bound bound i = (i < 16) × ¬ (getD bound i 0 ≡ 255)
+
+-- The replacement is the one of the bindings, where a variable is bound.
+pub record Agrees (t bound : List ℕ) (by : Variable → Term Variable) : Type 0 where
+  pub held : (i : ℕ) → Bound bound i → by (inSlot i) ≡ termOf (from (4 * getD bound i 0) t)
+
+-- Two terms of t can be compared: one that a slot holds, if it holds one, and the one at entry `at`.
+pub record Comparable (t : List ℕ) (old at : ℕ) : Type 0 where
+  pub held : ¬ (old ≡ 255) → Begins (from (4 * old) t)
+  pub here : Begins (from (4 * at) t)
+  pub inside : 4 * at ≤ length t
+
+-- The term at entry `at` may be bound in a slot that holds `old`: nothing is bound there, or the same term.
+pub record Bindable (t : List ℕ) (old at : ℕ) : Type 0 where
+  pub same : ¬ (old ≡ 255) → termOf (from (4 * old) t) ≡ termOf (from (4 * at) t)
+
+-- What the walk may suppose: need terms are left on both sides, and every binding points at a term.
+pub record Ready (p t : List ℕ) (at need : ℕ) (bound : List ℕ) : Type 0 where
+  pub pattern : Front need p
+  pub subject : Front need (from (4 * at) t)
+  pub held : (i : ℕ) → Bound bound i → Begins (from (4 * getD bound i 0) t)
+  pub inside : 4 * (at + need) ≤ length t
+  pub small : length t ≤ 252
+
+-- What the walk says: some replacement that agrees with the bindings makes the first terms of t from its entry `at` on
+-- from the first terms of p.
+pub record Made (p t : List ℕ) (at need : ℕ) (bound : List ℕ) : Type 0 where
+  pub by : Variable → Term Variable
+  pub agrees : Agrees t bound by
+  pub takes : Takes by need p (from (4 * at) t)

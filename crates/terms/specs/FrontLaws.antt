@@ -1,0 +1,295 @@
+-- Laws of the first terms of entries: what one entry, and what one term, says of them.
+use mathlib.Core.Path.{_≡_, refl, sym, ap, _∙_}
+use mathlib.Core.Bool.{Bool, true, false}
+use mathlib.Core.List.{List, [], _∷_, map}
+use mathlib.Core.Option.{Option, none, some}
+use mathlib.Core.Logic.{_↔_}
+use Prim.Native.Nat.{ℕ, zero, suc, _+_, _*_, _-_, _≤_}
+use native.Mathlib.Omega.{arith}
+use lib.Dec.{eqb}
+use borrow.Author.Tests.{eqb-true, eqb-false}
+use lib.ListN.{length, take, drop, length-drop}
+use lib.Seq.{drop-drop}
+use borrow.Rule.Slice.PartAt.{part-to-end}
+use Rattle.terms.specs.Term.{Term, Variable, variable, atom, pair, encrypted, plain, marked, replace}
+use Rattle.terms.specs.Entry.{Symbol, atomSymbol, pairSymbol, encryptionSymbol, variableSymbol, tagOf, valueOf, before, termOf, tagAt, valueAt, size, Reads, Begins}
+use Rattle.terms.specs.EntryLaws.{First, first-atom, first-pair, first-encrypted, first-plain, first-marked, first, none≢some, termOf-reads, past, fits, begins, size-positive}
+use Rattle.terms.specs.WalkLaws.{from}
+use Rattle.terms.specs.Occurs.{replace-none}
+use Rattle.terms.specs.Solve.{Says, says-same}
+use Rattle.terms.specs.Front.{childrenOf, frontOf, listOf, SameFirst, Front, Takes}
+
+-- A part's part is a part.
+pub from-from : (a b : ℕ) (e : List ℕ) → from a (from b e) ≡ from (b + a) e
+from-from a b e = rw (part-to-end, part-to-end, part-to-end, drop-drop)
+
+pub from-length : (n : ℕ) (e : List ℕ) → length (from n e) ≡ length e - n
+from-length n e = rw part-to-end (length-drop n e)
+
+-- Any other tag than a pair's and an encryption's has no children.
+pub no-children : (tag : ℕ) → (tag ≡ 2 → ⊥) → (tag ≡ 3 → ⊥) → 0 ≡ childrenOf tag
+unfolding childrenOf
+no-children zero a b = refl
+no-children (suc zero) a b = refl
+no-children (suc (suc zero)) a b = absurd (a refl)
+no-children (suc (suc (suc zero))) a b = absurd (b refl)
+no-children (suc (suc (suc (suc n)))) a b = refl
+
+pub two-children : {tag : ℕ} → tag ≡ 2 → 2 ≡ childrenOf tag
+unfolding childrenOf
+two-children e = rw e refl
+
+pub one-child : {tag : ℕ} → tag ≡ 3 → 1 ≡ childrenOf tag
+unfolding childrenOf
+one-child e = rw e refl
+
+-- A symbol is known by its tag and its value.
+named : ℕ → ℕ → Symbol
+named zero n = pairSymbol
+named (suc zero) n = atomSymbol n
+named (suc (suc zero)) n = pairSymbol
+named (suc (suc (suc zero))) n = encryptionSymbol n
+named (suc (suc (suc (suc zero)))) n = variableSymbol (plain n)
+named (suc (suc (suc (suc (suc m))))) n = variableSymbol (marked n)
+
+named-is : (s : Symbol) → named (tagOf s) (valueOf s) ≡ s
+unfolding named tagOf valueOf
+named-is (atomSymbol a) = refl
+named-is pairSymbol = refl
+named-is (encryptionSymbol k) = refl
+named-is (variableSymbol (plain x)) = refl
+named-is (variableSymbol (marked x)) = refl
+
+same-symbol : (s r : Symbol) → tagOf s ≡ tagOf r → valueOf s ≡ valueOf r → s ≡ r
+same-symbol s r t v = cc (named-is s, named-is r)
+
+-- The symbol of a term that stands first, and the terms with its children in its place.
+topOf : List (Term Variable) → Option Symbol
+topOf [] = none
+topOf (variable x ∷ l) = some (variableSymbol x)
+topOf (atom a ∷ l) = some (atomSymbol a)
+topOf (pair t u ∷ l) = some pairSymbol
+topOf (encrypted k t ∷ l) = some (encryptionSymbol k)
+
+after : List (Term Variable) → List (Term Variable)
+after [] = []
+after (variable x ∷ l) = l
+after (atom a ∷ l) = l
+after (pair t u ∷ l) = t ∷ u ∷ l
+after (encrypted k t ∷ l) = t ∷ l
+
+-- The symbol is no variable, or one that is replaced by itself.
+abbrev Keeps : (Variable → Term Variable) → Symbol → Type 0
+Keeps by s = (x : Variable) → s ≡ variableSymbol x → by x ≡ variable x
+
+module _ {m : List (Term Variable)} where
+  -- What a symbol makes shows the symbol and what it was made of.
+  before-shows : (s : Symbol) (l : List (Term Variable)) → before s l ≡ some m → (topOf m ≡ some s) × (after m ≡ l)
+  unfolding before topOf after
+  before-shows (atomSymbol a) l e = let q : m ≡ atom a ∷ l = cc in rw q (refl, refl)
+  before-shows (variableSymbol x) l e = let q : m ≡ variable x ∷ l = cc in rw q (refl, refl)
+  before-shows pairSymbol [] e = absurd (none≢some _ e)
+  before-shows pairSymbol (t ∷ []) e = absurd (none≢some _ e)
+  before-shows pairSymbol (t ∷ u ∷ l) e = let q : m ≡ pair t u ∷ l = cc in rw q (refl, refl)
+  before-shows (encryptionSymbol k) [] e = absurd (none≢some _ e)
+  before-shows (encryptionSymbol k) (t ∷ l) e = let q : m ≡ encrypted k t ∷ l = cc in rw q (refl, refl)
+
+  -- A symbol that is kept makes the same of replaced terms.
+  before-replaced : (by : Variable → Term Variable) (s : Symbol) → Keeps by s → (l : List (Term Variable)) → before s l ≡ some m
+      → before s (map (replace by) l) ≡ some (map (replace by) m)
+  unfolding before replace
+  before-replaced by (atomSymbol a) k l e = let q : m ≡ atom a ∷ l = cc in rw q refl
+  before-replaced by (variableSymbol x) k l e = let q : m ≡ variable x ∷ l = cc in rw q (rw (k x refl) refl)
+  before-replaced by pairSymbol k [] e = absurd (none≢some _ e)
+  before-replaced by pairSymbol k (t ∷ []) e = absurd (none≢some _ e)
+  before-replaced by pairSymbol k (t ∷ u ∷ l) e = let q : m ≡ pair t u ∷ l = cc in rw q refl
+  before-replaced by (encryptionSymbol n) k [] e = absurd (none≢some _ e)
+  before-replaced by (encryptionSymbol n) k (t ∷ l) e = let q : m ≡ encrypted n t ∷ l = cc in rw q refl
+
+-- The first terms of entries that read as these.
+front-reads : {e : List ℕ} {l : List (Term Variable)} → Reads e l → (n : ℕ) → frontOf n e ≡ take n l
+unfolding frontOf
+front-reads r n = ap (λ (o : Option (List (Term Variable))). take n (listOf o)) (r .is)
+
+-- There is an entry for each of the terms.
+reads-room : (l : List (Term Variable)) {e : List ℕ} → Reads e l → 4 * length l ≤ length e
+reads-room [] r = omega arith
+reads-room (t ∷ l) {e} r = omega (arith, reads-room l (past t r), fits t r, size-positive t, length-drop (4 * size t) e)
+
+front : {n : ℕ} {e : List ℕ} {l : List (Term Variable)} → Reads e l → n ≤ length l → Front n e
+front {l = l} r h = record { all = l; reads = r; enough = h; room = omega (arith, reads-room l r) }
+
+-- How many terms are left to compare after this entry.
+abbrev pub next : ℕ → List ℕ → ℕ
+next need e = need - 1 + childrenOf (tagAt e)
+
+-- The first entry as a symbol, and the first terms as what that symbol makes of those after it.
+pub record Opened (need : ℕ) (e : List ℕ) : Type 0 where
+  pub symbol : Symbol
+  pub tag : tagAt e ≡ tagOf symbol
+  pub value : valueAt e ≡ valueOf symbol
+  pub below : Front (next need e) (from 4 e)
+  pub makes : before symbol (frontOf (next need e) (from 4 e)) ≡ some (frontOf need e)
+
+opening : (s : Symbol) (need k : ℕ) {e : List ℕ} (all rest : List (Term Variable)) → Reads e all → Reads (drop 4 e) rest → tagAt e ≡ tagOf s
+    → valueAt e ≡ valueOf s → next need e ≡ k → k ≤ length rest → before s (take k rest) ≡ some (take need all) → Opened need e
+opening s need k {e} all rest reads below tag value is enough makes =
+    let there : Reads (from 4 e) rest = rw part-to-end below in
+    record {
+      symbol = s;
+      tag = tag;
+      value = value;
+      below = front there (rw is enough);
+      makes = rw (is, front-reads there, front-reads reads) makes;
+    }
+
+-- Where a term is left, the entries begin with one.
+front-some : {A : Type 0} {need : ℕ} {e : List ℕ} → Front need e → ¬ (need ≡ 0)
+    → ((t : Term Variable) (l : List (Term Variable)) → Reads e (t ∷ l) → need ≤ suc (length l) → A) → A
+front-some {A} {need} {e} f some-left then = go (f .all) (f .reads) (f .enough)
+  where
+    go : (l : List (Term Variable)) → Reads e l → need ≤ length l → A
+    go [] r h = absurd (some-left (omega arith))
+    go (t ∷ l) r h = then t l r h
+
+pub front-begins : {need : ℕ} {e : List ℕ} → Front need e → ¬ (need ≡ 0) → Begins e
+front-begins f some-left = front-some f some-left (λ t l r h. begins r)
+
+pub opened : (need : ℕ) {e : List ℕ} → Front need e → ¬ (need ≡ 0) → Opened need e
+unfolding tagOf valueOf before childrenOf
+opened zero f some-left = absurd (some-left refl)
+opened (suc n) {e} f some-left = front-some f some-left (λ t l r h. go t l r h (first r))
+  where
+    go : (t : Term Variable) (l : List (Term Variable)) → Reads e (t ∷ l) → suc n ≤ suc (length l)
+        → First (tagAt e) (valueAt e) (drop 4 e) (t ∷ l) → Opened (suc n) e
+    go t l r h (first-atom {m} g q k) =
+        let same : l ≡ m = cc in
+        let long : length l ≡ length m = ap length same in
+        opening (atomSymbol (valueAt e)) (suc n) n (t ∷ l) m r k g refl (rw g (omega arith)) (omega arith) (cc)
+    go t l r h (first-pair {t = v} {u = w} {m} g z q k) =
+        let same : l ≡ m = cc in
+        let long : length l ≡ length m = ap length same in
+        opening pairSymbol (suc n) (suc (suc n)) (t ∷ l) (v ∷ w ∷ m) r k g z (rw g (omega arith)) (omega arith) (cc)
+    go t l r h (first-encrypted {t = v} {m} g q k) =
+        let same : l ≡ m = cc in
+        let long : length l ≡ length m = ap length same in
+        opening (encryptionSymbol (valueAt e)) (suc n) (suc n) (t ∷ l) (v ∷ m) r k g refl (rw g (omega arith)) (omega arith) (cc)
+    go t l r h (first-plain {m} g z q k) =
+        let same : l ≡ m = cc in
+        let long : length l ≡ length m = ap length same in
+        opening (variableSymbol (plain (valueAt e))) (suc n) n (t ∷ l) m r k g refl (rw g (omega arith)) (omega arith) (cc)
+    go t l r h (first-marked {m} g z q k) =
+        let same : l ≡ m = cc in
+        let long : length l ≡ length m = ap length same in
+        opening (variableSymbol (marked (valueAt e))) (suc n) n (t ∷ l) m r k g refl (rw g (omega arith)) (omega arith) (cc)
+
+-- The first terms as the one that stands first, and those past it.
+pub record Parted (need : ℕ) (e : List ℕ) : Type 0 where
+  pub others : Front (need - 1) (from (4 * size (termOf e)) e)
+  pub splits : frontOf need e ≡ termOf e ∷ frontOf (need - 1) (from (4 * size (termOf e)) e)
+
+pub parted : (need : ℕ) {e : List ℕ} → Front need e → ¬ (need ≡ 0) → Parted need e
+parted zero f some-left = absurd (some-left refl)
+parted (suc n) {e} f some-left = front-some f some-left go
+  where
+    go : (t : Term Variable) (l : List (Term Variable)) → Reads e (t ∷ l) → suc n ≤ suc (length l) → Parted (suc n) e
+    go t l r h =
+        let is : termOf e ≡ t = termOf-reads r in
+        let there : Reads (from (4 * size t) e) l = rw part-to-end (past t r) in
+        let less : suc n - 1 ≡ n = omega arith in
+        record {
+          others = rw (is, less) (front there (omega arith));
+          splits = rw (is, less, front-reads there, front-reads r) refl;
+        }
+
+-- The replacement keeps the first symbol: it is no variable, or one that is replaced by itself.
+abbrev pub KeepsFirst : (Variable → Term Variable) → List ℕ → Type 0
+KeepsFirst by e = (x : Variable) → termOf e ≡ variable x → by x ≡ variable x
+
+kept : {by : Variable → Term Variable} {need : ℕ} {e : List ℕ} (o : Opened need e) → Parted need e → KeepsFirst by e → Keeps by (o .symbol)
+unfolding before
+kept o p keeps x is = let made = rw is at (o .makes) in keeps x (cc (p .splits))
+
+module _ (need : ℕ) {e f : List ℕ} (left : Front need e) (right : Front need f) (some-left : ¬ (need ≡ 0)) (by : Variable → Term Variable) where
+  -- A term against a term, and then the others.
+  pub next-term : Takes by need e f
+      ↔ ((replace by (termOf e) ≡ termOf f) × Takes by (need - 1) (from (4 * size (termOf e)) e) (from (4 * size (termOf f)) f))
+  next-term =
+      let a = parted need left some-left .splits in
+      let b = parted need right some-left .splits in
+      (λ h. (let q = rw (a, b) at (h .same) in (cc, record { same = cc })), λ h. record { same = rw (a, b) (cc (h .1 .same)) })
+
+  -- The same symbol on both sides, and then its children with the others.
+  pub next-symbol : KeepsFirst by e → SameFirst e f → Takes by need e f ↔ Takes by (next need e) (from 4 e) (from 4 f)
+  next-symbol keeps first-same =
+      let o = opened need left some-left in
+      let u = opened need right some-left in
+      let is : o .symbol ≡ u .symbol = same-symbol (o .symbol) (u .symbol) (cc) (cc) in
+      let makes = before-replaced by (o .symbol) (kept o (parted need left some-left) keeps) _ (o .makes) in
+      let makes′ : before (o .symbol) (frontOf (next need e) (from 4 f)) ≡ some (frontOf need f) = rw (is, first-same .tag) (u .makes) in (
+        λ h. record { same = sym (before-shows (o .symbol) _ (makes ∙ ap some (h .same)) .1) ∙ before-shows (o .symbol) _ makes′ .1 },
+        λ h. record { same = cc (h .same) },
+      )
+
+  -- Another symbol.
+  pub other-symbol : KeepsFirst by e → ¬ SameFirst e f → ¬ Takes by need e f
+  other-symbol keeps off h =
+      let o = opened need left some-left in
+      let u = opened need right some-left in
+      let a = before-shows (o .symbol) _ (before-replaced by (o .symbol) (kept o (parted need left some-left) keeps) _ (o .makes)) .0 in
+      let b = before-shows (u .symbol) _ (u .makes) .0 in
+      let is : o .symbol ≡ u .symbol = cc (h .same) in
+      off (record { tag = cc; value = cc })
+
+-- No term is left.
+pub none-left : {need : ℕ} (by : Variable → Term Variable) (e f : List ℕ) → need ≡ 0 → Takes by need e f
+unfolding frontOf
+none-left by e f is = record { same = rw is refl }
+
+-- The first term, where the entries begin with one.
+pub front-few : {n : ℕ} {e : List ℕ} → Begins e → n ≤ 1 → Front n e
+front-few b few = front (b .reads) (omega arith)
+
+-- One term against one.
+pub one-term : {e f : List ℕ} → Begins e → Begins f → (by : Variable → Term Variable) → Takes by 1 e f ↔ (replace by (termOf e) ≡ termOf f)
+one-term b d by =
+    let n = next-term 1 (front-few b (omega arith)) (front-few d (omega arith)) (omega arith) by in
+    (λ h. n .0 h .0, λ h. n .1 (h, none-left by _ _ refl))
+
+-- Each variable replaced by itself: the terms are the same.
+pub same-term : {e f : List ℕ} → Begins e → Begins f → Takes variable 1 e f ↔ (termOf e ≡ termOf f)
+same-term {e} b d =
+    let n = one-term b d variable in
+    (λ h. sym (replace-none (termOf e)) ∙ n .0 h, λ h. n .1 (replace-none (termOf e) ∙ h))
+
+-- An answer by tag and value.
+pub same-value : (e f : List ℕ) → tagAt e ≡ tagAt f → (a b : ℕ) → a ≡ valueAt e → b ≡ valueAt f → Says (eqb a b) (SameFirst e f)
+same-value e f tag a b p q = go (eqb a b) refl
+  where
+    go : (c : Bool) → eqb a b ≡ c → Says c (SameFirst e f)
+    go true h = let is = eqb-true a b h in record { tag = tag; value = cc }
+    go false h = λ is. eqb-false a b h (cc (is .value))
+
+-- What an answer says.
+pub said : {P : Type 0} {b : Bool} → b ≡ true → Says b P → P
+said {P} {b} is h = rw is at h
+
+pub denied : {P : Type 0} {b : Bool} → b ≡ false → Says b P → ¬ P
+denied {P} {b} is h = rw is at h
+
+-- The steps of the walk that tells whether terms are the same; k is the number of the first entry's children.
+module _ {need : ℕ} {e f : List ℕ} (ready : Front need e × Front need f) (some-left : ¬ (need ≡ 0)) where
+  pub same-below : SameFirst e f → {k : ℕ} → k ≡ childrenOf (tagAt e) → Front (need - 1 + k) (from 4 e) × Front (need - 1 + k) (from 4 f)
+  same-below first-same is = (
+    rw is (opened need (ready .0) some-left .below),
+    rw (is, first-same .tag) (opened need (ready .1) some-left .below),
+  )
+
+  pub same-step : SameFirst e f → {k : ℕ} → k ≡ childrenOf (tagAt e) → (b : Bool) → Says b (Takes variable (need - 1 + k) (from 4 e) (from 4 f))
+      → Says b (Takes variable need e f)
+  same-step first-same {k} is b says =
+      let step = next-symbol need (ready .0) (ready .1) some-left variable (λ x h. refl) first-same in
+      says-same b (step .1) (step .0) (rw is at says)
+
+  pub same-clash : ¬ SameFirst e f → ¬ Takes variable need e f
+  same-clash = other-symbol need (ready .0) (ready .1) some-left variable (λ x h. refl)

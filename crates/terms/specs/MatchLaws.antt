@@ -1,0 +1,285 @@
+-- Laws of matching by a walk over the pattern's entries left: slots of variables, bindings, and a step for each branch.
+use mathlib.Core.Path.{_≡_, refl, sym, _∙_}
+use mathlib.Core.Bool.{Bool, true, false}
+use mathlib.Core.List.{List, _∷_}
+use mathlib.Core.Logic.{_↔_}
+use Prim.Native.Nat.{ℕ, _+_, _*_, _-_, _<_, _≤_}
+use native.Mathlib.Omega.{arith}
+use native.Mathlib.Decide.{ℕ-discrete}
+use lib.Dec.{ltb}
+use borrow.Author.Tests.{lt-ltb, le-ltb, ltb-false}
+use lib.ListN.{length, getD, set, drop, replicate, getD-replicate}
+use lib.Seq.{getD-set-same, getD-set-other}
+use borrow.Rule.Slice.PartAt.{part-to-end}
+use Rattle.terms.specs.Term.{Term, Variable, variable, atom, pair, encrypted, plain, marked, replace}
+use Rattle.terms.specs.Instance.{Matches}
+use Rattle.terms.specs.Entry.{termOf, tagAt, valueAt, size, Begins}
+use Rattle.terms.specs.EntryLaws.{First, first-atom, first-pair, first-encrypted, first-plain, first-marked, first, termOf-reads, fits}
+use Rattle.terms.specs.WalkLaws.{from}
+use Rattle.terms.specs.Solve.{Says, says-same}
+use Rattle.terms.specs.Decide.{answer, yes-of, no-of, says-answer, variable?, term?, match?}
+use Rattle.terms.specs.Front.{childrenOf, Front, Takes, slotOf, inSlot, inHalf, Bound, Agrees, SameFirst, Comparable, Bindable, Ready, Made}
+use Rattle.terms.specs.FrontLaws.{from-from, from-length, front-begins, parted, opened, next, next-term, next-symbol, other-symbol, KeepsFirst, none-left, front-few, one-term, same-term}
+
+-- The slot of a term that stands first, by its tag and value.
+pub record Slotted (tag n : ℕ) (t : Term Variable) : Type 0 where
+  pub plain-slot : tag ≡ 4 → n ≡ slotOf t
+  pub marked-slot : tag ≡ 5 → 8 + n ≡ slotOf t
+  pub no-slot : ¬ (tag ≡ 4) → ¬ (tag ≡ 5) → 16 ≡ slotOf t
+  pub in-slot : slotOf t < 16 → t ≡ variable (inSlot (slotOf t))
+  pub off-slot : 16 ≤ slotOf t → (x : Variable) → ¬ (t ≡ variable x)
+
+plain-slotted : (n : ℕ) → n < 8 → Slotted 4 n (variable (plain n))
+unfolding slotOf inSlot
+plain-slotted n small = record {
+  plain-slot = λ h. refl;
+  marked-slot = λ h. absurd (omega arith);
+  no-slot = λ h i. absurd (h refl);
+  in-slot = λ h. rw (lt-ltb n 8 small) refl;
+  off-slot = λ h x. absurd (omega arith);
+}
+
+marked-slotted : (n : ℕ) → n < 8 → Slotted 5 n (variable (marked n))
+unfolding slotOf inSlot
+marked-slotted n small = record {
+  plain-slot = λ h. absurd (omega arith);
+  marked-slot = λ h. refl;
+  no-slot = λ h i. absurd (i refl);
+  in-slot = λ h. (let back : 8 + n - 8 ≡ n = omega arith in rw (le-ltb (8 + n) 8 (omega arith), back) refl);
+  off-slot = λ h x. absurd (omega arith);
+}
+
+symbol-slotted : (tag n : ℕ) (t : Term Variable) → tag < 4 → slotOf t ≡ 16 → ((x : Variable) → ¬ (t ≡ variable x)) → Slotted tag n t
+symbol-slotted tag n t small is off = record {
+  plain-slot = λ h. absurd (omega arith);
+  marked-slot = λ h. absurd (omega arith);
+  no-slot = λ h i. sym is;
+  in-slot = λ h. absurd (omega arith);
+  off-slot = λ h. off;
+}
+
+pub slot-first : {e : List ℕ} → Begins e → Slotted (tagAt e) (valueAt e) (termOf e)
+unfolding slotOf
+slot-first {e} b = go (first (b .reads))
+  where
+    go : First (tagAt e) (valueAt e) (drop 4 e) (b .term ∷ b .others) → Slotted (tagAt e) (valueAt e) (termOf e)
+    go (first-atom g q k) = rw (termOf-reads (rw q at (b .reads)))
+        (symbol-slotted (tagAt e) (valueAt e) (atom (valueAt e)) (omega arith) refl (λ x h. (let z : _≡_ {A = ℕ} 0 1 = cc in omega arith)))
+    go (first-pair {t} {u} g n q k) = rw (termOf-reads (rw q at (b .reads)))
+        (symbol-slotted (tagAt e) (valueAt e) (pair t u) (omega arith) refl (λ x h. (let z : _≡_ {A = ℕ} 0 1 = cc in omega arith)))
+    go (first-encrypted {t} g q k) = rw (termOf-reads (rw q at (b .reads)))
+        (symbol-slotted (tagAt e) (valueAt e) (encrypted (valueAt e) t) (omega arith) refl (λ x h. (let z : _≡_ {A = ℕ} 0 1 = cc in omega arith)))
+    go (first-plain g n q k) = rw (termOf-reads (rw q at (b .reads)), g) (plain-slotted (valueAt e) n)
+    go (first-marked g n q k) = rw (termOf-reads (rw q at (b .reads)), g) (marked-slotted (valueAt e) n)
+
+-- What the answer of a decision says.
+answered : {P : Type 0} (b : Bool) (d : Dec P) → b ≡ answer d → Says b P
+answered true d is = yes-of d (sym is)
+answered false d is = no-of d (sym is)
+
+-- Where every slot holds 255, nothing is bound.
+none-bound : (i : ℕ) → ¬ Bound (replicate 16 255) i
+none-bound i h = h .1 (getD-replicate 16 i 255 0 (h .0))
+
+-- The replacement of the bindings.
+slot-of-slot : (i : ℕ) → slotOf (variable (inSlot i)) ≡ i
+unfolding slotOf inSlot
+slot-of-slot i = go (ltb i 8) refl
+  where
+    go : (b : Bool) → ltb i 8 ≡ b → slotOf (variable (inHalf b i)) ≡ i
+    go true h = refl
+    go false h = omega (arith, ltb-false i 8 h)
+
+bindings : (t bound : List ℕ) → Variable → Term Variable
+bindings t bound x = termOf (from (4 * getD bound (slotOf (variable x)) 0) t)
+
+bindings-agree : (t bound : List ℕ) → Agrees t bound (bindings t bound)
+unfolding bindings
+bindings-agree t bound = record { held = λ i h. rw (slot-of-slot i) refl }
+
+-- A term that begins past byte n is within.
+begins-within : (n : ℕ) (e : List ℕ) → Begins (from n e) → n + 4 ≤ length e
+begins-within n e b = omega (arith, b .room, from-length n e)
+
+term-within : (n : ℕ) (e : List ℕ) → Begins (from n e) → n + 4 * size (termOf (from n e)) ≤ length e
+term-within n e b =
+    let is : termOf (from n e) ≡ b .term = termOf-reads (b .reads) in
+    let room : 4 * size (termOf (from n e)) ≤ length (from n e) = rw is (fits (b .term) (b .reads)) in
+    omega (arith, from-length n e, begins-within n e b)
+
+pub held-within : {t : List ℕ} {old at : ℕ} → Comparable t old at → ¬ (old ≡ 255) → 4 * old + 4 ≤ length t
+held-within {t} {old} both off = begins-within (4 * old) t (both .held off)
+
+-- A slot that holds nothing; one that holds a term, by the answer whether the terms are the same.
+pub free-slot : {t : List ℕ} {old at : ℕ} → old ≡ 255 → Bindable t old at
+free-slot is = record { same = λ off. absurd (off is) }
+
+pub held-slot : {t : List ℕ} {old at : ℕ} → Comparable t old at → ¬ (old ≡ 255) → (b : Bool)
+    (d : Dec (termOf (from (4 * old) t) ≡ termOf (from (4 * at) t))) → b ≡ answer d → Says b (Bindable t old at)
+held-slot both off b d is = says-same b (λ h. record { same = λ o. h }) (λ h. h .same off) (answered b d is)
+
+-- Bound so, a replacement agrees if it agreed before and replaces the slot's variable by that term.
+module _ (t bound : List ℕ) (x at : ℕ) (slot : x < 16) (long : x < length bound) (entry : ¬ (at ≡ 255)) where
+  still : (i : ℕ) → ¬ (i ≡ x) → getD (set bound x at) i 0 ≡ getD bound i 0
+  still i off = getD-set-other bound x i at 0 off
+
+  new : {i : ℕ} → i ≡ x → getD (set bound x at) i 0 ≡ at
+  new is = rw is (getD-set-same bound x at 0 long)
+
+  bound-cases : (P : ℕ → Type 0) (i : ℕ) → (i ≡ x → P at) → (¬ (i ≡ x) → P (getD bound i 0)) → P (getD (set bound x at) i 0)
+  bound-cases P i here there = go (ℕ-discrete i x)
+    where
+      go : Dec (i ≡ x) → P (getD (set bound x at) i 0)
+      go (yes is) = rw (new is) (here is)
+      go (no off) = rw (still i off) (there off)
+
+  bind-agrees : (by : Variable → Term Variable) → Agrees t bound by → by (inSlot x) ≡ termOf (from (4 * at) t) → Agrees t (set bound x at) by
+  bind-agrees by a new = record {
+    held = λ i. bound-cases (λ k. (i < 16) × ¬ (k ≡ 255) → by (inSlot i) ≡ termOf (from (4 * k) t)) i (λ is h. rw is new) (λ off h. a .held i h);
+  }
+
+  bind-held : ((i : ℕ) → Bound bound i → Begins (from (4 * getD bound i 0) t)) → Begins (from (4 * at) t)
+      → (i : ℕ) → Bound (set bound x at) i → Begins (from (4 * getD (set bound x at) i 0) t)
+  bind-held held b i = bound-cases (λ k. (i < 16) × ¬ (k ≡ 255) → Begins (from (4 * k) t)) i (λ is h. b) (λ off h. held i h)
+
+  bound-new : (by : Variable → Term Variable) → Agrees t (set bound x at) by → by (inSlot x) ≡ termOf (from (4 * at) t)
+  bound-new by a = let is = new refl in rw is at (a .held x (slot, rw is entry))
+
+  bound-old : (by : Variable → Term Variable) → Bindable t (getD bound x 0) at → Agrees t (set bound x at) by → Agrees t bound by
+  bound-old by free a = record { held = λ i h. go i h (ℕ-discrete i x) }
+    where
+      go : (i : ℕ) → Bound bound i → Dec (i ≡ x) → by (inSlot i) ≡ termOf (from (4 * getD bound i 0) t)
+      go i h (yes is) = rw is (bound-new by a ∙ sym (free .same (rw is at (h .1))))
+      go i h (no off) = rw (still i off) at (a .held i (rw (still i off) h))
+
+-- Nothing is left to compare.
+pub made-none : {p t bound : List ℕ} {at need : ℕ} → need ≡ 0 → Made p t at need bound
+made-none {p} {t} {bound} {at} is = record { by = bindings t bound; agrees = bindings-agree t bound; takes = none-left _ p (from (4 * at) t) is }
+
+module _ {p t bound : List ℕ} {at need : ℕ} (r : Ready p t at need bound) (some-left : ¬ (need ≡ 0)) where
+  pub pattern-begins : Begins p
+  pattern-begins = front-begins (r .pattern) some-left
+
+  pub subject-begins : Begins (from (4 * at) t)
+  subject-begins = front-begins (r .subject) some-left
+
+  entry-small : at ≤ 62
+  entry-small = omega (arith, r .inside, r .small)
+
+  -- A variable stands first: past its term, with that term bound.
+  module _ {x : ℕ} (slot : x ≡ slotOf (termOf p)) (low : x < 16) (long : x < length bound) where
+    first-variable : termOf p ≡ variable (inSlot x)
+    first-variable = rw slot (slot-first pattern-begins .in-slot (rw slot at low))
+
+    past-variable : from (4 * size (termOf p)) p ≡ from 4 p
+    unfolding size
+    past-variable = rw first-variable refl
+
+    past-term : {s : ℕ} → s ≡ size (termOf (from (4 * at) t)) → from (4 * size (termOf (from (4 * at) t))) (from (4 * at) t) ≡ from (4 * (at + s)) t
+    past-term {s} is = let there : 4 * at + 4 * s ≡ 4 * (at + s) = omega arith in rw (← is, from-from, there) refl
+
+    pub comparable : Comparable t (getD bound x 0) at
+    comparable = record { held = λ off. r .held x (low, off); here = subject-begins; inside = omega (arith, r .inside) }
+
+    pub variable-ready : {s : ℕ} → s ≡ size (termOf (from (4 * at) t)) → {more : List ℕ} → more ≡ set bound x at → Ready (from 4 p) t (at + s) (need - 1) more
+    variable-ready {s} is new =
+        let others : Front (need - 1) (from (4 * (at + s)) t) = rw (past-term is) at (parted need (r .subject) some-left .others) in
+        rw new (record {
+          pattern = rw past-variable at (parted need (r .pattern) some-left .others);
+          subject = others;
+          held = bind-held t bound x at low long (omega (arith, entry-small)) (r .held) subject-begins;
+          inside = omega (arith, term-within (4 * at) t subject-begins, from-length (4 * (at + s)) t, others .room);
+          small = r .small;
+        })
+
+    variable-term : {s : ℕ} → s ≡ size (termOf (from (4 * at) t)) → (by : Variable → Term Variable) → Takes by need p (from (4 * at) t)
+        ↔ ((by (inSlot x) ≡ termOf (from (4 * at) t)) × Takes by (need - 1) (from 4 p) (from (4 * (at + s)) t))
+    unfolding replace
+    variable-term is by = rw (past-variable, past-term is, first-variable) at (next-term need (r .pattern) (r .subject) some-left by)
+
+    variable-made : {s : ℕ} → s ≡ size (termOf (from (4 * at) t)) → Bindable t (getD bound x 0) at
+        → Made p t at need bound ↔ Made (from 4 p) t (at + s) (need - 1) (set bound x at)
+    variable-made {s} is free = (
+      λ m. (let h = variable-term is (m .by) .0 (m .takes) in record {
+        by = m .by;
+        agrees = bind-agrees t bound x at low long entry (m .by) (m .agrees) (h .0);
+        takes = h .1;
+      }),
+      λ m. record {
+        by = m .by;
+        agrees = bound-old t bound x at low long entry (m .by) free (m .agrees);
+        takes = variable-term is (m .by) .1 (bound-new t bound x at low long entry (m .by) (m .agrees), m .takes);
+      },
+    )
+      where
+        entry : ¬ (at ≡ 255)
+        entry = omega (arith, entry-small)
+
+    pub variable-step : {s : ℕ} → s ≡ size (termOf (from (4 * at) t)) → {more : List ℕ} → more ≡ set bound x at → Bindable t (getD bound x 0) at
+        → (b : Bool) → Says b (Made (from 4 p) t (at + s) (need - 1) more) → Says b (Made p t at need bound)
+    variable-step is new free b says = let m = variable-made is free in says-same b (m .1) (m .0) (rw new at says)
+
+    pub variable-clash : ¬ Bindable t (getD bound x 0) at → ¬ Made p t at need bound
+    variable-clash off m = off (record { same = λ is. sym (m .agrees .held x (low, is)) ∙ variable-term refl (m .by) .0 (m .takes) .0 })
+
+  -- A symbol stands first: its children are next, or it is not the same.
+  module _ {x : ℕ} (slot : x ≡ slotOf (termOf p)) (high : 16 ≤ x) where
+    keeps : (by : Variable → Term Variable) → KeepsFirst by p
+    keeps by y is = absurd (slot-first pattern-begins .off-slot (rw slot at high) y is)
+
+    past-entry : from 4 (from (4 * at) t) ≡ from (4 * (at + 1)) t
+    past-entry = let there : 4 * at + 4 ≡ 4 * (at + 1) = omega arith in rw (from-from, there) refl
+
+    pub symbol-ready : SameFirst p (from (4 * at) t) → {k : ℕ} → k ≡ childrenOf (tagAt p) → Ready (from 4 p) t (at + 1) (need - 1 + k) bound
+    symbol-ready same is =
+        let children : Front (next need p) (from (4 * (at + 1)) t) = rw (past-entry, ← same .tag) at (opened need (r .subject) some-left .below) in
+        rw is (record {
+          pattern = opened need (r .pattern) some-left .below;
+          subject = children;
+          held = r .held;
+          inside = omega (arith, begins-within (4 * at) t subject-begins, from-length (4 * (at + 1)) t, children .room);
+          small = r .small;
+        })
+
+    symbol-made : SameFirst p (from (4 * at) t) → Made p t at need bound ↔ Made (from 4 p) t (at + 1) (next need p) bound
+    symbol-made is = (
+      λ m. record { by = m .by; agrees = m .agrees; takes = step (m .by) .0 (m .takes) },
+      λ m. record { by = m .by; agrees = m .agrees; takes = step (m .by) .1 (m .takes) },
+    )
+      where
+        step : (by : Variable → Term Variable) → Takes by need p (from (4 * at) t) ↔ Takes by (next need p) (from 4 p) (from (4 * (at + 1)) t)
+        step by = rw past-entry at (next-symbol need (r .pattern) (r .subject) some-left by (keeps by) is)
+
+    pub symbol-step : SameFirst p (from (4 * at) t) → {k : ℕ} → k ≡ childrenOf (tagAt p)
+        → (b : Bool) → Says b (Made (from 4 p) t (at + 1) (need - 1 + k) bound) → Says b (Made p t at need bound)
+    symbol-step same is b says = let m = symbol-made same in says-same b (m .1) (m .0) (rw is at says)
+
+    pub symbol-clash : ¬ SameFirst p (from (4 * at) t) → ¬ Made p t at need bound
+    symbol-clash off m = other-symbol need (r .pattern) (r .subject) some-left (m .by) (keeps (m .by)) off (m .takes)
+
+-- From the first entry on, with nothing bound: the pattern matches.
+from-none : (e : List ℕ) → from (4 * 0) e ≡ e
+from-none e = part-to-end e 0
+
+pub match-ready : {p t : List ℕ} {need : ℕ} → Begins p → Begins t → length t ≤ 252 → need ≤ 1 → Ready p t 0 need (replicate 16 255)
+match-ready {p} {t} b d small few = record {
+  pattern = front-few b few;
+  subject = rw (from-none t) (front-few d few);
+  held = λ i h. absurd (none-bound i h);
+  inside = omega (arith, d .room);
+  small = small;
+}
+
+match-made : {p t : List ℕ} → Begins p → Begins t → Made p t 0 1 (replicate 16 255) ↔ Matches (termOf p) (termOf t)
+match-made {p} {t} b d = (
+  λ m. record { by = m .by; same = one-term b d (m .by) .0 (rw (from-none t) at (m .takes)) },
+  λ m. record { by = m .by; agrees = record { held = λ i h. absurd (none-bound i h) }; takes = rw (from-none t) (one-term b d (m .by) .1 (m .same)) },
+)
+
+-- The answers of the walks are those of the decisions.
+pub match-answer : {p t : List ℕ} → Begins p → Begins t → (b : Bool) → Says b (Made p t 0 1 (replicate 16 255))
+    → b ≡ answer (match? variable? variable? (termOf p) (termOf t))
+match-answer b d r says = let m = match-made b d in says-answer r (says-same r (m .0) (m .1) says) (match? variable? variable? _ _)
+
+pub same-answer : {e f : List ℕ} → Begins e → Begins f → (b : Bool) → Says b (Takes variable 1 e f) → b ≡ answer (term? variable? (termOf e) (termOf f))
+same-answer b d r says = let m = same-term b d in says-answer r (says-same r (m .0) (m .1) says) (term? variable? _ _)

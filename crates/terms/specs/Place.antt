@@ -1,0 +1,43 @@
+-- Places (document 01: "A place is a subterm's spot. The key of an encryption is no place").
+use mathlib.Core.Path.{_≡_}
+use mathlib.Core.List.{List, [], _∷_, _++_}
+use mathlib.Core.Option.{Option, none, some}
+use Rattle.terms.specs.Term.{Term, variable, atom, pair, encrypted}
+
+-- From a term to a part of it: the halves of a pair, and what an encryption holds. There is no turn to the key.
+pub data Turn : Type 0 where
+  left : Turn
+  right : Turn
+  inside : Turn
+  deriving Discrete as Turn-discrete
+
+-- A place: the turns that lead to it from the root.
+abbrev pub Place : Type 0
+Place = List Turn
+
+-- The subterm that stands at a place, if the term has that place.
+unfoldable pub subtermAt : {X : Type 0} → Place → Term X → Option (Term X)
+subtermAt [] t = some t
+subtermAt (left ∷ p) (pair t u) = subtermAt p t
+subtermAt (right ∷ p) (pair t u) = subtermAt p u
+subtermAt (inside ∷ p) (encrypted k t) = subtermAt p t
+subtermAt (left ∷ p) (variable x) = none
+subtermAt (left ∷ p) (atom a) = none
+subtermAt (left ∷ p) (encrypted k t) = none
+subtermAt (right ∷ p) (variable x) = none
+subtermAt (right ∷ p) (atom a) = none
+subtermAt (right ∷ p) (encrypted k t) = none
+subtermAt (inside ∷ p) (variable x) = none
+subtermAt (inside ∷ p) (atom a) = none
+subtermAt (inside ∷ p) (pair t u) = none
+
+-- Place q stands strictly above place p.
+pub record StrictlyAbove (q p : Place) : Type 0 where
+  pub turn : Turn
+  pub rest : Place
+  pub split : p ≡ q ++ (turn ∷ rest)
+
+-- Place q stands at or above place p.
+pub record AtOrAbove (q p : Place) : Type 0 where
+  pub rest : Place
+  pub split : p ≡ q ++ rest

@@ -1,0 +1,41 @@
+-- Messages and terms (document 01, "Messages, intruder, runs").
+use mathlib.Core.Path.{_≡_}
+use Prim.Native.Nat.{ℕ, _≤_}
+
+-- A term over the variables X: a variable, an atom by its number, a pair (t, u), or {t}k, t encrypted under the key
+-- atom k. A wider key (any number may stand there) only makes what is proved of runs stronger.
+pub data Term (X : Type 0) : Type 0 where
+  variable : X → Term X
+  atom : ℕ → Term X
+  pair : Term X → Term X → Term X
+  encrypted : ℕ → Term X → Term X
+  deriving Discrete as Term-discrete
+
+-- A message is a term that holds no variable.
+abbrev pub Message : Type 0
+Message = Term ⊥
+
+-- Foreign atoms, numbered from 1,000 up, are in no file; all are nonces and known.
+abbrev pub Foreign : ℕ → Type 0
+Foreign a = 1000 ≤ a
+
+-- The variables of a file: a marked variable is never the same as a plain one of its number.
+pub data Variable : Type 0 where
+  plain : ℕ → Variable
+  marked : ℕ → Variable
+  deriving Discrete as Variable-discrete
+
+-- A term with each variable replaced, by the same term at all its occurrences.
+unfoldable pub replace : {X Y : Type 0} → (X → Term Y) → Term X → Term Y
+replace by (variable x) = by x
+replace by (atom a) = atom a
+replace by (pair t u) = pair (replace by t) (replace by u)
+replace by (encrypted k t) = encrypted k (replace by t)
+
+-- An instance replaces each variable by a finite message.
+abbrev pub instance : {X : Type 0} → (X → Message) → Term X → Message
+instance by t = replace by t
+
+-- A message, read as a term.
+unfoldable pub asTerm : {X : Type 0} → Message → Term X
+asTerm m = replace (λ x. absurd x) m

@@ -1,0 +1,261 @@
+-- The graph of two terms has a valid valuation that gives both roots one message if and only if the terms share an
+-- instance.
+use mathlib.Core.Path.{_≡_, refl, sym, ap, ap₂, _∙_, subst}
+use mathlib.Core.Bool.{Bool, true, false}
+use mathlib.Core.List.{List, [], _∷_}
+use Prim.Native.Nat.{ℕ, zero, suc, _+_, _*_, _-_, _%_, _<_, _≤_}
+use native.Mathlib.Omega.{arith}
+use native.Mathlib.Nat.{zero-add}
+use lib.Dec.{ltb, eqb}
+use borrow.Author.Tests.{lt-ltb, le-ltb, ltb-true, ltb-false, eq-eqb}
+use lib.ListN.{length, getD, drop, length-drop, List·getD-eq-default}
+use lib.Seq.{drop-drop, getD-drop}
+use Rattle.terms.specs.Term.{Term, Message, Variable, variable, atom, pair, encrypted, plain, marked, replace}
+use Rattle.terms.specs.Instance.{Matches, Share}
+use Rattle.terms.specs.Entry.{termsOf, termOf, tagAt, valueAt, size, Reads, Begins}
+use Rattle.terms.specs.EntryLaws.{termOf-reads, past, fits, begins, four, suffix, reads-atom, reads-pair, reads-encrypted, reads-plain, reads-marked, size-positive}
+use Rattle.terms.specs.WalkLaws.{from, pair-first, encryption-first}
+use borrow.Rule.Slice.PartAt.{part-to-end}
+use Rattle.terms.specs.Graph.{Node, free, atomNode, pairNode, encryptionNode, IsSymbol, made, Valid}
+use Rattle.terms.specs.TermGraph.{tagIn, valueIn, homeBy, home, rightIn, nodeBy, third, region, nodeTag, nodeValue, firstChild, secondChild, nodeOf, freeTag}
+
+-- The first entry of what is left from entry k on is entry k.
+pub tag-in : (e : List ℕ) (k : ℕ) → tagIn e k ≡ tagAt (drop (4 * k) e)
+tag-in e k = let here : 4 * k + 0 ≡ 4 * k = omega arith in sym (getD-drop (4 * k) e 0 0 ∙ ap (λ (n : ℕ). getD e n 0) here)
+
+pub value-in : (e : List ℕ) (k : ℕ) → valueIn e k ≡ valueAt (drop (4 * k) e)
+value-in e k = sym (ap₂ (λ (x y : ℕ). x + 256 * y) (getD-drop (4 * k) e 2 0) (getD-drop (4 * k) e 3 0))
+
+-- The next entry, and the one past the left half of a pair.
+next-entry : (e : List ℕ) (k : ℕ) → drop 4 (drop (4 * k) e) ≡ drop (4 * (k + 1)) e
+next-entry e k = let far : 4 * k + 4 ≡ 4 * (k + 1) = omega arith in rw (drop-drop, far)
+
+pub right-in : (e : List ℕ) (k : ℕ) {t : Term Variable} {l : List (Term Variable)} → Reads (drop (4 * (k + 1)) e) (t ∷ l) → rightIn e k ≡ k + 1 + size t
+unfolding rightIn
+right-in e k r = ap (λ (x : Term Variable). k + 1 + size x) (termOf-reads r)
+
+-- A pair stands at entry k: where its halves stand.
+pub record PairIn (e : List ℕ) (k : ℕ) (t u : Term Variable) (l : List (Term Variable)) : Type 0 where
+  pub tag : tagIn e k ≡ 2
+  pub left : Reads (drop (4 * (k + 1)) e) (t ∷ u ∷ l)
+  pub right : Reads (drop (4 * rightIn e k) e) (u ∷ l)
+  pub left-fits : 4 * (k + 1) < length e
+  pub right-fits : 4 * rightIn e k < length e
+  pub after : k < rightIn e k
+
+pub pair-in : (e : List ℕ) (k : ℕ) {t u : Term Variable} {l : List (Term Variable)} → Reads (drop (4 * k) e) (pair t u ∷ l) → PairIn e k t u l
+pair-in e k {t} {u} {l} r =
+    let f = reads-pair r in
+    let left : Reads (drop (4 * (k + 1)) e) (t ∷ u ∷ l) = rw next-entry at (f .2) in
+    let to : rightIn e k ≡ k + 1 + size t = right-in e k left in
+    let far : 4 * (k + 1) + 4 * size t ≡ 4 * rightIn e k = omega arith in
+    let right : Reads (drop (4 * rightIn e k) e) (u ∷ l) = rw (drop-drop, far) at (past t left) in
+    let room = four left in
+    let more = four right in
+    record {
+      tag = tag-in e k ∙ f .0;
+      left = left;
+      right = right;
+      left-fits = omega (arith, length-drop (4 * (k + 1)) e);
+      right-fits = omega (arith, length-drop (4 * rightIn e k) e);
+      after = omega arith;
+    }
+
+-- An encryption stands at entry k: what it holds stands next.
+pub record EncryptionIn (e : List ℕ) (k q : ℕ) (t : Term Variable) (l : List (Term Variable)) : Type 0 where
+  pub tag : tagIn e k ≡ 3
+  pub key : valueIn e k ≡ q
+  pub content : Reads (drop (4 * (k + 1)) e) (t ∷ l)
+  pub content-fits : 4 * (k + 1) < length e
+
+pub encryption-in : (e : List ℕ) (k : ℕ) {q : ℕ} {t : Term Variable} {l : List (Term Variable)} → Reads (drop (4 * k) e) (encrypted q t ∷ l) → EncryptionIn e k q t l
+encryption-in e k {q} {t} {l} r =
+    let f = reads-encrypted r in
+    let below : Reads (drop (4 * (k + 1)) e) (t ∷ l) = rw next-entry at (f .2) in
+    let room = four below in
+    record { tag = tag-in e k ∙ f .0; key = value-in e k ∙ f .1; content = below; content-fits = omega (arith, length-drop (4 * (k + 1)) e) }
+
+-- One side of the graph: entries e from node base on, variables from slots on.
+module _ (node : ℕ → Node) (e : List ℕ) (base slots : ℕ) (short : length e ≤ 252)
+    (at-side : (k : ℕ) → k < 64 → node (base + k) ≡ nodeBy (tagIn e k) (valueIn e k) (home e base slots (k + 1)) (home e base slots (rightIn e k))) where
+  node-tag : {k n : ℕ} → k < 64 → tagIn e k ≡ n → node (base + k) ≡ nodeBy n (valueIn e k) (home e base slots (k + 1)) (home e base slots (rightIn e k))
+  node-tag {k} h g = at-side k h ∙ ap (λ (m : ℕ). nodeBy m (valueIn e k) (home e base slots (k + 1)) (home e base slots (rightIn e k))) g
+
+  home-tag : (k : ℕ) {n : ℕ} → tagIn e k ≡ n → home e base slots k ≡ homeBy n (valueIn e k) slots (base + k)
+  unfolding home
+  home-tag k g = ap (λ (m : ℕ). homeBy m (valueIn e k) slots (base + k)) g
+
+  module _ (v : ℕ → Message) (by : Variable → Message)
+      (plains : (x : ℕ) → x < 8 → v (slots + x) ≡ by (plain x)) (markeds : (x : ℕ) → x < 8 → v (slots + 8 + x) ≡ by (marked x)) where
+    -- A variable's entry is found at its variable's node.
+    variable-value : (k : ℕ) (x : Variable) {l : List (Term Variable)} → Reads (drop (4 * k) e) (variable x ∷ l) → v (home e base slots k) ≡ by x
+    unfolding homeBy
+    variable-value k (plain x) r =
+        let f = reads-plain r in
+        let n : valueIn e k % 8 ≡ x = ap (λ (m : ℕ). m % 8) (value-in e k ∙ f .1) ∙ omega (arith, f .2) in
+        ap v (home-tag k (tag-in e k ∙ f .0)) ∙ ap (λ (m : ℕ). v (slots + m)) n ∙ plains x (f .2)
+    variable-value k (marked x) r =
+        let f = reads-marked r in
+        let n : valueIn e k % 8 ≡ x = ap (λ (m : ℕ). m % 8) (value-in e k ∙ f .1) ∙ omega (arith, f .2) in
+        ap v (home-tag k (tag-in e k ∙ f .0)) ∙ ap (λ (m : ℕ). v (slots + 8 + m)) n ∙ markeds x (f .2)
+
+    -- A valid valuation gives every entry's node the instance of the term that stands there.
+    pub values : Valid node v → (t : Term Variable) (k : ℕ) {l : List (Term Variable)} → k < 64 → Reads (drop (4 * k) e) (t ∷ l) → v (home e base slots k) ≡ replace by t
+    unfolding replace homeBy nodeBy made
+    values valid (variable x) k h r = variable-value k x r
+    values valid (atom a) k h r =
+        let f = reads-atom r in
+        let tag : tagIn e k ≡ 1 = tag-in e k ∙ f .0 in
+        let is : node (base + k) ≡ atomNode (valueIn e k) = node-tag h tag in
+        ap v (home-tag k tag) ∙ valid .makes (base + k) (subst IsSymbol (sym is) tt) ∙ ap (made v) is ∙ ap atom (value-in e k ∙ f .1)
+    values valid (pair t u) k h r =
+        let p = pair-in e k r in
+        let is : node (base + k) ≡ pairNode (home e base slots (k + 1)) (home e base slots (rightIn e k)) = node-tag h (p .tag) in
+        let first : v (home e base slots (k + 1)) ≡ replace by t = values valid t (k + 1) (omega arith) (p .left) in
+        let second : v (home e base slots (rightIn e k)) ≡ replace by u = values valid u (rightIn e k) (omega arith) (p .right) in
+        ap v (home-tag k (p .tag)) ∙ valid .makes (base + k) (subst IsSymbol (sym is) tt) ∙ ap (made v) is ∙ ap₂ pair first second
+    values valid (encrypted q t) k h r =
+        let p = encryption-in e k r in
+        let is : node (base + k) ≡ encryptionNode (valueIn e k) (home e base slots (k + 1)) = node-tag h (p .tag) in
+        let first : v (home e base slots (k + 1)) ≡ replace by t = values valid t (k + 1) (omega arith) (p .content) in
+        ap v (home-tag k (p .tag)) ∙ valid .makes (base + k) (subst IsSymbol (sym is) tt) ∙ ap (made v) is ∙ ap₂ encrypted (p .key) first
+
+    -- The other way round: where every entry's own node has the instance of its term, the valuation is valid there.
+    module _ (own : (k : ℕ) → k < 64 → v (base + k) ≡ replace by (termOf (drop (4 * k) e))) where
+      own-value : (k : ℕ) {n : ℕ} → k < 64 → tagIn e k ≡ n → homeBy n (valueIn e k) slots (base + k) ≡ base + k → v (home e base slots k) ≡ replace by (termOf (drop (4 * k) e))
+      own-value k h g q = ap v (home-tag k g ∙ q) ∙ own k h
+
+      pub home-value : (k : ℕ) (t : Term Variable) {l : List (Term Variable)} → k < 64 → Reads (drop (4 * k) e) (t ∷ l) → v (home e base slots k) ≡ replace by t
+      unfolding replace homeBy
+      home-value k (variable x) h r = variable-value k x r
+      home-value k (atom a) h r = own-value k h (tag-in e k ∙ reads-atom r .0) refl ∙ ap (replace by) (termOf-reads r)
+      home-value k (pair t u) h r = own-value k h (tag-in e k ∙ reads-pair r .0) refl ∙ ap (replace by) (termOf-reads r)
+      home-value k (encrypted q t) h r = own-value k h (tag-in e k ∙ reads-encrypted r .0) refl ∙ ap (replace by) (termOf-reads r)
+
+      made-there : (k : ℕ) (t : Term Variable) {l : List (Term Variable)} → k < 64 → Reads (drop (4 * k) e) (t ∷ l) → IsSymbol (node (base + k)) → v (base + k) ≡ made v (node (base + k))
+      unfolding replace nodeBy made
+      made-there k (variable (plain x)) h r is = absurd (subst IsSymbol (node-tag h (tag-in e k ∙ reads-plain r .0)) is)
+      made-there k (variable (marked x)) h r is = absurd (subst IsSymbol (node-tag h (tag-in e k ∙ reads-marked r .0)) is)
+      made-there k (atom a) h r is =
+          let f = reads-atom r in
+          own k h ∙ ap (replace by) (termOf-reads r) ∙ ap atom (sym (value-in e k ∙ f .1)) ∙ ap (made v) (sym (node-tag h (tag-in e k ∙ f .0)))
+      made-there k (pair t u) h r is =
+          let p = pair-in e k r in
+          let first : v (home e base slots (k + 1)) ≡ replace by t = home-value (k + 1) t (omega arith) (p .left) in
+          let second : v (home e base slots (rightIn e k)) ≡ replace by u = home-value (rightIn e k) u (omega arith) (p .right) in
+          own k h ∙ ap (replace by) (termOf-reads r) ∙ ap₂ pair (sym first) (sym second) ∙ ap (made v) (sym (node-tag h (p .tag)))
+      made-there k (encrypted q t) h r is =
+          let p = encryption-in e k r in
+          let first : v (home e base slots (k + 1)) ≡ replace by t = home-value (k + 1) t (omega arith) (p .content) in
+          own k h ∙ ap (replace by) (termOf-reads r) ∙ ap₂ encrypted (sym (p .key)) (sym first) ∙ ap (made v) (sym (node-tag h (p .tag)))
+
+      pub side-makes : Begins e → (k : ℕ) → k < 64 → IsSymbol (node (base + k)) → v (base + k) ≡ made v (node (base + k))
+      unfolding nodeBy
+      side-makes whole k h is = go (ltb (4 * k) (length e)) refl
+        where
+          go : (b : Bool) → ltb (4 * k) (length e) ≡ b → v (base + k) ≡ made v (node (base + k))
+          go true q = let b = suffix k whole (ltb-true (4 * k) (length e) q) in made-there k (b .term) h (b .reads) is
+          go false q =
+              let past-end : tagIn e k ≡ 0 = List·getD-eq-default e 0 (ltb-false (4 * k) (length e) q) in
+              absurd (subst IsSymbol (node-tag h past-end) is)
+
+-- The two sides.
+pub left-side : (s t : List ℕ) (k : ℕ) → k < 64 → nodeOf s t (0 + k) ≡ nodeBy (tagIn s k) (valueIn s k) (home s 0 128 (k + 1)) (home s 0 128 (rightIn s k))
+unfolding nodeOf nodeTag nodeValue firstChild secondChild
+left-side s t k h = rw zero-add (simp (lt-ltb k 64 h))
+
+pub right-side : (s t : List ℕ) (k : ℕ) → k < 64 → nodeOf s t (64 + k) ≡ nodeBy (tagIn t k) (valueIn t k) (home t 64 144 (k + 1)) (home t 64 144 (rightIn t k))
+unfolding nodeOf nodeTag nodeValue firstChild secondChild
+right-side s t k h =
+    let back : 64 + k - 64 ≡ k = omega arith in
+    let low : ltb (64 + k) 64 ≡ false = le-ltb (64 + k) 64 (omega arith) in
+    let high : ltb (64 + k) 128 ≡ true = lt-ltb (64 + k) 128 (omega arith) in
+    simp (low, high, back)
+
+-- An entry with a tag lies before the end.
+pub tag-inside : (e : List ℕ) (k : ℕ) {n : ℕ} → tagIn e k ≡ suc n → 4 * k < length e
+tag-inside e k {n} g = go (ltb (4 * k) (length e)) refl
+  where
+    go : (b : Bool) → ltb (4 * k) (length e) ≡ b → 4 * k < length e
+    go true q = ltb-true (4 * k) (length e) q
+    go false q = let none : tagIn e k ≡ 0 = List·getD-eq-default e 0 (ltb-false (4 * k) (length e) q) in omega arith
+
+-- Tag 2 at entry k of terms: a pair stands there.
+pub record PairThere (e : List ℕ) (k : ℕ) : Type 0 where
+  pub left : Term Variable
+  pub right : Term Variable
+  pub others : List (Term Variable)
+  pub is : PairIn e k left right others
+
+pub pair-there : {e : List ℕ} (k : ℕ) → Begins e → tagIn e k ≡ 2 → PairThere e k
+pair-there {e} k b g =
+    let here = suffix k b (tag-inside e k g) in
+    let p = pair-first here (sym (tag-in e k) ∙ g) in
+    record { left = p .left; right = p .right; others = p .others; is = pair-in e k (p .whole) }
+
+-- Tag 3: an encryption.
+pub record EncryptionThere (e : List ℕ) (k : ℕ) : Type 0 where
+  pub content : Term Variable
+  pub others : List (Term Variable)
+  pub is : EncryptionIn e k (valueIn e k) content others
+
+pub encryption-there : {e : List ℕ} (k : ℕ) → Begins e → tagIn e k ≡ 3 → EncryptionThere e k
+encryption-there {e} k b g =
+    let here = suffix k b (tag-inside e k g) in
+    let p = encryption-first here (sym (tag-in e k) ∙ g) in
+    let whole : Reads (drop (4 * k) e) (encrypted (valueIn e k) (p .content) ∷ p .others) = rw value-in (p .whole) in
+    record { content = p .content; others = p .others; is = encryption-in e k whole }
+
+-- What the function that finds a pair's right half is given and promises.
+pub right-part : {e : List ℕ} {k : ℕ} → PairThere e k → Begins (from (4 * (k + 1)) e)
+right-part {e} {k} p = rw part-to-end (begins (p .is .left))
+
+pub right-found : {e : List ℕ} {k r : ℕ} → PairThere e k → r ≡ size (termOf (from (4 * (k + 1)) e)) → k + 1 + r ≡ rightIn e k
+unfolding rightIn
+right-found {e} {k} {r} p q = ap (λ (n : ℕ). k + 1 + n) (q ∙ ap (λ (l : List ℕ). size (termOf l)) (part-to-end e (4 * (k + 1))))
+
+-- The node of an entry, by its tag.
+module _ (e : List ℕ) (base slots k : ℕ) where
+  pub home-plain : {n : ℕ} → tagIn e k ≡ 4 → n ≡ valueIn e k → slots + n % 8 ≡ home e base slots k
+  unfolding home homeBy
+  home-plain {n} g q = ap (λ (m : ℕ). slots + m % 8) q ∙ ap (λ (m : ℕ). homeBy m (valueIn e k) slots (base + k)) (sym g)
+
+  pub home-marked : {n : ℕ} → tagIn e k ≡ 5 → n ≡ valueIn e k → slots + 8 + n % 8 ≡ home e base slots k
+  unfolding home homeBy
+  home-marked {n} g q = ap (λ (m : ℕ). slots + 8 + m % 8) q ∙ ap (λ (m : ℕ). homeBy m (valueIn e k) slots (base + k)) (sym g)
+
+  pub home-own : (tagIn e k ≡ 4 → ⊥) → (tagIn e k ≡ 5 → ⊥) → base + k ≡ home e base slots k
+  unfolding home homeBy
+  home-own no-plain no-marked = go (tagIn e k) no-plain no-marked
+    where
+      go : (n : ℕ) → (n ≡ 4 → ⊥) → (n ≡ 5 → ⊥) → base + k ≡ homeBy n (valueIn e k) slots (base + k)
+      go zero p q = refl
+      go (suc zero) p q = refl
+      go (suc (suc zero)) p q = refl
+      go (suc (suc (suc zero))) p q = refl
+      go (suc (suc (suc (suc zero)))) p q = absurd (p refl)
+      go (suc (suc (suc (suc (suc zero))))) p q = absurd (q refl)
+      go (suc (suc (suc (suc (suc (suc m)))))) p q = refl
+
+-- The tag of a node, in each of its three regions.
+module _ (s t : List ℕ) {i : ℕ} where
+  pub left-tag : i < 64 → nodeTag s t i ≡ tagIn s i
+  unfolding nodeTag
+  left-tag h = rw (lt-ltb i 64 h)
+
+  pub right-tag : 64 ≤ i → i < 128 → nodeTag s t i ≡ tagIn t (i - 64)
+  unfolding nodeTag
+  right-tag l h = rw (le-ltb i 64 l, lt-ltb i 128 h)
+
+-- The test for a tag that is no symbol's.
+pub free-zero : {n : ℕ} → n ≡ 0 → eqb n 0 ≡ freeTag n
+unfolding freeTag
+free-zero {n} e = eq-eqb n 0 e ∙ ap freeTag (sym e)
+
+pub free-above : (n : ℕ) → (n ≡ 0 → ⊥) → ltb 3 n ≡ freeTag n
+unfolding freeTag
+free-above zero h = absurd (h refl)
+free-above (suc zero) h = refl
+free-above (suc (suc zero)) h = refl
+free-above (suc (suc (suc zero))) h = refl
+free-above (suc (suc (suc (suc n)))) h = lt-ltb 3 (suc (suc (suc (suc n)))) (omega arith)

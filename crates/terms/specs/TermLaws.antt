@@ -1,0 +1,147 @@
+-- What is known of a block's term after numbers 7 and 8.
+use mathlib.Core.Path.{_≡_, refl, sym, ap, ap₂, _∙_}
+use mathlib.Core.Bool.{Bool, true, false}
+use mathlib.Core.Logic.{_↔_, ⊎-elim}
+use mathlib.Core.List.{List, [], _∷_, _++_, append-assoc, append-nil}
+use mathlib.Core.Option.{some}
+use Prim.Native.Nat.{ℕ, _+_, _*_, _/_, _%_, _<_}
+use native.Mathlib.Omega.{arith}
+use lib.Dec.{ltb}
+use borrow.Author.Tests.{lt-ltb, ltb-true}
+use lib.ListN.{length, getD}
+use Rattle.terms.specs.declared.valid.Found.the-variants.{Nothing}
+use Rattle.terms.specs.Term.{Term, Variable, Message, variable, atom, pair, encrypted, plain, marked, replace, asTerm}
+use Rattle.terms.specs.Occurs.{Occurs}
+use Rattle.terms.specs.Proper.{Built}
+use Rattle.terms.specs.Entry.{Symbol, atomSymbol, pairSymbol, encryptionSymbol, variableSymbol, tagOf, valueOf, symbolOf, numbered, withZero, entryOf, entriesOf, termsOf, termOf, Reads, Begins}
+use Rattle.terms.specs.EntryLaws.{First, first-atom, first-pair, first-encrypted, first-plain, first-marked, first, none≢some, begins, termOf-reads}
+use Rattle.terms.specs.First.{first-none}
+use Rattle.terms.specs.Atom.{Atom, IsKey}
+use Rattle.terms.specs.TermEntry.{TagRight, atomEntry, pairEntry, encryptionEntry, plainEntry, markedEntry, EntryRight, Asked, asked, rightAt?, wrongEntry}
+use Rattle.terms.specs.Each.{Each, none-left, one-more, each-of, each-map}
+use Rattle.terms.specs.OneTerm.{Numbered, OneTerm, HasSymbol, AllOf, never-empty, one-reads, reads-one}
+
+-- Nothing found: each entry is right. By `each-part` and `each-from`, so is each of a part.
+pub right-each : (atoms : List Atom) (kind : ℕ) (e : List ℕ) → length e % 4 ≡ 0
+    → wrongEntry atoms kind e ≡ Nothing → Each (EntryRight atoms kind) e
+unfolding wrongEntry
+right-each atoms kind e whole nothing = each-of e whole (first-none (rightAt? atoms kind e) nothing)
+
+-- A right entry has a symbol.
+pub entry-symbol : {atoms : List Atom} {kind tag zeroByte value : ℕ} → EntryRight atoms kind tag zeroByte value → HasSymbol tag zeroByte value
+unfolding withZero symbolOf
+entry-symbol {atoms} {kind} {tag} {zeroByte} {value} w = go (w .tagged)
+  where
+    go : TagRight atoms kind tag value → HasSymbol tag zeroByte value
+    go (atomEntry t l) = record { symbol = atomSymbol value; is = rw (w .blank, t) }
+    go (pairEntry t z) = record { symbol = pairSymbol; is = rw (w .blank, t, z) }
+    go (encryptionEntry t k) = record { symbol = encryptionSymbol value; is = rw (w .blank, t) }
+    go (plainEntry t l k) = record { symbol = variableSymbol (plain value); is = rw (w .blank, t, lt-ltb value 8 l) }
+    go (markedEntry t l k) = record { symbol = variableSymbol (marked value); is = rw (w .blank, t, lt-ltb value 8 l) }
+
+pub right-symbols : {atoms : List Atom} {kind : ℕ} {e : List ℕ} → Each (EntryRight atoms kind) e → Each HasSymbol e
+right-symbols each = each-map (λ t z v. entry-symbol) each
+
+-- Exactly one term begins the entries, and nothing follows.
+pub one-begins : {e : List ℕ} → OneTerm e → Begins e
+one-begins o = begins (one-reads o)
+
+pub one-termOf : {e : List ℕ} (o : OneTerm e) → termOf e ≡ o .term
+one-termOf o = termOf-reads (one-reads o)
+
+pub one-alone : {e : List ℕ} → OneTerm e → termsOf e ≡ some (termOf e ∷ [])
+one-alone o = one-reads o .is ∙ ap (λ (t : Term Variable). some (t ∷ [])) (sym (one-termOf o))
+
+-- Encoding and decoding are inverse to each other: a term's entries are read as it, and bytes are exactly one term if
+-- and only if they are read as one.
+pub entries-alone : (t : Term Variable) → Numbered t → termsOf (entriesOf t) ≡ some (t ∷ [])
+entries-alone t n = one-reads (record { term = t; numbers = n; is = refl }) .is
+
+pub one-iff-read : {e : List ℕ} → ((i : ℕ) → getD e i 0 < 256) → OneTerm e ↔ ((t : Term Variable) × (termsOf e ≡ some (t ∷ [])))
+one-iff-read all = (λ o. (o .term, one-reads o .is), λ r. reads-one (record { is = r .1 }) all)
+
+-- Where each entry has a symbol, the entries of any term are exactly one term: its variables are 0 to 7.
+each-first : {P : ℕ → ℕ → ℕ → Type 0} {a b c d : ℕ} {e : List ℕ} → Each P (a ∷ b ∷ c ∷ d ∷ e) → P a b (c + 256 * d) × Each P e
+each-first (one-more p r) = (p, r)
+
+small : (v : ℕ) (x : Variable) {s : Symbol} → numbered (ltb v 8) x ≡ some s → v < 8
+small v x {s} e = go (ltb v 8) refl e
+  where
+    go : (b : Bool) → ltb v 8 ≡ b → numbered b x ≡ some s → v < 8
+    go true q r = ltb-true v 8 q
+    go false q r = absurd (none≢some _ r)
+
+symbols-numbered : (t : Term Variable) {r : List ℕ} → Each HasSymbol (entriesOf t ++ r) → Numbered t × Each HasSymbol r
+unfolding Numbered entriesOf entryOf tagOf valueOf withZero symbolOf
+symbols-numbered (variable (plain x)) each = let f = each-first each in let s = small (x % 256 + 256 * (x / 256)) _ (f .0 .is) in (omega arith, f .1)
+symbols-numbered (variable (marked x)) each = let f = each-first each in let s = small (x % 256 + 256 * (x / 256)) _ (f .0 .is) in (omega arith, f .1)
+symbols-numbered (atom a) each = (tt, each-first each .1)
+symbols-numbered (pair t u) {r} each =
+    let f = symbols-numbered t (rw (append-assoc (entriesOf t) (entriesOf u) r) at (each-first each .1)) in
+    let g = symbols-numbered u (f .1) in ((f .0, g .0), g .1)
+symbols-numbered (encrypted k t) each = symbols-numbered t (each-first each .1)
+
+pub some-term : {e : List ℕ} → Each HasSymbol e → (t : Term Variable) → e ≡ entriesOf t → OneTerm e
+some-term {e} each t is =
+    let same : e ≡ entriesOf t ++ [] = is ∙ sym (append-nil (entriesOf t)) in
+    record { term = t; numbers = symbols-numbered t (rw same at each) .0; is = is }
+
+pub one-iff-entries : {e : List ℕ} → Each HasSymbol e → OneTerm e ↔ ((t : Term Variable) × (e ≡ entriesOf t))
+one-iff-entries each = (λ o. (o .term, o .is), λ w. some-term each (w .0) (w .1))
+
+-- A term of a block of this kind: every atom number is below the number of atoms, every key is a key, every variable
+-- is allowed here.
+pub data TermRight (atoms : List Atom) (kind : ℕ) : Term Variable → Type 0 where
+  atomRight : {a : ℕ} → a < length atoms → TermRight atoms kind (atom a)
+  pairRight : {t u : Term Variable} → TermRight atoms kind t → TermRight atoms kind u → TermRight atoms kind (pair t u)
+  encryptedRight : {k : ℕ} {t : Term Variable} → IsKey atoms k → TermRight atoms kind t → TermRight atoms kind (encrypted k t)
+  plainRight : {x : ℕ} → x < 8 → (kind ≡ 2 → ⊥) → TermRight atoms kind (variable (plain x))
+  markedRight : {x : ℕ} → x < 8 → kind ≡ 3 → TermRight atoms kind (variable (marked x))
+
+-- Right entries are read as such terms.
+right-terms : {atoms : List Atom} {kind : ℕ} {e : List ℕ} → Each (EntryRight atoms kind) e
+    → (l : List (Term Variable)) → Reads e l → AllOf (TermRight atoms kind) l
+unfolding termsOf AllOf Asked
+right-terms none-left l r = let same : [] ≡ l = cc in rw (← same) tt
+right-terms (one-more p each) [] r = absurd (never-empty _ _ (r .is))
+right-terms {atoms} {kind} (one-more {tag} {zeroByte} {low} {high} {rest} p each) (t ∷ l) r =
+    go (t ∷ l) (first r) (asked atoms kind (low + 256 * high) (p .tagged)) (right-terms each)
+  where
+    go : (n : List (Term Variable)) → First tag (low + 256 * high) rest n → Asked atoms kind (low + 256 * high) tag
+        → ((m : List (Term Variable)) → Reads rest m → AllOf (TermRight atoms kind) m) → AllOf (TermRight atoms kind) n
+    go n (first-atom {m} g q k) a ih = rw q (atomRight (rw g at a), ih m k)
+    go n (first-pair {t = u} {u = v} {m} g z q k) a ih = let w = ih (u ∷ v ∷ m) k in rw q (pairRight (w .0) (w .1 .0), w .1 .1)
+    go n (first-encrypted {t = u} {m} g q k) a ih = let w = ih (u ∷ m) k in rw q (encryptedRight (rw g at a) (w .0), w .1)
+    go n (first-plain {m} g s q k) a ih = rw q (plainRight s ((rw g at a) .1), ih m k)
+    go n (first-marked {m} g s q k) a ih = rw q (markedRight s ((rw g at a) .1), ih m k)
+
+pub right-term : {atoms : List Atom} {kind : ℕ} {e : List ℕ} → Each (EntryRight atoms kind) e → OneTerm e → TermRight atoms kind (termOf e)
+unfolding AllOf
+right-term {e = e} each o = right-terms each (termOf e ∷ []) (record { is = one-alone o }) .0
+
+-- Secrets have no variables: a secret is a message.
+pub secret-message : {atoms : List Atom} {kind : ℕ} {t : Term Variable} → kind ≡ 2 → TermRight atoms kind t → (m : Message) × (t ≡ asTerm m)
+unfolding asTerm replace
+secret-message s (atomRight {a} l) = (atom a, refl)
+secret-message s (pairRight w v) = let a = secret-message s w in let b = secret-message s v in (pair (a .0) (b .0), ap₂ pair (a .1) (b .1))
+secret-message s (encryptedRight {k} i w) = let a = secret-message s w in (encrypted k (a .0), ap (encrypted k) (a .1))
+secret-message s (plainRight l k) = absurd (k s)
+secret-message s (markedRight l k) = absurd (omega arith)
+
+-- Marked variables stand in good patterns only.
+pub no-mark : {atoms : List Atom} {kind : ℕ} {t : Term Variable} → (kind ≡ 3 → ⊥) → TermRight atoms kind t → (x : ℕ) → ¬ Occurs (marked x) t
+unfolding Occurs
+no-mark not-good (atomRight l) x o = o
+no-mark not-good (pairRight w v) x o = ⊎-elim (no-mark not-good w x) (no-mark not-good v x) o
+no-mark not-good (encryptedRight i w) x o = no-mark not-good w x o
+no-mark not-good (plainRight l k) x o = let z : _≡_ {A = ℕ} 0 1 = cc in omega arith
+no-mark not-good (markedRight l k) x o = not-good k
+
+-- Its atoms are listed, and its keys are keys.
+pub right-built : {atoms : List Atom} {kind : ℕ} {t : Term Variable} → TermRight atoms kind t → Built (λ a. a < length atoms) (IsKey atoms) t
+unfolding Built
+right-built (atomRight l) = l
+right-built (pairRight w v) = (right-built w, right-built v)
+right-built (encryptedRight i w) = (i, right-built w)
+right-built (plainRight l k) = tt
+right-built (markedRight l k) = tt

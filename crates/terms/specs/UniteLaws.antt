@@ -1,0 +1,169 @@
+-- Laws of uniting two classes, branch by branch: i's class is named a, j's class b.
+use mathlib.Core.Path.{_≡_, refl, sym, ap, ap₂, _∙_, subst}
+use mathlib.Core.Bool.{Bool, true, false, true≢false, false≢true}
+use mathlib.Core.List.{List, map}
+use Prim.Native.Nat.{ℕ, zero, suc, _<_, _≤_}
+use native.Mathlib.Omega.{arith}
+use lib.ListN.{length}
+use Rattle.terms.specs.Term.{Term, Message, variable, atom, pair, encrypted}
+use Rattle.terms.specs.Graph.{Node, free, atomNode, pairNode, encryptionNode, IsSymbol, made, Valid, Respects, Closed, Classes, Step, Clash, Outcome}
+use Rattle.terms.specs.GraphLaws.{rename, merge, Any, done, stay, restate, restate-clash, already, united, united-clash, apart-clash, united-classes}
+use Rattle.terms.specs.TermGraph.{nodeTag, nodeValue, firstChild, secondChild, nodeBy, nodeOf, freeTag}
+use Rattle.terms.specs.Names.{nameOf, names-merge}
+
+module _ (s t : List ℕ) where
+  -- What stands at a node, by its tag.
+  pub node-by : (i : ℕ) {n : ℕ} → nodeTag s t i ≡ n → nodeOf s t i ≡ nodeBy n (nodeValue s t i) (firstChild s t i) (secondChild s t i)
+  unfolding nodeOf
+  node-by i e = ap (λ (m : ℕ). nodeBy m (nodeValue s t i) (firstChild s t i) (secondChild s t i)) e
+
+  free-node : (n v l r : ℕ) → freeTag n ≡ true → IsSymbol (nodeBy n v l r) → ⊥
+  unfolding freeTag nodeBy
+  free-node zero v l r f is = is
+  free-node (suc zero) v l r f is = false≢true f
+  free-node (suc (suc zero)) v l r f is = false≢true f
+  free-node (suc (suc (suc zero))) v l r f is = false≢true f
+  free-node (suc (suc (suc (suc m)))) v l r f is = is
+
+  symbol-node : (n v l r : ℕ) → freeTag n ≡ false → IsSymbol (nodeBy n v l r)
+  unfolding freeTag nodeBy
+  symbol-node zero v l r f = absurd (true≢false f)
+  symbol-node (suc zero) v l r f = tt
+  symbol-node (suc (suc zero)) v l r f = tt
+  symbol-node (suc (suc (suc zero))) v l r f = tt
+  symbol-node (suc (suc (suc (suc m)))) v l r f = absurd (true≢false f)
+
+  pub not-symbol : (i : ℕ) → freeTag (nodeTag s t i) ≡ true → IsSymbol (nodeOf s t i) → ⊥
+  unfolding nodeOf
+  not-symbol i f is = free-node (nodeTag s t i) (nodeValue s t i) (firstChild s t i) (secondChild s t i) f is
+
+  pub is-symbol : (i : ℕ) → freeTag (nodeTag s t i) ≡ false → IsSymbol (nodeOf s t i)
+  unfolding nodeOf
+  is-symbol i f = symbol-node (nodeTag s t i) (nodeValue s t i) (firstChild s t i) (secondChild s t i) f
+
+-- The form of a message, and the number in it.
+pub form : Message → ℕ
+form (variable x) = 0
+form (atom a) = 1
+form (pair m n) = 2
+form (encrypted k m) = 3
+
+pub number : Message → ℕ
+number (variable x) = 0
+number (atom a) = a
+number (pair m n) = 0
+number (encrypted k m) = k
+
+pub made-form : (v : ℕ → Message) (n x l r : ℕ) → freeTag n ≡ false → form (made v (nodeBy n x l r)) ≡ n
+unfolding form made nodeBy freeTag
+made-form v zero x l r f = absurd (true≢false f)
+made-form v (suc zero) x l r f = refl
+made-form v (suc (suc zero)) x l r f = refl
+made-form v (suc (suc (suc zero))) x l r f = refl
+made-form v (suc (suc (suc (suc m)))) x l r f = absurd (true≢false f)
+
+pub made-number : (v : ℕ → Message) (n x l r : ℕ) → freeTag n ≡ false → (n ≡ 2 → ⊥) → number (made v (nodeBy n x l r)) ≡ x
+unfolding number made nodeBy freeTag
+made-number v zero x l r f h = absurd (true≢false f)
+made-number v (suc zero) x l r f h = refl
+made-number v (suc (suc zero)) x l r f h = absurd (h refl)
+made-number v (suc (suc (suc zero))) x l r f h = refl
+made-number v (suc (suc (suc (suc m)))) x l r f h = absurd (true≢false f)
+
+pub only-atom : (n : ℕ) → freeTag n ≡ false → (n ≡ 2 → ⊥) → (n ≡ 3 → ⊥) → n ≡ 1
+unfolding freeTag
+only-atom zero f p q = absurd (true≢false f)
+only-atom (suc zero) f p q = refl
+only-atom (suc (suc zero)) f p q = absurd (p refl)
+only-atom (suc (suc (suc zero))) f p q = absurd (q refl)
+only-atom (suc (suc (suc (suc m)))) f p q = absurd (true≢false f)
+
+module _ (s t : List ℕ) (name : ℕ → ℕ) (cs : Classes (nodeOf s t) name) (i j : ℕ) {a b : ℕ} (ea : a ≡ name i) (eb : b ≡ name j) where
+  -- The step of united classes, said of a and b.
+  as-named : {next : ℕ → ℕ} {P : (ℕ → Message) → Type 0} {r : Bool} → ((v : ℕ → Message) → Valid (nodeOf s t) v → v a ≡ v b → P v)
+      → ((v : ℕ → Message) → P v → IsSymbol (nodeOf s t a) → made v (nodeOf s t a) ≡ made v (nodeOf s t b))
+      → Outcome (nodeOf s t) Any (merge a b name) next P r → Outcome (nodeOf s t) Any name next (λ v. v i ≡ v j) r
+  as-named {next} {P} {r} needed enough o = record {
+    stepped = λ e. united (nodeOf s t) name cs i j wanted
+        (λ v p is. ap (λ (n : ℕ). made v (nodeOf s t n)) (sym ea) ∙ enough v p (subst (λ (n : ℕ). IsSymbol (nodeOf s t n)) (sym ea) is) ∙ ap (λ (n : ℕ). made v (nodeOf s t n)) eb)
+        (subst (λ (f : ℕ → ℕ). Step (nodeOf s t) Any f next P) one (o .stepped e));
+    clashed = λ e. united-clash (nodeOf s t) name cs i j wanted (subst (λ (f : ℕ → ℕ). Clash (nodeOf s t) f P) one (o .clashed e));
+  }
+    where
+      one : merge a b name ≡ merge (name i) (name j) name
+      one = ap₂ (λ (x y : ℕ). merge x y name) ea eb
+
+      wanted : (v : ℕ → Message) → Valid (nodeOf s t) v → v (name i) ≡ v (name j) → P v
+      wanted v x e = needed v x (ap v ea ∙ e ∙ ap v (sym eb))
+
+  pub merged-names : (a ≡ b → ⊥) → (IsSymbol (nodeOf s t a) → IsSymbol (nodeOf s t b)) → Classes (nodeOf s t) (merge a b name)
+  merged-names apart keeps =
+      subst (λ (f : ℕ → ℕ). Classes (nodeOf s t) f) (ap₂ (λ (x y : ℕ). merge x y name) (sym ea) (sym eb))
+      (united-classes (nodeOf s t) name cs i j (λ e. apart (ea ∙ e ∙ sym eb))
+      (λ is. subst (λ (n : ℕ). IsSymbol (nodeOf s t n)) eb (keeps (subst (λ (n : ℕ). IsSymbol (nodeOf s t n)) (sym ea) is))))
+
+  pub one-class : a ≡ b → Step (nodeOf s t) Any name name (λ v. v i ≡ v j)
+  one-class e = already (nodeOf s t) name cs i j (sym ea ∙ e ∙ eb)
+
+  pub free-class : (a ≡ b → ⊥) → freeTag (nodeTag s t a) ≡ true → Step (nodeOf s t) Any name (merge a b name) (λ v. v i ≡ v j)
+  free-class apart f =
+      (as-named (λ v x e. tt) (λ v p is. absurd (not-symbol s t a f is))
+      (done (stay (nodeOf s t) Any (merged-names apart (λ is. absurd (not-symbol s t a f is)))))) .stepped refl
+
+  -- Both names are symbol nodes from here on.
+  module _ (fa : freeTag (nodeTag s t a) ≡ false) (fb : freeTag (nodeTag s t b) ≡ false) where
+    gives : (v : ℕ → Message) → Valid (nodeOf s t) v → (n : ℕ) → freeTag (nodeTag s t n) ≡ false → v n ≡ made v (nodeOf s t n)
+    gives v x n f = x .makes n (is-symbol s t n f)
+
+    both-make : (v : ℕ → Message) → Valid (nodeOf s t) v → v a ≡ v b → made v (nodeOf s t a) ≡ made v (nodeOf s t b)
+    both-make v x e = sym (gives v x a fa) ∙ e ∙ gives v x b fb
+
+    pub symbols-merge : (a ≡ b → ⊥) → Classes (nodeOf s t) (merge a b name)
+    symbols-merge apart = merged-names apart (λ is. is-symbol s t b fb)
+
+    apart-names : ((v : ℕ → Message) → Valid (nodeOf s t) v → v a ≡ v b → ⊥) → Clash (nodeOf s t) name (λ v. v i ≡ v j)
+    apart-names never = apart-clash (nodeOf s t) name cs i j (λ v x e. never v x (ap v ea ∙ e ∙ ap v (sym eb)))
+
+    pub tags-clash : (nodeTag s t a ≡ nodeTag s t b → ⊥) → Clash (nodeOf s t) name (λ v. v i ≡ v j)
+    unfolding nodeOf
+    tags-clash off = apart-names (λ v x e. off
+        (sym (made-form v (nodeTag s t a) (nodeValue s t a) (firstChild s t a) (secondChild s t a) fa)
+        ∙ ap form (both-make v x e)
+        ∙ made-form v (nodeTag s t b) (nodeValue s t b) (firstChild s t b) (secondChild s t b) fb))
+
+    module _ (tags : nodeTag s t a ≡ nodeTag s t b) where
+      pub values-clash : (nodeTag s t a ≡ 2 → ⊥) → (nodeValue s t a ≡ nodeValue s t b → ⊥) → Clash (nodeOf s t) name (λ v. v i ≡ v j)
+      unfolding nodeOf
+      values-clash not-pair off = apart-names (λ v x e. off
+          (sym (made-number v (nodeTag s t a) (nodeValue s t a) (firstChild s t a) (secondChild s t a) fa not-pair)
+          ∙ ap number (both-make v x e)
+          ∙ made-number v (nodeTag s t b) (nodeValue s t b) (firstChild s t b) (secondChild s t b) fb (λ p. not-pair (tags ∙ p))))
+
+      pub equal-atoms : (a ≡ b → ⊥) → (nodeTag s t a ≡ 2 → ⊥) → (nodeTag s t a ≡ 3 → ⊥) → nodeValue s t a ≡ nodeValue s t b → Step (nodeOf s t) Any name (merge a b name) (λ v. v i ≡ v j)
+      unfolding nodeBy
+      equal-atoms apart not-pair not-encryption same =
+          let one = only-atom (nodeTag s t a) fa not-pair not-encryption in
+          let first : nodeOf s t a ≡ atomNode (nodeValue s t a) = node-by s t a one in
+          let second : nodeOf s t b ≡ atomNode (nodeValue s t b) = node-by s t b (sym tags ∙ one) in
+          (as-named (λ v x e. tt) (λ v p is. ap (made v) (first ∙ ap atomNode same ∙ sym second)) (done (stay (nodeOf s t) Any (symbols-merge apart)))) .stepped refl
+
+      pub equal-encryptions : {next : ℕ → ℕ} {r : Bool} → nodeTag s t a ≡ 3 → nodeValue s t a ≡ nodeValue s t b
+          → Outcome (nodeOf s t) Any (merge a b name) next (λ v. v (firstChild s t a) ≡ v (firstChild s t b)) r → Outcome (nodeOf s t) Any name next (λ v. v i ≡ v j) r
+      unfolding nodeBy made
+      equal-encryptions three same o =
+          let first : nodeOf s t a ≡ encryptionNode (nodeValue s t a) (firstChild s t a) = node-by s t a three in
+          let second : nodeOf s t b ≡ encryptionNode (nodeValue s t b) (firstChild s t b) = node-by s t b (sym tags ∙ three) in
+          as-named
+          (λ v x e. let q : encrypted (nodeValue s t a) (v (firstChild s t a)) ≡ encrypted (nodeValue s t b) (v (firstChild s t b)) = sym (ap (made v) first) ∙ both-make v x e ∙ ap (made v) second in cc)
+          (λ v p is. ap (made v) first ∙ ap₂ encrypted same p ∙ sym (ap (made v) second)) o
+
+      pub equal-pairs : {next : ℕ → ℕ} {r : Bool} → nodeTag s t a ≡ 2
+          → Outcome (nodeOf s t) Any (merge a b name) next (λ v. (v (firstChild s t a) ≡ v (firstChild s t b)) × (v (secondChild s t a) ≡ v (secondChild s t b))) r
+          → Outcome (nodeOf s t) Any name next (λ v. v i ≡ v j) r
+      unfolding nodeBy made
+      equal-pairs two o =
+          let first : nodeOf s t a ≡ pairNode (firstChild s t a) (secondChild s t a) = node-by s t a two in
+          let second : nodeOf s t b ≡ pairNode (firstChild s t b) (secondChild s t b) = node-by s t b (sym tags ∙ two) in
+          as-named
+          (λ v x e. let q : pair (v (firstChild s t a)) (v (secondChild s t a)) ≡ pair (v (firstChild s t b)) (v (secondChild s t b)) = sym (ap (made v) first) ∙ both-make v x e ∙ ap (made v) second in (cc, cc))
+          (λ v p is. ap (made v) first ∙ ap₂ pair (p .0) (p .1) ∙ sym (ap (made v) second)) o

@@ -1,0 +1,203 @@
+-- Laws of the judging of entries, shaped like its branches.
+use mathlib.Core.Path.{_≡_, refl, sym, ap, _∙_}
+use mathlib.Core.Bool.{Bool, true, false}
+use mathlib.Core.List.{List}
+use Prim.Native.Nat.{ℕ, _+_, _*_, _/_, _≤_, _<_}
+use native.Mathlib.Omega.{arith}
+use lib.Dec.{ltb, eqb}
+use lib.ListN.{length, getD}
+use lib.Seq.{getD-drop}
+use native.Mathlib.Nat.{add-zero}
+use borrow.Rule.Slice.PartAt.{part-to-end}
+use Rattle.terms.specs.declared.valid.Found.the-variants.{At, Nothing}
+use Rattle.terms.specs.Term.{encrypted}
+use Rattle.terms.specs.Entry.{Begins, termOf, tagAt, valueAt}
+use Rattle.terms.specs.EntryLaws.{reads-encrypted, termOf-reads}
+use Rattle.terms.specs.WalkLaws.{from, encryption-first}
+use Rattle.terms.specs.Solve.{Says, says-same}
+use Rattle.terms.specs.Decisions.{says-lt, says-eq, says-yes, says-no}
+use Rattle.terms.specs.First.{fails, holds, first-only}
+use Rattle.terms.specs.Atom.{Atom, atomsOf, kindOf, knownOf, partnerOf, IsKey, key-kind, kind-key, key-listed, NamedBack, PartnerRight, principal, nonce, publicKey, privateKey, symmetricKey, AtomRight, Wanted, partner-wanted, partner-right, atomRight?, wrongAtom, length-atoms, atom-bytes}
+use Rattle.terms.specs.TermEntry.{TagRight, atomEntry, pairEntry, encryptionEntry, plainEntry, markedEntry, EntryRight, Asked, asked, tagRight, rightAt?, wrongEntry}
+use Rattle.terms.specs.Each.{EntryIs}
+use Rattle.terms.specs.OneTerm.{IsEncryption}
+
+-- What the bytes of an atom entry are.
+module _ (b : List ℕ) {n : ℕ} (inside : n < length b / 4) where
+  pub kind-byte : kindOf (atomsOf b) n ≡ getD b (4 * n) 0
+  kind-byte = ap (λ (a : Atom). a .kind) (atom-bytes b n inside) ∙ rw (getD-drop, add-zero)
+
+  pub known-byte : knownOf (atomsOf b) n ≡ getD b (4 * n + 1) 0
+  known-byte = ap (λ (a : Atom). a .known) (atom-bytes b n inside) ∙ rw getD-drop
+
+  pub partner-bytes : partnerOf (atomsOf b) n ≡ valueAt (from (4 * n) b)
+  partner-bytes = ap (λ (a : Atom). a .partner) (atom-bytes b n inside) ∙ rw part-to-end
+
+is-partner : (b : List ℕ) (n : ℕ) → n < length b / 4 → {p : ℕ} → p ≡ valueAt (from (4 * n) b) → p ≡ partnerOf (atomsOf b) n
+is-partner b n inside e = e ∙ sym (partner-bytes b inside)
+
+-- A key and its partner name each other.
+module _ (b : List ℕ) (n other : ℕ) (inside : n < length b / 4) {p : ℕ} (partner : p ≡ valueAt (from (4 * n) b)) where
+  named : p ≡ partnerOf (atomsOf b) n
+  named = is-partner b n inside partner
+
+  pub back-away : length b / 4 ≤ p → ¬ NamedBack (atomsOf b) n other
+  back-away far w = let l = w .there in omega (arith, named, length-atoms b)
+
+  pub back-other : p < length b / 4 → (getD b (4 * p) 0 ≡ other → ⊥) → ¬ NamedBack (atomsOf b) n other
+  back-other near off w = off (sym (kind-byte b near) ∙ ap (kindOf (atomsOf b)) named ∙ w .kind)
+
+  pub back-named : p < length b / 4 → getD b (4 * p) 0 ≡ other → {q : ℕ}
+      → q ≡ valueAt (from (4 * p) b) → Says (eqb q n) (NamedBack (atomsOf b) n other)
+  back-named near kind {q} field = says-same (eqb q n)
+      (λ e. record {
+        there = omega (arith, named, length-atoms b);
+        kind = ap (kindOf (atomsOf b)) (sym named) ∙ kind-byte b near ∙ kind;
+        back = ap (partnerOf (atomsOf b)) (sym named) ∙ partner-bytes b near ∙ sym field ∙ e;
+      })
+      (λ w. field ∙ sym (partner-bytes b near) ∙ ap (partnerOf (atomsOf b)) named ∙ w .back) (says-eq q n)
+
+-- An atom entry, by its kind.
+module _ (b : List ℕ) (n : ℕ) (inside : n < length b / 4) where
+  pub atom-unknown : 1 < getD b (4 * n + 1) 0 → ¬ AtomRight (atomsOf b) n
+  atom-unknown k w = let l = w .known in let q = known-byte b inside in omega arith
+
+  by-kind : getD b (4 * n + 1) 0 ≤ 1 → (k : ℕ) → getD b (4 * n) 0 ≡ k → (r : Bool)
+      → Says r (Wanted (atomsOf b) n k) → Says r (AtomRight (atomsOf b) n)
+  by-kind known k kind r says =
+      let q = known-byte b inside in
+      let same : kindOf (atomsOf b) n ≡ k = kind-byte b inside ∙ kind in
+      says-same r (λ w. record { known = omega arith; partner = partner-right (atomsOf b) n k same w })
+      (λ w. rw same at (partner-wanted (atomsOf b) n (w .partner))) says
+
+  module _ (known : getD b (4 * n + 1) 0 ≤ 1) {p : ℕ} (partner : p ≡ valueAt (from (4 * n) b)) where
+    pub atom-principal : getD b (4 * n) 0 ≡ 1 → Says (eqb p 0) (AtomRight (atomsOf b) n)
+    unfolding Wanted
+    atom-principal k = by-kind known 1 k (eqb p 0) (rw (← is-partner b n inside partner) (says-eq p 0))
+
+    pub atom-nonce : getD b (4 * n) 0 ≡ 2 → Says (eqb p 0) (AtomRight (atomsOf b) n)
+    unfolding Wanted
+    atom-nonce k = by-kind known 2 k (eqb p 0) (rw (← is-partner b n inside partner) (says-eq p 0))
+
+    pub atom-symmetric : getD b (4 * n) 0 ≡ 5 → Says (eqb p n) (AtomRight (atomsOf b) n)
+    unfolding Wanted
+    atom-symmetric k = by-kind known 5 k (eqb p n) (rw (← is-partner b n inside partner) (says-eq p n))
+
+    pub atom-public : getD b (4 * n) 0 ≡ 3 → (r : Bool) → Says r (NamedBack (atomsOf b) n 4) → Says r (AtomRight (atomsOf b) n)
+    unfolding Wanted
+    atom-public k r says = by-kind known 3 k r says
+
+    pub atom-private : getD b (4 * n) 0 ≡ 4 → (r : Bool) → Says r (NamedBack (atomsOf b) n 3) → Says r (AtomRight (atomsOf b) n)
+    unfolding Wanted
+    atom-private k r says = by-kind known 4 k r says
+
+  pub atom-no-kind : (getD b (4 * n) 0 ≡ 1 → ⊥) → (getD b (4 * n) 0 ≡ 2 → ⊥) → (getD b (4 * n) 0 ≡ 3 → ⊥) → (getD b (4 * n) 0 ≡ 4 → ⊥)
+      → (getD b (4 * n) 0 ≡ 5 → ⊥) → ¬ AtomRight (atomsOf b) n
+  atom-no-kind one two three four five w = go (w .partner)
+    where
+      same : getD b (4 * n) 0 ≡ kindOf (atomsOf b) n
+      same = sym (kind-byte b inside)
+
+      go : PartnerRight (atomsOf b) n → ⊥
+      go (principal k p) = one (same ∙ k)
+      go (nonce k p) = two (same ∙ k)
+      go (publicKey k p) = three (same ∙ k)
+      go (privateKey k p) = four (same ∙ k)
+      go (symmetricKey k p) = five (same ∙ k)
+
+-- The first atom entry that is not right.
+pub atom-wrong : (b : List ℕ) (n : ℕ) → n < length b / 4
+    → ((k : ℕ) → k < n → AtomRight (atomsOf b) k) → ¬ AtomRight (atomsOf b) n → At n ≡ wrongAtom (atomsOf b)
+unfolding wrongAtom
+atom-wrong b n inside all off = first-only (atomRight? (atomsOf b)) {count = length (atomsOf b)} (fails refl (omega (arith, length-atoms b)) off all)
+
+pub atoms-right : (b : List ℕ) → ((k : ℕ) → k < length b / 4 → AtomRight (atomsOf b) k) → Nothing ≡ wrongAtom (atomsOf b)
+unfolding wrongAtom
+atoms-right b all = first-only (atomRight? (atomsOf b)) {count = length (atomsOf b)} (holds refl (λ k l. all k (omega (arith, length-atoms b))))
+
+-- The number of a key.
+module _ (b : List ℕ) (n : ℕ) where
+  pub key-away : length b / 4 ≤ n → ¬ IsKey (atomsOf b) n
+  key-away far w = let l = key-listed w in omega (arith, length-atoms b)
+
+  pub key-low : n < length b / 4 → getD b (4 * n) 0 < 3 → ¬ IsKey (atomsOf b) n
+  key-low inside low w = let k = key-kind w in omega (arith, kind-byte b inside)
+
+  pub key-high : n < length b / 4 → 3 ≤ getD b (4 * n) 0 → Says (ltb (getD b (4 * n) 0) 6) (IsKey (atomsOf b) n)
+  key-high inside low = says-same (ltb (getD b (4 * n) 0) 6)
+      (λ h. kind-key (omega (arith, kind-byte b inside)) (omega (arith, kind-byte b inside)))
+      (λ w. (let k = key-kind w in omega (arith, kind-byte b inside))) (says-lt (getD b (4 * n) 0) 6)
+
+-- A term entry, by its tag.
+module _ (b : List ℕ) (kind : ℕ) (e : List ℕ) where
+  abbrev pub Right : Type 0
+  Right = EntryRight (atomsOf b) kind (tagAt e) (getD e 1 0) (valueAt e)
+
+  pub entry-no-tag : (tagAt e ≡ 1 → ⊥) → (tagAt e ≡ 2 → ⊥) → (tagAt e ≡ 3 → ⊥)
+      → (tagAt e ≡ 4 → ⊥) → (tagAt e ≡ 5 → ⊥) → ¬ Right
+  entry-no-tag one two three four five w = go (w .tagged)
+    where
+      go : TagRight (atomsOf b) kind (tagAt e) (valueAt e) → ⊥
+      go (atomEntry t p) = one t
+      go (pairEntry t p) = two t
+      go (encryptionEntry t p) = three t
+      go (plainEntry t p q) = four t
+      go (markedEntry t p q) = five t
+
+  pub entry-secret : tagAt e ≡ 4 → kind ≡ 2 → ¬ Right
+  unfolding Asked
+  entry-secret t k w = (rw t at (asked (atomsOf b) kind (valueAt e) (w .tagged))) .1 k
+
+  pub entry-mark : tagAt e ≡ 5 → (kind ≡ 3 → ⊥) → ¬ Right
+  unfolding Asked
+  entry-mark t k w = k ((rw t at (asked (atomsOf b) kind (valueAt e) (w .tagged))) .1)
+
+  module _ (blank : getD e 1 0 ≡ 0) {n : ℕ} (value : n ≡ valueAt e) where
+    by-tag : (tag : ℕ) → tagAt e ≡ tag → (r : Bool) → Says r (Asked (atomsOf b) kind n tag) → Says r Right
+    by-tag tag t r says = says-same r (λ a. record { blank = blank; tagged = rw (t, ← value) (tagRight (atomsOf b) kind n tag a) })
+        (λ w. rw (t, ← value) at (asked (atomsOf b) kind (valueAt e) (w .tagged))) says
+
+    pub entry-atom : tagAt e ≡ 1 → Says (ltb n (length b / 4)) Right
+    unfolding Asked
+    entry-atom t = by-tag 1 t (ltb n (length b / 4)) (rw (length-atoms b) (says-lt n (length b / 4)))
+
+    pub entry-pair : tagAt e ≡ 2 → Says (eqb n 0) Right
+    unfolding Asked
+    entry-pair t = by-tag 2 t (eqb n 0) (says-eq n 0)
+
+    pub entry-encryption : tagAt e ≡ 3 → (r : Bool) → Says r (IsKey (atomsOf b) n) → Says r Right
+    unfolding Asked
+    entry-encryption t r says = by-tag 3 t r says
+
+    pub entry-plain : tagAt e ≡ 4 → (kind ≡ 2 → ⊥) → Says (ltb n 8) Right
+    unfolding Asked
+    entry-plain t k = by-tag 4 t (ltb n 8) (says-same (ltb n 8) (λ l. (l, k)) (λ h. h .0) (says-lt n 8))
+
+    pub entry-marked : tagAt e ≡ 5 → kind ≡ 3 → Says (ltb n 8) Right
+    unfolding Asked
+    entry-marked t k = by-tag 5 t (ltb n 8) (says-same (ltb n 8) (λ l. (l, k)) (λ h. h .0) (says-lt n 8))
+
+-- The first entry that is not right, where each is judged as it stands first.
+module _ (b : List ℕ) (kind : ℕ) (e : List ℕ) where
+  pub entry-yes : (n : ℕ) (r : Bool) → Says r (Right b kind (from (4 * n) e)) → r ≡ true → EntryIs (EntryRight (atomsOf b) kind) e n
+  entry-yes n r says t = rw part-to-end at (says-yes {P = Right b kind (from (4 * n) e)} r says t)
+
+  pub entry-no : (n : ℕ) (r : Bool) → Says r (Right b kind (from (4 * n) e)) → r ≡ false → ¬ EntryIs (EntryRight (atomsOf b) kind) e n
+  entry-no n r says f w = says-no {P = Right b kind (from (4 * n) e)} r says f (rw part-to-end w)
+
+  pub entry-wrong : (n : ℕ) → n < length e / 4
+      → ((k : ℕ) → k < n → EntryIs (EntryRight (atomsOf b) kind) e k) → ¬ EntryIs (EntryRight (atomsOf b) kind) e n
+      → At n ≡ wrongEntry (atomsOf b) kind e
+  unfolding wrongEntry
+  entry-wrong n inside all off = first-only (rightAt? (atomsOf b) kind e) (fails refl inside off all)
+
+  pub entries-right : ((k : ℕ) → k < length e / 4 → EntryIs (EntryRight (atomsOf b) kind) e k) → Nothing ≡ wrongEntry (atomsOf b) kind e
+  unfolding wrongEntry
+  entries-right all = first-only (rightAt? (atomsOf b) kind e) (holds refl all)
+
+-- The root's tag.
+pub encryption-tag : {e : List ℕ} → Begins e → Says (eqb (tagAt e) 3) (IsEncryption (termOf e))
+encryption-tag {e} w = says-same (eqb (tagAt e) 3)
+    (λ t. (let f = encryption-first w t in record { key = valueAt e; content = f .content; is = termOf-reads (f .whole) }))
+    (λ r. (let same : w .term ≡ encrypted (r .key) (r .content) = sym (termOf-reads (w .reads)) ∙ r .is in
+    reads-encrypted (rw same at (w .reads)) .0)) (says-eq (tagAt e) 3)

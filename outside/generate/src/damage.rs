@@ -1,0 +1,366 @@
+//! Files damaged on purpose, for the numbers 1 to 11.
+
+use crate::certificate;
+use crate::random::Random;
+use crate::sketch::Sketch;
+use literal::block::{check_of, BLOCK, ENTRIES};
+use literal::{encode, Term};
+
+/// A certificate with one fault, at times two.
+pub fn damaged_file(random: &mut Random) -> Vec<u8> {
+    let mut sketch = certificate::sketch(random);
+    let number = random.between(1, 11);
+    damage_sketch(random, &mut sketch, number);
+    if random.chance(15) {
+        let second = *random.pick(&[9, 9, 10, 10, 11, 4]);
+        damage_sketch(random, &mut sketch, second);
+    }
+    let mut blocks = sketch.blocks();
+    damage_blocks(random, &mut blocks, number);
+    if random.chance(20) {
+        let second = random.between(2, 8);
+        damage_blocks(random, &mut blocks, second);
+    }
+    if random.chance(5) {
+        poke(random, &mut blocks);
+    }
+    let file = blocks.concat();
+    if number == 1 {
+        return wrong_length(random, file);
+    }
+    file
+}
+
+// Faults in what the certificate says: 4, 9, 10, 11.
+
+fn damage_sketch(random: &mut Random, sketch: &mut Sketch, number: usize) {
+    match number {
+        4 => empty_a_list(random, sketch),
+        9 => {
+            let secret = atom_with(random, sketch, true);
+            insert(random, &mut sketch.secrets, secret);
+        }
+        10 => {
+            let secret = not_closed(random, sketch);
+            insert(random, &mut sketch.secrets, secret);
+        }
+        11 => {
+            let good = not_kept(random, sketch);
+            insert(random, &mut sketch.goods, good);
+        }
+        _ => {}
+    }
+}
+
+fn empty_a_list(random: &mut Random, sketch: &mut Sketch) {
+    match random.below(3) {
+        0 => sketch.secrets.clear(),
+        1 => sketch.rules.clear(),
+        _ => {
+            sketch.secrets.clear();
+            sketch.rules.clear();
+        }
+    }
+}
+
+fn insert(random: &mut Random, list: &mut Vec<Term>, term: Term) {
+    let at = random.below(list.len() + 1);
+    list.insert(at, term);
+}
+
+fn atom_with(random: &mut Random, sketch: &Sketch, known: bool) -> Term {
+    let possible: Vec<u16> = (0..sketch.atoms.len() as u16)
+        .filter(|i| (sketch.atoms[*i as usize].known == 1) == known)
+        .collect();
+    Term::Atom(*random.pick(&possible))
+}
+
+/// A pair or an encryption of atoms, no part of it meant to be listed.
+fn not_closed(random: &mut Random, sketch: &Sketch) -> Term {
+    let left = atom_with(random, sketch, true);
+    let right = atom_with(random, sketch, true);
+    if random.chance(50) {
+        return Term::pair(left, right);
+    }
+    Term::encryption(left, any_key(random, sketch))
+}
+
+/// A pattern under any key: mostly its inverse is not listed.
+fn not_kept(random: &mut Random, sketch: &Sketch) -> Term {
+    let body = Term::pair(Term::Plain(1), Term::Marked(1));
+    Term::encryption(body, any_key(random, sketch))
+}
+
+fn any_key(random: &mut Random, sketch: &Sketch) -> u16 {
+    let keys: Vec<u16> = (0..sketch.atoms.len() as u16)
+        .filter(|i| sketch.atoms[*i as usize].is_key())
+        .collect();
+    *random.pick(&keys)
+}
+
+// Faults in the blocks: 2, 3, 5, 6, 7, 8.
+
+fn damage_blocks(random: &mut Random, blocks: &mut Vec<Vec<u8>>, number: usize) {
+    match number {
+        2 => wrong_check(random, blocks),
+        3 => wrong_kind(random, blocks),
+        5 => wrong_layout(random, blocks),
+        6 => wrong_atom(random, blocks),
+        7 => wrong_entry(random, blocks),
+        8 => wrong_shape(random, blocks),
+        _ => {}
+    }
+}
+
+fn seal(block: &mut [u8]) {
+    literal::seal(block).expect("a block has 512 bytes");
+}
+
+fn set_value(block: &mut [u8], entry: usize, value: u16) {
+    block[6 + 4 * entry..8 + 4 * entry].copy_from_slice(&value.to_le_bytes());
+}
+
+/// How many entries the block uses.
+fn used(block: &[u8]) -> usize {
+    block[1] as usize + block[2] as usize
+}
+
+fn wrong_length(random: &mut Random, file: Vec<u8>) -> Vec<u8> {
+    let mut file = file;
+    match random.below(5) {
+        0 => file.clear(),
+        1 => file.truncate(random.below(file.len())),
+        2 => {
+            let more = random.between(1, 511);
+            file.extend((0..more).map(|_| 0));
+        }
+        3 => {
+            let last = file[file.len() - BLOCK..].to_vec();
+            while file.len() <= 32_768 {
+                file.extend(&last);
+            }
+        }
+        _ => file.truncate(*random.pick(&[1, 511, 512, 513])),
+    }
+    file
+}
+
+/// Damage after sealing.
+fn wrong_check(random: &mut Random, blocks: &mut [Vec<u8>]) {
+    let at = random.below(blocks.len());
+    let block = &mut blocks[at];
+    match random.below(6) {
+        0 => block[508 + random.below(4)] ^= 1 << random.below(8),
+        1 => block[random.below(508)] ^= 1 << random.below(8),
+        2 => {
+            let end = (4 + 4 * used(block)).min(508);
+            block[random.below(end)] = random.byte();
+        }
+        3 => {
+            let end = (4 + 4 * used(block)).min(508);
+            block.swap(random.below(end), random.below(end));
+        }
+        4 => block[508..].fill(0),
+        _ => not_reduced(random, block),
+    }
+}
+
+/// A block whose A is below 15, stored with 65,521 added.
+fn not_reduced(random: &mut Random, block: &mut [u8]) {
+    block[4..508].fill(0);
+    let mut left =
+        65_521 + random.below(15) - block[..4].iter().map(|b| *b as usize).sum::<usize>();
+    for byte in &mut block[4..508] {
+        *byte = left.min(255) as u8;
+        left -= *byte as usize;
+    }
+    let start = 4 + random.below(200);
+    random.shuffle(&mut block[start..508]);
+    seal(block);
+    let stored = check_of(block).0 + 65_521u16;
+    if random.chance(80) {
+        block[508..510].copy_from_slice(&stored.to_le_bytes());
+    }
+}
+
+fn wrong_kind(random: &mut Random, blocks: &mut Vec<Vec<u8>>) {
+    let at = random.below(blocks.len());
+    let other = random.below(blocks.len());
+    match random.below(6) {
+        0 => blocks[at][0] = *random.pick(&[0, 6, 7, 255]),
+        1 => blocks[at][0] = random.between(1, 5) as u8,
+        2 => blocks.swap(at, other),
+        3 => blocks.insert(at, blocks[0].clone()),
+        4 => {
+            blocks.remove(0);
+        }
+        _ => blocks[at][0] = random.byte(),
+    }
+    blocks.iter_mut().for_each(|block| seal(block));
+}
+
+fn wrong_layout(random: &mut Random, blocks: &mut [Vec<u8>]) {
+    let at = random.below(blocks.len());
+    let block = &mut blocks[at];
+    match random.below(7) {
+        0 => block[1] = 0,
+        1 => block[1] = *random.pick(&[63, 64, 126, 127, 128, 255]),
+        2 => block[2] = *random.pick(&[0, 1, 63, 64, 127, 255]),
+        3 => block[3] = random.byte(),
+        4 => {
+            let unused = 4 + 4 * used(block);
+            if unused < 508 {
+                block[unused + random.below(508 - unused)] = 1 << random.below(8);
+            }
+        }
+        5 => block[507] = 1,
+        _ => block[1] = block[1].wrapping_sub(1),
+    }
+    seal(block);
+}
+
+fn wrong_atom(random: &mut Random, blocks: &mut [Vec<u8>]) {
+    let block = &mut blocks[0];
+    let count = (block[1] as usize).clamp(1, ENTRIES);
+    let entry = random.below(count);
+    let at = 4 + 4 * entry;
+    match random.below(6) {
+        0 => block[at] = *random.pick(&[0, 6, 255]),
+        1 => block[at] = random.between(1, 5) as u8,
+        2 => block[at + 1] = *random.pick(&[2, 3, 255]),
+        3 => set_value(block, entry, random.below(count + 2) as u16),
+        4 => set_value(block, entry, *random.pick(&[255, 256, 1000, 65_535])),
+        _ => block[at + 3] = random.byte(),
+    }
+    seal(block);
+}
+
+/// One of the blocks that hold terms, with one of its entries.
+fn some_entry(random: &mut Random, blocks: &[Vec<u8>]) -> Option<(usize, usize)> {
+    let terms: Vec<usize> = (0..blocks.len())
+        .filter(|i| (2..=5).contains(&blocks[*i][0]) && (1..=ENTRIES).contains(&used(&blocks[*i])))
+        .collect();
+    if terms.is_empty() {
+        return None;
+    }
+    let block = *random.pick(&terms);
+    Some((block, random.below(used(&blocks[block]))))
+}
+
+fn wrong_entry(random: &mut Random, blocks: &mut [Vec<u8>]) {
+    let Some((number, entry)) = some_entry(random, blocks) else {
+        return;
+    };
+    let atoms = blocks[0][1] as usize;
+    spoil_entry(random, &mut blocks[number], entry, atoms);
+    seal(&mut blocks[number]);
+}
+
+fn spoil_entry(random: &mut Random, block: &mut [u8], entry: usize, atoms: usize) {
+    let at = 4 + 4 * entry;
+    match random.weighted(&[2, 2, 2, 2, 2, 2, 5, 5, 2]) {
+        0 => block[at] = *random.pick(&[0, 6, 7, 8, 9, 10, 255]),
+        1 => block[at + 1] = *random.pick(&[1, 2, 255]),
+        2 => set_value(block, entry, *random.pick(&[8, 126, 255, 256, 65_535])),
+        3 => set_value(block, entry, atoms as u16),
+        4 => set_entry(block, entry, 4, random.below(9) as u16),
+        5 => set_entry(block, entry, 5, random.below(9) as u16),
+        6 => other_value(random, block, 3, atoms),
+        7 => mark_a_variable(random, block),
+        _ => block[at + 3] = 1,
+    }
+}
+
+/// The entries of the block with this tag.
+fn entries_with(block: &[u8], tag: u8) -> Vec<usize> {
+    let all = 0..used(block).min(ENTRIES);
+    all.filter(|entry| block[4 + 4 * entry] == tag).collect()
+}
+
+/// Any atom's number in an entry with this tag.
+fn other_value(random: &mut Random, block: &mut [u8], tag: u8, atoms: usize) {
+    let possible = entries_with(block, tag);
+    if !possible.is_empty() {
+        let entry = *random.pick(&possible);
+        set_value(block, entry, random.below(atoms.max(1)) as u16);
+    }
+}
+
+fn mark_a_variable(random: &mut Random, block: &mut [u8]) {
+    let possible = entries_with(block, 4);
+    if !possible.is_empty() {
+        block[4 + 4 * *random.pick(&possible)] = 5;
+    }
+}
+
+fn set_entry(block: &mut [u8], entry: usize, tag: u8, value: u16) {
+    block[4 + 4 * entry] = tag;
+    set_value(block, entry, value);
+}
+
+fn wrong_shape(random: &mut Random, blocks: &mut [Vec<u8>]) {
+    if random.chance(20) {
+        return both_terms(random, blocks);
+    }
+    let Some((number, entry)) = some_entry(random, blocks) else {
+        return;
+    };
+    let block = &mut blocks[number];
+    let many = used(block);
+    match random.below(6) {
+        0 => set_entry(block, entry, 2, 0),
+        1 => set_entry(block, entry, 1, 0),
+        2 => set_entry(block, 0, 1, 0),
+        3 => set_entry(block, 0, 2, 0),
+        4 if block[0] == 5 => move_border(random, block),
+        _ if many < 63 => {
+            let count = if block[0] == 5 { 2 } else { 1 };
+            block[count] += 1;
+            block[4 + 4 * many..8 + 4 * many].copy_from_slice(&encode(&Term::Atom(0)));
+        }
+        _ => set_entry(block, many - 1, 2, 0),
+    }
+    seal(block);
+}
+
+/// A rule whose premise is no whole term, with a wrong entry in its conclusion.
+fn both_terms(random: &mut Random, blocks: &mut [Vec<u8>]) {
+    let atoms = blocks[0][1] as usize;
+    let rules = blocks.iter_mut().filter(|block| block[0] == 5);
+    let mut with_premise: Vec<&mut Vec<u8>> = rules
+        .filter(|block| block[1] > 0 && block[2] > 0 && used(block) <= ENTRIES)
+        .collect();
+    if with_premise.is_empty() {
+        return;
+    }
+    let at = random.below(with_premise.len());
+    let block = &mut with_premise[at];
+    let (premise, all) = (block[1] as usize, used(block));
+    set_entry(block, random.below(premise), 2, 0);
+    let spoilt = random.between(premise, all - 1);
+    spoil_entry(random, block, spoilt, atoms);
+    seal(block);
+}
+
+/// The border between premise and conclusion moved.
+fn move_border(random: &mut Random, block: &mut [u8]) {
+    let many = used(block).min(63);
+    if used(block) == many {
+        let premise = random.below(many);
+        block[1] = premise as u8;
+        block[2] = (many - premise) as u8;
+    }
+}
+
+/// Any byte of any block, sealed again or not.
+fn poke(random: &mut Random, blocks: &mut [Vec<u8>]) {
+    if blocks.is_empty() {
+        return;
+    }
+    let at = random.below(blocks.len());
+    let end = (4 + 4 * used(&blocks[at])).min(508);
+    blocks[at][random.below(end)] = random.byte();
+    if random.chance(80) {
+        seal(&mut blocks[at]);
+    }
+}

@@ -1,0 +1,31 @@
+//! Test files and pairs of terms, each from its seed alone.
+
+pub mod certificate;
+pub mod damage;
+pub mod pairs;
+pub mod random;
+pub mod sketch;
+
+pub use pairs::{pair, TermPair};
+
+use random::Random;
+
+/// Out of ten files, about three are damaged on purpose.
+pub fn file(seed: u64) -> Vec<u8> {
+    let mut random = Random::new(seed);
+    if random.chance(27) {
+        damage::damaged_file(&mut random)
+    } else {
+        certificate::sketch(&mut random).bytes()
+    }
+}
+
+/// A certificate that is mostly well-formed, accepted or refused with 12.
+pub fn certificate(seed: u64) -> Vec<u8> {
+    certificate::sketch(&mut Random::new(seed)).bytes()
+}
+
+/// A file damaged on purpose, for the numbers 1 to 11.
+pub fn damaged(seed: u64) -> Vec<u8> {
+    damage::damaged_file(&mut Random::new(seed))
+}

@@ -1,0 +1,318 @@
+//! Pairs of terms for sharing and matching, as entry bytes. Atoms 0 to 7 and
+//! the keys 2 to 5, as in the document's cases.
+
+use crate::certificate::{replace, replace_at, variables_of};
+use crate::random::Random;
+use literal::{encode, Term};
+
+const MOST_ENTRIES: usize = 63;
+
+/// A pattern, which may hold marked variables, and a rule term.
+#[derive(Clone, Debug)]
+pub struct TermPair {
+    pub pattern: Vec<u8>,
+    pub term: Vec<u8>,
+}
+
+/// The pair of this seed.
+pub fn pair(seed: u64) -> TermPair {
+    let (pattern, term) = term_pair(seed);
+    TermPair {
+        pattern: encode(&pattern),
+        term: encode(&term),
+    }
+}
+
+/// The same pair as terms.
+pub fn term_pair(seed: u64) -> (Term, Term) {
+    let mut random = Random::new(seed);
+    let (pattern, term) = match random.weighted(&[40, 20, 20, 20]) {
+        0 => small_pair(&mut random),
+        1 => deep_pair(&mut random),
+        2 => instance_pair(&mut random),
+        _ => chain_pair(&mut random),
+    };
+    let room = pattern.size().max(term.size()) < MOST_ENTRIES;
+    if room && random.chance(40) {
+        let key = random.between(2, 5) as u16;
+        return (Term::encryption(pattern, key), Term::encryption(term, key));
+    }
+    (pattern, term)
+}
+
+/// A small pair, never a chain.
+pub fn small_term_pair(seed: u64) -> (Term, Term) {
+    small_pair(&mut Random::new(seed))
+}
+
+struct Shape {
+    depth: usize,
+    variables: u8,
+    atoms: usize,
+    keys: usize,
+    marks: bool,
+}
+
+fn random_term(random: &mut Random, shape: &Shape, depth: usize) -> Term {
+    let nests = if depth == 0 { 0 } else { 40 };
+    match random.weighted(&[nests, nests / 3, 12, 30]) {
+        0 => Term::pair(
+            random_term(random, shape, depth - 1),
+            random_term(random, shape, depth - 1),
+        ),
+        1 => {
+            let key = 2 + random.below(shape.keys) as u16;
+            Term::encryption(random_term(random, shape, depth - 1), key)
+        }
+        2 => Term::Atom(random.below(shape.atoms) as u16),
+        _ => {
+            let number = random.below(shape.variables as usize) as u8;
+            if shape.marks && random.chance(40) {
+                Term::Marked(number)
+            } else {
+                Term::Plain(number)
+            }
+        }
+    }
+}
+
+/// A term that fits into 63 entries.
+fn fitting_term(random: &mut Random, shape: &Shape) -> Term {
+    loop {
+        let term = random_term(random, shape, shape.depth);
+        if term.size() <= MOST_ENTRIES {
+            return term;
+        }
+    }
+}
+
+fn small_pair(random: &mut Random) -> (Term, Term) {
+    let mut shape = Shape {
+        depth: random.between(1, 4),
+        variables: random.between(1, 3) as u8,
+        atoms: 2,
+        keys: 1,
+        marks: true,
+    };
+    let pattern = fitting_term(random, &shape);
+    shape.marks = false;
+    (pattern, fitting_term(random, &shape))
+}
+
+/// The same spine on both sides, with other terms hung on it.
+fn deep_pair(random: &mut Random) -> (Term, Term) {
+    let shape = Shape {
+        depth: 3,
+        variables: random.between(2, 8) as u8,
+        atoms: 3,
+        keys: 2,
+        marks: false,
+    };
+    let marked = Shape {
+        marks: true,
+        ..shape
+    };
+    let mut left = random_term(random, &marked, 2);
+    let mut right = random_term(random, &shape, 2);
+    loop {
+        let (l, r) = if random.chance(60) {
+            let leaf = (
+                random_term(random, &marked, 2),
+                random_term(random, &shape, 2),
+            );
+            (
+                Term::pair(leaf.0, left.clone()),
+                Term::pair(leaf.1, right.clone()),
+            )
+        } else {
+            let key = 2 + random.below(2) as u16;
+            (
+                Term::encryption(left.clone(), key),
+                Term::encryption(right.clone(), key),
+            )
+        };
+        if l.size().max(r.size()) > MOST_ENTRIES || random.chance(4) {
+            return (left, right);
+        }
+        (left, right) = (l, r);
+    }
+}
+
+/// The term is the pattern with its variables replaced, at times changed.
+fn instance_pair(random: &mut Random) -> (Term, Term) {
+    let mut shape = Shape {
+        depth: random.between(2, 4),
+        variables: random.between(1, 4) as u8,
+        atoms: 3,
+        keys: 2,
+        marks: true,
+    };
+    loop {
+        let pattern = fitting_term(random, &shape);
+        shape.marks = false;
+        let by: Vec<(Term, Term)> = variables_of(&pattern)
+            .into_iter()
+            .map(|v| (v, random_term(random, &shape, 2)))
+            .collect();
+        shape.marks = true;
+        let mut term = replace(&pattern, &by);
+        if random.chance(40) {
+            shape.marks = false;
+            let other = random_term(random, &shape, 1);
+            shape.marks = true;
+            term = replace_at(&term, random.below(term.size()), &other);
+        }
+        if term.size() <= MOST_ENTRIES {
+            return (pattern, term);
+        }
+    }
+}
+
+// Chains x1 = (x2, x2), x2 = (x3, x3) and so on, spread over the two sides.
+
+/// A variable of the pattern's side or of the term's side.
+#[derive(Clone, Copy, PartialEq)]
+enum Link {
+    Pattern(u8),
+    Rule(u8),
+}
+
+/// The two sides of a list of equations.
+type Equations = Vec<(Term, Term)>;
+
+fn chain_pair(random: &mut Random) -> (Term, Term) {
+    let mut equations = match random.below(4) {
+        0 => closed_chain(random),
+        1 | 2 => two_chains(random),
+        _ => open_chain(random),
+    };
+    if random.chance(40) {
+        random.shuffle(&mut equations);
+    } else if random.chance(50) {
+        equations.reverse();
+    }
+    spine(equations)
+}
+
+fn open_chain(random: &mut Random) -> Equations {
+    let length = random.between(2, 16);
+    let mut equations = chain(&links(random, 0, length));
+    if random.chance(50) {
+        equations.push((Term::Plain(0), some_atom(random)));
+    }
+    equations
+}
+
+/// The last link holds the first: no finite message, unless the chain is cut.
+fn closed_chain(random: &mut Random) -> Equations {
+    let length = random.between(2, 15);
+    let mut all = links(random, 0, length);
+    all.push(all[0]);
+    let mut equations = chain(&all);
+    if random.chance(30) {
+        equations.remove(random.below(equations.len()));
+    }
+    equations
+}
+
+/// Two chains with equal heads, and at times ends that differ.
+fn two_chains(random: &mut Random) -> Equations {
+    let length = random.between(2, 8);
+    let one = links(random, 0, length);
+    let other = links(random, 8, length);
+    let mut equations = chain(&one);
+    equations.extend(chain(&other));
+    equations.extend(equal(one[0], other[0]));
+    for link in [one[length - 1], other[length - 1]] {
+        if random.chance(50) {
+            let atom = some_atom(random);
+            equations.push(sides(link, atom));
+        }
+    }
+    equations
+}
+
+fn some_atom(random: &mut Random) -> Term {
+    Term::Atom(random.below(2) as u16)
+}
+
+/// Links that change sides at every step. `from` picks the variables: 0 up for
+/// the first chain; with 8, marked ones and the upper rule variables.
+fn links(random: &mut Random, from: u8, length: usize) -> Vec<Link> {
+    let offset = if from == 0 { 0 } else { 4 };
+    let start = random.below(2);
+    (0..length)
+        .map(|i| {
+            let step = (i / 2) as u8;
+            if (i + start) % 2 == 0 {
+                Link::Pattern(from + step)
+            } else {
+                Link::Rule((offset + step) % 8)
+            }
+        })
+        .collect()
+}
+
+fn variable(link: Link) -> Term {
+    match link {
+        Link::Pattern(number) if number >= 8 => Term::Marked(number - 8),
+        Link::Pattern(number) => Term::Plain(number),
+        Link::Rule(number) => Term::Plain(number),
+    }
+}
+
+/// Each link is the pair of the next one with itself.
+fn chain(links: &[Link]) -> Equations {
+    links
+        .windows(2)
+        .filter(|two| different_sides(two[0], two[1]))
+        .map(|two| {
+            let next = variable(two[1]);
+            sides(two[0], Term::pair(next.clone(), next))
+        })
+        .collect()
+}
+
+fn different_sides(one: Link, other: Link) -> bool {
+    matches!(
+        (one, other),
+        (Link::Pattern(_), Link::Rule(_)) | (Link::Rule(_), Link::Pattern(_))
+    )
+}
+
+/// The link's variable on its own side, the body on the other.
+fn sides(link: Link, body: Term) -> (Term, Term) {
+    match link {
+        Link::Pattern(_) => (variable(link), body),
+        Link::Rule(_) => (body, variable(link)),
+    }
+}
+
+/// Two links made equal; by way of a rule variable if on the same side.
+fn equal(one: Link, other: Link) -> Equations {
+    if different_sides(one, other) {
+        return vec![sides(one, variable(other))];
+    }
+    let between = match one {
+        Link::Pattern(_) => Link::Rule(7),
+        Link::Rule(_) => Link::Pattern(15),
+    };
+    vec![
+        sides(one, variable(between)),
+        sides(other, variable(between)),
+    ]
+}
+
+/// All equations that fit, hung on one spine of pairs.
+fn spine(equations: Equations) -> (Term, Term) {
+    let mut left = Term::Atom(0);
+    let mut right = Term::Atom(0);
+    for (l, r) in equations {
+        let size = left.size().max(right.size()) + l.size().max(r.size()) + 1;
+        if size <= MOST_ENTRIES {
+            left = Term::pair(l, left);
+            right = Term::pair(r, right);
+        }
+    }
+    (left, right)
+}

@@ -1,0 +1,18 @@
+//! The pairing certificate checker, written from the document's words.
+//! Plain rather than fast: terms are trees, places are paths.
+
+pub mod block;
+pub mod hats;
+pub mod judge;
+pub mod read;
+pub mod share;
+#[cfg(test)]
+pub mod slip;
+pub mod term;
+pub mod verdict;
+
+pub use block::seal;
+pub use judge::verdict;
+pub use share::shares;
+pub use term::{decode, encode, matches, Term};
+pub use verdict::{line, packed, print_line, refused_part, tally, Counts, Refusal, Tally, Verdict};

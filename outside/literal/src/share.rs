@@ -1,0 +1,153 @@
+//! Whether two terms share an instance: unification on a shared graph, the
+//! variables of the two sides kept apart, and no variable inside itself.
+
+#[cfg(test)]
+use crate::slip::{self, Slip};
+use crate::term::Term;
+
+/// Whether some finite message is an instance of both terms. The variables of
+/// the two are different variables, and so are a plain and a marked one.
+pub fn shares(left: &Term, right: &Term) -> bool {
+    let mut graph = Graph::default();
+    let l = graph.add(Side::Left, left);
+    let r = graph.add(Side::Right, right);
+    graph.unite(l, r) && graph.is_finite(l)
+}
+
+#[derive(Clone, Copy, PartialEq, Eq)]
+enum Side {
+    Left,
+    Right,
+}
+
+#[derive(Clone, Copy, PartialEq, Eq)]
+enum Symbol {
+    Variable,
+    Atom(u16),
+    Pair,
+    Encryption(u16),
+}
+
+struct Node {
+    symbol: Symbol,
+    children: Vec<usize>,
+    /// The node itself, or another one that it was united with.
+    leader: usize,
+}
+
+#[derive(Clone, Copy, PartialEq, Eq)]
+enum Seen {
+    Not,
+    Below,
+    Done,
+}
+
+/// One node for each variable of a side, one for each other place.
+#[derive(Default)]
+struct Graph {
+    nodes: Vec<Node>,
+    variables: Vec<(Side, Term, usize)>,
+}
+
+impl Graph {
+    fn add(&mut self, side: Side, term: &Term) -> usize {
+        match term {
+            Term::Plain(_) | Term::Marked(_) => self.variable(side, term),
+            Term::Atom(number) => self.node(Symbol::Atom(*number), vec![]),
+            Term::Pair(left, right) => {
+                let children = vec![self.add(side, left), self.add(side, right)];
+                self.node(Symbol::Pair, children)
+            }
+            Term::Encryption(message, key) => {
+                let children = vec![self.add(side, message)];
+                self.node(Symbol::Encryption(*key), children)
+            }
+        }
+    }
+
+    fn variable(&mut self, side: Side, term: &Term) -> usize {
+        #[cfg(test)]
+        let side = if slip::is(Slip::VariablesNotApart) {
+            Side::Left
+        } else {
+            side
+        };
+        let known = self.variables.iter().find(|v| v.0 == side && v.1 == *term);
+        if let Some((_, _, node)) = known {
+            return *node;
+        }
+        let node = self.node(Symbol::Variable, vec![]);
+        self.variables.push((side, term.clone(), node));
+        node
+    }
+
+    fn node(&mut self, symbol: Symbol, children: Vec<usize>) -> usize {
+        let number = self.nodes.len();
+        self.nodes.push(Node {
+            symbol,
+            children,
+            leader: number,
+        });
+        number
+    }
+
+    /// The node that stands for all that `node` was united with. If any of
+    /// those is no variable, it is none either.
+    fn leader(&self, node: usize) -> usize {
+        let mut at = node;
+        while self.nodes[at].leader != at {
+            at = self.nodes[at].leader;
+        }
+        at
+    }
+
+    /// Makes the two equal, and with them their children; false at a clash.
+    fn unite(&mut self, one: usize, other: usize) -> bool {
+        let one = self.leader(one);
+        let other = self.leader(other);
+        if one == other {
+            return true;
+        }
+        if self.nodes[one].symbol == Symbol::Variable {
+            self.nodes[one].leader = other;
+            return true;
+        }
+        if self.nodes[other].symbol == Symbol::Variable {
+            self.nodes[other].leader = one;
+            return true;
+        }
+        if self.nodes[one].symbol != self.nodes[other].symbol {
+            return false;
+        }
+        self.nodes[one].leader = other;
+        let mine = self.nodes[one].children.clone();
+        let theirs = self.nodes[other].children.clone();
+        mine.iter().zip(&theirs).all(|(a, b)| self.unite(*a, *b))
+    }
+
+    /// Whether no node below `node` contains itself.
+    fn is_finite(&self, node: usize) -> bool {
+        #[cfg(test)]
+        if slip::is(Slip::VariableInItself) {
+            return true;
+        }
+        let mut seen = vec![Seen::Not; self.nodes.len()];
+        self.finite_below(node, &mut seen)
+    }
+
+    fn finite_below(&self, node: usize, seen: &mut Vec<Seen>) -> bool {
+        let node = self.leader(node);
+        match seen[node] {
+            Seen::Done => return true,
+            Seen::Below => return false,
+            Seen::Not => {}
+        }
+        seen[node] = Seen::Below;
+        let finite = self.nodes[node]
+            .children
+            .iter()
+            .all(|child| self.finite_below(*child, seen));
+        seen[node] = Seen::Done;
+        finite
+    }
+}

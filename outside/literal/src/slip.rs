@@ -1,0 +1,248 @@
+//! Test builds only: wrong readings of the document, switched on one at a
+//! time, to see that the generated files tell each from the right reading.
+
+use crate::hats::{marks_below, SureHat};
+use crate::read::{Certificate, Rule};
+use crate::term::{joined, strictly_above, Path, Place, Term};
+use std::borrow::Cow;
+use std::cell::Cell;
+
+#[derive(Clone, Copy, Debug, PartialEq, Eq)]
+pub enum Slip {
+    // Sure hats.
+    BadAsInstanceForHat,
+    MarkNotAsked,
+    MarkStrictlyAbove,
+    MarkAtThePlaceOnly,
+    MarkOfAnotherGood,
+    HatAtThePlace,
+    // Open places.
+    OneEncryptionEnough,
+    EveryPlaceOpen,
+    GoodAsInstanceForOpen,
+    BadAsSharingForOpen,
+    BadNotReadForOpen,
+    // Lists.
+    LastBadOnly,
+    FirstBadOnly,
+    FirstRuleOnly,
+    // Places and rules.
+    KeysAsPlaces,
+    VariableAtFirstOccurrenceOnly,
+    VariableNotRisky,
+    RiskyByEquality,
+    RootNoPlace,
+    PremiseNotRead,
+    DeadNotPassed,
+    DeadBySharing,
+    // Matching and sharing.
+    RepeatedVariableFree,
+    MarkedAsPlain,
+    VariableInItself,
+    VariablesNotApart,
+    // Reading and the numbers.
+    CheckUnreduced,
+    ChecksOverAllBlocksFirst,
+    UnusedNotRead,
+    PartnerNotNamedBack,
+    AnyAtomAsKey,
+    MarkAllowedInBad,
+    EightBeforeSeven,
+    PlaceWithinConclusion,
+    TenBeforeNine,
+    ClosedByInverse,
+    RootKeyItself,
+}
+
+thread_local! {
+    static CURRENT: Cell<Option<Slip>> = const { Cell::new(None) };
+}
+
+pub fn is(slip: Slip) -> bool {
+    CURRENT.get() == Some(slip)
+}
+
+/// Runs `work` with one slip switched on.
+pub fn with<R>(slip: Slip, work: impl FnOnce() -> R) -> R {
+    CURRENT.set(Some(slip));
+    let result = work();
+    CURRENT.set(None);
+    result
+}
+
+/// An encryption's key as if it stood beside the message.
+pub fn add_key_place(path: &Path, entry: usize, key: u16, found: &mut Vec<Place<'_>>) {
+    if is(Slip::KeysAsPlaces) {
+        found.push(Place {
+            path: joined(path, &[1]),
+            entry,
+            subterm: Box::leak(Box::new(Term::Atom(key))),
+        });
+    }
+}
+
+/// A marked variable read as the plain one of its number.
+pub fn variable_read(variable: &Term) -> Term {
+    match variable {
+        Term::Marked(number) if is(Slip::MarkedAsPlain) => Term::Plain(*number),
+        _ => variable.clone(),
+    }
+}
+
+/// Only one bad block kept.
+pub fn bads_read(certificate: &Certificate) -> Cow<'_, Certificate> {
+    let kept = match certificate.bads.len() {
+        0 => return Cow::Borrowed(certificate),
+        _ if is(Slip::FirstBadOnly) => 0,
+        many if is(Slip::LastBadOnly) => many - 1,
+        _ => return Cow::Borrowed(certificate),
+    };
+    let mut fewer = certificate.clone();
+    fewer.bads = vec![certificate.bads[kept].clone()];
+    Cow::Owned(fewer)
+}
+
+/// One good pattern matches, the mark may be another's.
+pub fn give_all_marks(certificate: &Certificate, hat: Option<&mut SureHat>) {
+    if let (true, Some(hat)) = (is(Slip::MarkOfAnotherGood), hat) {
+        let goods = certificate.goods.iter();
+        hat.marks = goods
+            .flat_map(|good| marks_below(&hat.path, &good.term))
+            .collect();
+    }
+}
+
+/// Wrong ways to call a place open.
+pub fn open_otherwise(all: &[Place], closing: &[&Place], place: &Place) -> Option<bool> {
+    let is_above = |upper: &&Place| strictly_above(&upper.path, &place.path);
+    if is(Slip::EveryPlaceOpen) {
+        return Some(true);
+    }
+    if is(Slip::OneEncryptionEnough) {
+        let encryptions = all.iter().filter(|upper| upper.subterm.is_encryption());
+        let above = encryptions.filter(is_above).count();
+        let closing_above = closing.iter().filter(|upper| is_above(upper)).count();
+        return Some(above == 0 || closing_above < above);
+    }
+    None
+}
+
+/// Places left out of the judging of a conclusion.
+pub fn drop_places(places: &mut Vec<Place<'_>>) {
+    if is(Slip::RootNoPlace) {
+        places.remove(0);
+    }
+    if is(Slip::VariableAtFirstOccurrenceOnly) {
+        let mut seen: Vec<Term> = Vec::new();
+        places.retain(|place| {
+            let again = place.subterm.is_variable() && seen.contains(place.subterm);
+            seen.push(place.subterm.clone());
+            !again
+        });
+    }
+}
+
+pub fn same_remainders(right: (u16, u16), stored: (u16, u16)) -> bool {
+    right
+        == (
+            (stored.0 as u32 % 65_521) as u16,
+            (stored.1 as u32 % 65_521) as u16,
+        )
+}
+
+/// The entry counted from the conclusion's first.
+pub fn entry_told(rule: &Rule, entry: usize) -> usize {
+    if is(Slip::PlaceWithinConclusion) {
+        entry - rule.premise_entries()
+    } else {
+        entry
+    }
+}
+
+pub fn key_for_closed(certificate: &Certificate, key: u16) -> u16 {
+    if is(Slip::ClosedByInverse) {
+        certificate.atoms[key as usize].partner
+    } else {
+        key
+    }
+}
+
+pub fn inverse_read(key: u16, inverse: u16) -> u16 {
+    if is(Slip::RootKeyItself) {
+        key
+    } else {
+        inverse
+    }
+}
+
+const ALL: [Slip; 37] = [
+    Slip::BadAsInstanceForHat,
+    Slip::MarkNotAsked,
+    Slip::MarkStrictlyAbove,
+    Slip::MarkAtThePlaceOnly,
+    Slip::MarkOfAnotherGood,
+    Slip::HatAtThePlace,
+    Slip::OneEncryptionEnough,
+    Slip::EveryPlaceOpen,
+    Slip::GoodAsInstanceForOpen,
+    Slip::BadAsSharingForOpen,
+    Slip::BadNotReadForOpen,
+    Slip::LastBadOnly,
+    Slip::FirstBadOnly,
+    Slip::FirstRuleOnly,
+    Slip::KeysAsPlaces,
+    Slip::VariableAtFirstOccurrenceOnly,
+    Slip::VariableNotRisky,
+    Slip::RiskyByEquality,
+    Slip::RootNoPlace,
+    Slip::PremiseNotRead,
+    Slip::DeadNotPassed,
+    Slip::DeadBySharing,
+    Slip::RepeatedVariableFree,
+    Slip::MarkedAsPlain,
+    Slip::VariableInItself,
+    Slip::VariablesNotApart,
+    Slip::CheckUnreduced,
+    Slip::ChecksOverAllBlocksFirst,
+    Slip::UnusedNotRead,
+    Slip::PartnerNotNamedBack,
+    Slip::AnyAtomAsKey,
+    Slip::MarkAllowedInBad,
+    Slip::EightBeforeSeven,
+    Slip::PlaceWithinConclusion,
+    Slip::TenBeforeNine,
+    Slip::ClosedByInverse,
+    Slip::RootKeyItself,
+];
+
+mod tests {
+    use super::*;
+    use crate::{verdict, Verdict};
+
+    const FILES: u64 = 4_000;
+
+    /// How many of the files get another verdict under the slip.
+    fn told_apart(files: &[(Vec<u8>, Verdict)], slip: Slip) -> usize {
+        let differs = |(file, right): &&(Vec<u8>, Verdict)| with(slip, || verdict(file)) != *right;
+        files.iter().filter(differs).count()
+    }
+
+    fn with_verdict(file: Vec<u8>) -> (Vec<u8>, Verdict) {
+        let right = verdict(&file);
+        (file, right)
+    }
+
+    #[test]
+    fn generated_files_tell_every_slip() {
+        let files: Vec<_> = (0..FILES).map(generate::file).map(with_verdict).collect();
+        let counts: Vec<(Slip, usize)> = ALL
+            .iter()
+            .map(|slip| (*slip, told_apart(&files, *slip)))
+            .collect();
+        for (slip, count) in &counts {
+            println!("{slip:?}: {count} of {FILES} files differ");
+        }
+        let missed: Vec<_> = counts.iter().filter(|(_, count)| *count == 0).collect();
+        assert!(missed.is_empty(), "no file tells {missed:?}");
+    }
+}

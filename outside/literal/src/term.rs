@@ -1,0 +1,221 @@
+//! Terms, their entries, their places, and matching.
+
+use crate::block::Entry;
+#[cfg(test)]
+use crate::slip::{self, Slip};
+
+#[derive(Clone, Debug, PartialEq, Eq)]
+pub enum Term {
+    Atom(u16),
+    Pair(Box<Term>, Box<Term>),
+    /// The message and the key's number.
+    Encryption(Box<Term>, u16),
+    Plain(u8),
+    Marked(u8),
+}
+
+impl Term {
+    pub fn pair(left: Term, right: Term) -> Term {
+        Term::Pair(Box::new(left), Box::new(right))
+    }
+
+    pub fn encryption(message: Term, key: u16) -> Term {
+        Term::Encryption(Box::new(message), key)
+    }
+
+    pub fn is_variable(&self) -> bool {
+        matches!(self, Term::Plain(_) | Term::Marked(_))
+    }
+
+    pub fn is_encryption(&self) -> bool {
+        matches!(self, Term::Encryption(..))
+    }
+
+    /// How many entries the term takes.
+    pub fn size(&self) -> usize {
+        match self {
+            Term::Pair(left, right) => 1 + left.size() + right.size(),
+            Term::Encryption(message, _) => 1 + message.size(),
+            _ => 1,
+        }
+    }
+}
+
+/// The term's entries as bytes: parents before children, left before right.
+pub fn encode(term: &Term) -> Vec<u8> {
+    match term {
+        Term::Atom(number) => entry_bytes(1, *number),
+        Term::Pair(left, right) => [entry_bytes(2, 0), encode(left), encode(right)].concat(),
+        Term::Encryption(message, key) => [entry_bytes(3, *key), encode(message)].concat(),
+        Term::Plain(number) => entry_bytes(4, *number as u16),
+        Term::Marked(number) => entry_bytes(5, *number as u16),
+    }
+}
+
+fn entry_bytes(tag: u8, value: u16) -> Vec<u8> {
+    let [low, high] = value.to_le_bytes();
+    vec![tag, 0, low, high]
+}
+
+/// The term that the bytes hold, if they are exactly one term. Any atom and
+/// key numbers; an atom list is not asked.
+pub fn decode(bytes: &[u8]) -> Option<Term> {
+    if bytes.len() % 4 != 0 {
+        return None;
+    }
+    let entries: Vec<Entry> = bytes
+        .chunks(4)
+        .map(|b| Entry {
+            first: b[0],
+            second: b[1],
+            value: u16::from_le_bytes([b[2], b[3]]),
+        })
+        .collect();
+    if entries.iter().any(|e| !readable(e)) {
+        return None;
+    }
+    term_of(&entries)
+}
+
+fn readable(entry: &Entry) -> bool {
+    entry.second == 0
+        && match entry.first {
+            1 | 3 => true,
+            2 => entry.value == 0,
+            4 | 5 => entry.value <= 7,
+            _ => false,
+        }
+}
+
+/// The term that these entries are exactly, if there is one.
+pub fn term_of(entries: &[Entry]) -> Option<Term> {
+    let (term, left_over) = first_term(entries)?;
+    left_over.is_empty().then_some(term)
+}
+
+/// The term at the front of the entries, and the entries after it.
+fn first_term(entries: &[Entry]) -> Option<(Term, &[Entry])> {
+    let (entry, rest) = entries.split_first()?;
+    match entry.first {
+        1 => Some((Term::Atom(entry.value), rest)),
+        2 => {
+            let (left, rest) = first_term(rest)?;
+            let (right, rest) = first_term(rest)?;
+            Some((Term::pair(left, right), rest))
+        }
+        3 => {
+            let (message, rest) = first_term(rest)?;
+            Some((Term::encryption(message, entry.value), rest))
+        }
+        4 => Some((Term::Plain(entry.value as u8), rest)),
+        5 => Some((Term::Marked(entry.value as u8), rest)),
+        _ => None,
+    }
+}
+
+/// From the root: 0 for the left half or the message of an encryption, 1 for
+/// the right half.
+pub type Path = Vec<u8>;
+
+/// A subterm's spot. The key of an encryption is no place.
+#[derive(Clone, Debug)]
+pub struct Place<'a> {
+    pub path: Path,
+    /// The entry within the term, from 0.
+    pub entry: usize,
+    pub subterm: &'a Term,
+}
+
+/// Every place of the term, entries rising.
+pub fn places(term: &Term) -> Vec<Place<'_>> {
+    let mut found = Vec::new();
+    add_places(term, Vec::new(), 0, &mut found);
+    found
+}
+
+/// Adds the places of the subterm at `path`, whose first entry is `entry`.
+fn add_places<'a>(subterm: &'a Term, path: Path, entry: usize, found: &mut Vec<Place<'a>>) {
+    found.push(Place {
+        path: path.clone(),
+        entry,
+        subterm,
+    });
+    match subterm {
+        Term::Pair(left, right) => {
+            add_places(left, joined(&path, &[0]), entry + 1, found);
+            add_places(right, joined(&path, &[1]), entry + 1 + left.size(), found);
+        }
+        Term::Encryption(message, _key) => {
+            #[cfg(test)]
+            slip::add_key_place(&path, entry, *_key, found);
+            add_places(message, joined(&path, &[0]), entry + 1, found);
+        }
+        _ => {}
+    }
+}
+
+/// The places of the marked variables of a good pattern.
+pub fn marks(pattern: &Term) -> Vec<Path> {
+    places(pattern)
+        .into_iter()
+        .filter(|place| matches!(place.subterm, Term::Marked(_)))
+        .map(|place| place.path)
+        .collect()
+}
+
+/// The way `path` and then `way`.
+pub fn joined(path: &[u8], way: &[u8]) -> Path {
+    [path, way].concat()
+}
+
+/// Whether the place `upper` is the place `lower` or stands above it.
+pub fn at_or_above(upper: &[u8], lower: &[u8]) -> bool {
+    lower.starts_with(upper)
+}
+
+/// Whether the place `upper` stands above the place `lower`.
+pub fn strictly_above(upper: &[u8], lower: &[u8]) -> bool {
+    #[cfg(test)]
+    if slip::is(Slip::HatAtThePlace) {
+        return at_or_above(upper, lower);
+    }
+    at_or_above(upper, lower) && upper.len() < lower.len()
+}
+
+/// Whether the term is the pattern with its variables replaced by terms, each
+/// by the same one at all its occurrences. The term's own variables stay.
+pub fn matches(pattern: &Term, term: &Term) -> bool {
+    matches_with(pattern, term, &mut Vec::new())
+}
+
+/// The replacement so far: pattern variable, term put there.
+type Replacement<'a> = Vec<(Term, &'a Term)>;
+
+fn matches_with<'a>(pattern: &Term, term: &'a Term, so_far: &mut Replacement<'a>) -> bool {
+    match (pattern, term) {
+        (Term::Plain(_) | Term::Marked(_), _) => put(pattern, term, so_far),
+        (Term::Atom(a), Term::Atom(b)) => a == b,
+        (Term::Pair(l, r), Term::Pair(l2, r2)) => {
+            matches_with(l, l2, so_far) && matches_with(r, r2, so_far)
+        }
+        (Term::Encryption(m, k), Term::Encryption(m2, k2)) => {
+            k == k2 && matches_with(m, m2, so_far)
+        }
+        _ => false,
+    }
+}
+
+/// Puts the term for the variable, or sees that it is there already.
+fn put<'a>(variable: &Term, term: &'a Term, so_far: &mut Replacement<'a>) -> bool {
+    #[cfg(test)]
+    let variable = &slip::variable_read(variable);
+    match so_far.iter().find(|(v, _)| v == variable) {
+        #[cfg(test)]
+        Some(_) if slip::is(Slip::RepeatedVariableFree) => true,
+        Some((_, there)) => *there == term,
+        None => {
+            so_far.push((variable.clone(), term));
+            true
+        }
+    }
+}

@@ -1,0 +1,192 @@
+//! Sharing against a naive unifier that carries a substitution, and matching
+//! against sharing with the term's variables frozen.
+
+use generate::pairs::{small_term_pair, term_pair};
+use literal::{decode, encode, matches, shares, Term};
+use std::time::Instant;
+
+/// Plain variables of the right side get other numbers.
+fn moved_apart(term: &Term) -> Term {
+    match term {
+        Term::Plain(n) => Term::Plain(n + 100),
+        Term::Marked(n) => Term::Marked(n + 100),
+        Term::Pair(l, r) => Term::pair(moved_apart(l), moved_apart(r)),
+        Term::Encryption(m, k) => Term::encryption(moved_apart(m), *k),
+        Term::Atom(_) => term.clone(),
+    }
+}
+
+type Substitution = Vec<(Term, Term)>;
+
+fn replaced(term: &Term, variable: &Term, by: &Term) -> Term {
+    if term == variable {
+        return by.clone();
+    }
+    match term {
+        Term::Pair(l, r) => Term::pair(replaced(l, variable, by), replaced(r, variable, by)),
+        Term::Encryption(m, k) => Term::encryption(replaced(m, variable, by), *k),
+        _ => term.clone(),
+    }
+}
+
+fn contains(term: &Term, variable: &Term) -> bool {
+    term == variable
+        || match term {
+            Term::Pair(l, r) => contains(l, variable) || contains(r, variable),
+            Term::Encryption(m, _) => contains(m, variable),
+            _ => false,
+        }
+}
+
+/// Terms above this size are not worth the naive way.
+const TOO_LARGE: usize = 3_000;
+
+/// Solves the equations one by one, replacing everywhere at once.
+fn naive_unifier(left: &Term, right: &Term) -> Option<Substitution> {
+    naive_answer(left, right).expect("small terms stay small")
+}
+
+/// The same, or an error where the terms grow too large.
+fn naive_answer(left: &Term, right: &Term) -> Result<Option<Substitution>, ()> {
+    let mut equations = vec![(left.clone(), right.clone())];
+    let mut solved: Substitution = Vec::new();
+    while let Some((l, r)) = equations.pop() {
+        if l.size() + r.size() > TOO_LARGE {
+            return Err(());
+        }
+        match (&l, &r) {
+            _ if l == r => {}
+            (Term::Plain(_) | Term::Marked(_), _) | (_, Term::Plain(_) | Term::Marked(_)) => {
+                let (v, body) = if l.is_variable() { (&l, &r) } else { (&r, &l) };
+                if contains(body, v) {
+                    return Ok(None);
+                }
+                for (a, b) in &mut equations {
+                    *a = replaced(a, v, body);
+                    *b = replaced(b, v, body);
+                }
+                for (_, b) in &mut solved {
+                    *b = replaced(b, v, body);
+                }
+                solved.push((v.clone(), body.clone()));
+            }
+            (Term::Pair(a, b), Term::Pair(c, d)) => {
+                equations.push(((**a).clone(), (**c).clone()));
+                equations.push(((**b).clone(), (**d).clone()));
+            }
+            (Term::Encryption(a, k), Term::Encryption(b, k2)) if k == k2 => {
+                equations.push(((**a).clone(), (**b).clone()));
+            }
+            _ => return Ok(None),
+        }
+    }
+    Ok(Some(solved))
+}
+
+/// The message that a solution makes, a foreign atom for each variable left.
+fn message(term: &Term, solved: &Substitution) -> Term {
+    let mut whole = term.clone();
+    for (variable, body) in solved {
+        whole = replaced(&whole, variable, body);
+    }
+    frozen(&whole)
+}
+
+/// Each variable as a foreign atom of its own.
+fn frozen(term: &Term) -> Term {
+    match term {
+        Term::Plain(n) => Term::Atom(1000 + *n as u16),
+        Term::Marked(n) => Term::Atom(2000 + *n as u16),
+        Term::Pair(l, r) => Term::pair(frozen(l), frozen(r)),
+        Term::Encryption(m, k) => Term::encryption(frozen(m), *k),
+        Term::Atom(_) => term.clone(),
+    }
+}
+
+#[test]
+fn sharing_agrees_with_a_naive_unifier() {
+    let mut yes = 0;
+    for seed in 0..100_000 {
+        let (left, right) = small_term_pair(seed);
+        let right_apart = moved_apart(&right);
+        let solution = naive_unifier(&left, &right_apart);
+        assert_eq!(shares(&left, &right), solution.is_some(), "seed {seed}");
+        assert_eq!(shares(&right, &left), solution.is_some(), "seed {seed}");
+        if let Some(solved) = solution {
+            yes += 1;
+            let common = message(&left, &solved);
+            assert_eq!(common, message(&right_apart, &solved), "seed {seed}");
+            assert!(
+                matches(&left, &common) && matches(&right, &common),
+                "seed {seed}"
+            );
+        }
+    }
+    println!("{yes} of 100000 small pairs share an instance");
+    assert!((20_000..80_000).contains(&yes));
+}
+
+/// Also deep terms and chains, as far as the naive way can go.
+#[test]
+fn sharing_agrees_with_a_naive_unifier_on_deep_terms() {
+    let (mut yes, mut no, mut left_out) = (0, 0, 0);
+    for seed in 0..20_000 {
+        let (pattern, term) = term_pair(seed);
+        match naive_answer(&pattern, &moved_apart(&term)) {
+            Err(()) => left_out += 1,
+            Ok(answer) => {
+                assert_eq!(shares(&pattern, &term), answer.is_some(), "seed {seed}");
+                *(if answer.is_some() { &mut yes } else { &mut no }) += 1;
+            }
+        }
+    }
+    println!("{yes} yes, {no} no, {left_out} too large for the naive way");
+    assert!(yes > 5_000 && no > 5_000 && left_out < 2_000);
+}
+
+/// Matching is sharing once the term's variables are atoms.
+#[test]
+fn matching_agrees_with_sharing_of_frozen_terms() {
+    let mut yes = 0;
+    for seed in 0..50_000 {
+        let (pattern, term) = term_pair(seed);
+        let expected = shares(&pattern, &frozen(&term));
+        assert_eq!(matches(&pattern, &term), expected, "seed {seed}");
+        assert!(!expected || shares(&pattern, &term), "seed {seed}");
+        yes += u32::from(expected);
+    }
+    println!("{yes} of 50000 pairs match");
+    assert!(yes > 5_000);
+}
+
+#[test]
+fn no_pair_takes_long() {
+    let (mut yes, mut largest) = (0, 0);
+    for seed in 0..50_000 {
+        let (pattern, term) = term_pair(seed);
+        largest = largest.max(pattern.size()).max(term.size());
+        let start = Instant::now();
+        yes += u32::from(shares(&pattern, &term));
+        assert!(start.elapsed().as_secs() < 5, "seed {seed}");
+    }
+    println!("{yes} of 50000 pairs share an instance, the largest has {largest} entries");
+    assert_eq!(largest, 63);
+    assert!((10_000..40_000).contains(&yes));
+}
+
+#[test]
+fn terms_come_back_from_their_entries() {
+    for seed in 0..20_000 {
+        let (pattern, term) = term_pair(seed);
+        let pair = generate::pair(seed);
+        assert_eq!(decode(&pair.pattern), Some(pattern.clone()));
+        assert_eq!(decode(&pair.term), Some(term.clone()));
+        assert_eq!(encode(&pattern).len(), 4 * pattern.size());
+        let cut = &pair.term[..pair.term.len() - 4];
+        assert_eq!(decode(cut), None);
+        assert_eq!(
+            decode(&[pair.term.clone(), vec![4, 0, 0, 0]].concat()),
+            None
+        );
+    }
+}

@@ -1,0 +1,9 @@
+//! Certificates as text: assembling into sealed blocks, and printing.
+
+mod assemble;
+mod names;
+mod print;
+mod tokens;
+
+pub use assemble::{assemble, Error};
+pub use print::print;

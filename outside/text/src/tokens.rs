@@ -1,0 +1,79 @@
+//! The words of one line.
+
+#[derive(Clone, Debug, PartialEq, Eq)]
+pub enum Token {
+    /// One of ( ) { } ,
+    Sign(char),
+    Arrow,
+    Name(String),
+    Plain(String),
+    Marked(String),
+}
+
+impl Token {
+    /// How the token is named in an error.
+    pub fn shown(&self) -> String {
+        match self {
+            Token::Sign(sign) => format!("`{sign}`"),
+            Token::Arrow => "`->`".to_string(),
+            Token::Name(name) => format!("`{name}`"),
+            Token::Plain(name) => format!("`?{name}`"),
+            Token::Marked(name) => format!("`*{name}`"),
+        }
+    }
+}
+
+/// The tokens of a line; a comment runs from `#` to the end of the line.
+pub fn tokens(line: &str) -> Result<Vec<Token>, String> {
+    let text = line.split('#').next().unwrap_or("");
+    let mut rest = text.trim_start();
+    let mut found = Vec::new();
+    while let Some(sign) = rest.chars().next() {
+        let (token, length) = first_token(sign, rest)?;
+        found.push(token);
+        rest = rest[length..].trim_start();
+    }
+    Ok(found)
+}
+
+/// The token at the front and how many bytes it takes.
+fn first_token(sign: char, rest: &str) -> Result<(Token, usize), String> {
+    match sign {
+        '(' | ')' | '{' | '}' | ',' => Ok((Token::Sign(sign), 1)),
+        '-' if rest.starts_with("->") => Ok((Token::Arrow, 2)),
+        '?' | '*' => {
+            let name = name_at(&rest[1..]);
+            if name.is_empty() {
+                return Err(format!("`{sign}` needs a variable's name"));
+            }
+            let length = 1 + name.len();
+            if rest[length..].starts_with('!') {
+                return Err("nonce variables (with `!`) are not in the base".to_string());
+            }
+            let token = if sign == '?' {
+                Token::Plain
+            } else {
+                Token::Marked
+            };
+            Ok((token(name.to_string()), length))
+        }
+        '<' | '>' => Err("flat tuples (`<` and `>`) are not in the base".to_string()),
+        _ => {
+            let name = name_at(rest);
+            if name.is_empty() {
+                return Err(format!("`{sign}` has no meaning here"));
+            }
+            let after = &rest[name.len()..];
+            if (name == "h" || name == "sig") && after.starts_with('(') {
+                return Err("hashes and signatures are not in the base".to_string());
+            }
+            Ok((Token::Name(name.to_string()), name.len()))
+        }
+    }
+}
+
+/// Letters, digits, `_` and `'` at the front.
+fn name_at(text: &str) -> &str {
+    let end = text.find(|c: char| !(c.is_alphanumeric() || c == '_' || c == '\''));
+    &text[..end.unwrap_or(text.len())]
+}

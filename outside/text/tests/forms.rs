@@ -1,0 +1,235 @@
+//! The text form: the document's cases as text, round trips, errors, notes.
+
+use literal::{Refusal, Verdict};
+use text::{assemble, print};
+
+const ATOMS: &str = "\
+atom A principal known
+atom I principal known
+atom KA public known partner KAi
+atom KAi private unknown partner KA
+atom KI public known partner KIi
+atom KIi private known partner KI
+atom N nonce unknown
+atom T nonce known
+";
+
+fn line_of(rest: &str) -> String {
+    let bytes = assemble(&format!("{ATOMS}{rest}")).unwrap();
+    let line = literal::line(&literal::verdict(&bytes));
+    String::from_utf8(line).unwrap().trim_end().to_string()
+}
+
+/// Secrets N and KAi, good {*s}KA, and these lines.
+fn usual(rest: &str) -> String {
+    line_of(&format!("secret N\nsecret KAi\ngood {{*s}}KA\n{rest}"))
+}
+
+#[test]
+fn the_documents_cases() {
+    let accepted = "accepted blocks=5 secrets=2 good=1 bad=0 rules=1";
+    assert_eq!(usual("rule -> {N}KA"), accepted);
+    assert_eq!(usual("rule -> {N}KI"), "refused 12 block=4 place=1");
+    assert_eq!(usual("rule {?x}KA -> {?x}KI"), "refused 12 block=4 place=3");
+    assert_eq!(usual("rule {?x}KI -> ?x"), accepted);
+    let e = "secret N\nsecret KAi\ngood {(T, *s)}KA\nrule {(I, ?x)}KA -> {?x}KI";
+    assert_eq!(line_of(e), accepted);
+    let with_bad = "accepted blocks=6 secrets=2 good=1 bad=1 rules=1";
+    assert_eq!(
+        usual("bad {(I, ?x)}KA\nrule {(I, ?x)}KA -> {?x}KI"),
+        with_bad
+    );
+    let g = usual("bad {(I, ?x)}KA\nrule {(T, ?x)}KA -> {?x}KA");
+    assert_eq!(g, "refused 12 block=5 place=5");
+    let h = line_of("secret N\ngood {*s}KA\nrule -> {N}KA");
+    assert_eq!(h, "refused 11 block=2 place=0");
+    let i = line_of("secret T\nsecret N\nsecret KAi\ngood {*s}KA\nrule -> {N}KA");
+    assert_eq!(i, "refused 9 block=1 place=0");
+    let j = line_of("secret (N, T)\ngood {*s}KA\nrule -> {N}KA");
+    assert_eq!(j, "refused 10 block=1 place=0");
+    assert_eq!(usual("rule N -> KAi"), accepted);
+}
+
+#[test]
+fn numbers_of_variables() {
+    let entries = |line: &str| {
+        let file = assemble(&format!("{ATOMS}{line}")).unwrap();
+        let used = (file[513] + file[514]) as usize;
+        let block = &file[516..516 + 4 * used];
+        block.chunks(4).map(|e| (e[0], e[2])).collect::<Vec<_>>()
+    };
+    let good = entries("good {(?x, (*x, (?y, ?x)))}KA");
+    assert_eq!(good[2..], [(4, 0), (2, 0), (5, 0), (2, 0), (4, 1), (4, 0)]);
+    let rule = entries("rule ?b -> (?a, ?b)");
+    assert_eq!(rule, [(4, 0), (2, 0), (4, 1), (4, 0)]);
+    let digits = entries("rule ?a -> (?0, (?7, ?b))");
+    assert_eq!(digits, [(4, 1), (2, 0), (4, 0), (2, 0), (4, 7), (4, 2)]);
+}
+
+fn error_of(text: &str) -> String {
+    assemble(text).unwrap_err().to_string()
+}
+
+#[test]
+fn errors_with_line_numbers() {
+    assert_eq!(
+        error_of("\n# note\nsecret N"),
+        "line 3: there is no atom `N`"
+    );
+    assert_eq!(error_of("foo"), "line 1: a line cannot begin with `foo`");
+    assert_eq!(error_of("( A"), "line 1: a line cannot begin with `(`");
+    let with_atoms = |line: &str| error_of(&format!("{ATOMS}{line}"));
+    assert_eq!(
+        with_atoms("secret (N, T"),
+        "line 9: the line ends where `)` must stand"
+    );
+    assert_eq!(with_atoms("secret (N T)"), "line 9: `,` must stand for `T`");
+    assert_eq!(
+        with_atoms("secret N T"),
+        "line 9: the line must end before `T`"
+    );
+    assert_eq!(
+        with_atoms("rule N"),
+        "line 9: the line ends where `->` must stand"
+    );
+    assert_eq!(
+        with_atoms("rule N ->"),
+        "line 9: the line ends where a term must stand"
+    );
+    assert_eq!(
+        with_atoms("good {*s}?x"),
+        "line 9: a key's name must stand for `?x`"
+    );
+    assert_eq!(with_atoms("good {*s}%"), "line 9: `%` has no meaning here");
+    assert_eq!(
+        with_atoms("atom N nonce known"),
+        "line 9: a second atom `N`"
+    );
+    assert_eq!(
+        with_atoms("atom M nonce maybe"),
+        "line 9: `known` or `unknown` must stand for `maybe`"
+    );
+    assert_eq!(
+        with_atoms("atom M number known"),
+        "line 9: `number` is no kind of atom"
+    );
+    assert_eq!(
+        with_atoms("atom K public known"),
+        "line 9: a public or private key needs `partner NAME`"
+    );
+    let late = with_atoms("secret N\natom M nonce known");
+    assert_eq!(late, "line 10: atoms come before all other lines");
+    let nine = "rule -> (?a, (?b, (?c, (?d, (?e, (?f, (?g, (?h, ?i))))))))";
+    assert_eq!(with_atoms(nine), "line 9: `i` would be a ninth variable");
+    let long = format!("secret {}N{}", "(N, ".repeat(32), ")".repeat(32));
+    assert_eq!(
+        with_atoms(&long),
+        "line 9: a term of 65 entries; 63 is the most"
+    );
+    let deep = format!("secret {}", "(".repeat(100_000));
+    assert_eq!(with_atoms(&deep), "line 9: a term nested more than 63 deep");
+    let many = "rule -> ?x\n".repeat(65);
+    assert_eq!(error_of(&many), "line 65: a 65th block");
+    let many: String = (0..127)
+        .map(|i| format!("atom x{i} nonce known\n"))
+        .collect();
+    assert_eq!(error_of(&many), "line 127: a 127th atom");
+}
+
+#[test]
+fn later_tags_are_told() {
+    assert!(error_of("rule -> ?n!x").contains("nonce variables"));
+    assert!(error_of("rule -> h(?x)").contains("hashes"));
+    assert!(error_of("rule -> sig(?x)K").contains("signatures"));
+    assert!(error_of("rule -> <?x, ?y, ?z>").contains("flat tuples"));
+}
+
+/// Texts that the checker refuses come back too.
+#[test]
+fn round_trips_of_odd_texts() {
+    let odd = [
+        "",
+        "rule -> ?x",
+        "secret ?x\nsecret *y",
+        "good N\nbad *s\nrule *s -> {?x}N",
+        "rule -> A\nsecret N\nbad {?x}KA\ngood {?y}KA",
+        "atom B principal known partner T",
+        "atom K symmetric unknown partner A",
+        "atom K private unknown partner A",
+    ];
+    for rest in odd {
+        for text in [rest.to_string(), format!("{ATOMS}{rest}")] {
+            if let Ok(bytes) = assemble(&text) {
+                assert_eq!(assemble(&print(&bytes)), Ok(bytes), "{text}");
+            }
+        }
+    }
+}
+
+#[test]
+fn round_trips_of_generated_files() {
+    let mut same = 0;
+    for seed in 0..3_000 {
+        let file = generate::file(seed);
+        let printed = print(&file);
+        let whole = match literal::verdict(&file) {
+            Verdict::Accepted(_) => true,
+            Verdict::Refused(Refusal { number, .. }) => [4, 9, 10, 11, 12].contains(&number),
+        };
+        if whole {
+            assert_eq!(assemble(&printed), Ok(file), "seed {seed}");
+            assert!(!printed.contains('#'), "seed {seed}");
+            same += 1;
+        } else {
+            assert!(
+                printed.contains('#') || is_partner_fault(&file),
+                "seed {seed}\n{printed}"
+            );
+        }
+        if let Ok(bytes) = assemble(&printed) {
+            assert_eq!(assemble(&print(&bytes)), Ok(bytes), "seed {seed}");
+        }
+    }
+    assert!(same > 1_500);
+}
+
+/// Number 6 by a partner that is listed: the text says it as it is.
+fn is_partner_fault(file: &[u8]) -> bool {
+    matches!(literal::verdict(file), Verdict::Refused(r) if r.number == 6)
+}
+
+#[test]
+fn any_bytes_are_printed() {
+    let mut random = generate::random::Random::new(5);
+    for length in [0, 1, 511, 512, 513, 5_120, 40_000] {
+        for _ in 0..20 {
+            let mut bytes: Vec<u8> = (0..length).map(|_| random.byte()).collect();
+            for block in bytes.chunks_mut(512) {
+                block[0] = (random.below(7)) as u8;
+            }
+            print(&bytes);
+        }
+    }
+}
+
+#[test]
+fn notes_in_words() {
+    let mut file = assemble(&format!("{ATOMS}secret N\ngood {{*s}}KA\nrule -> {{N}}KA")).unwrap();
+    file[508] ^= 1;
+    file[512 + 4] = 9;
+    file[1024 + 40] = 1;
+    file[1536] = 77;
+    file.extend([1, 2, 3]);
+    let printed = print(&file);
+    for words in [
+        "# the last 3 bytes are no whole block",
+        "# block 0: the check is ",
+        "# block 1: a secret block that is not read whole: entry 0, tag 9 is none of 1 to 5",
+        "# block 1: entry 0: not read, tag 9 is none of 1 to 5",
+        "# block 2: unused entry 9 is not zero",
+        "good {*0}k2",
+        "# block 3: kind 77 is none of 1 to 5, not read",
+    ] {
+        assert!(printed.contains(words), "{words}\n{printed}");
+    }
+}
