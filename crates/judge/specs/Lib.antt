@@ -1,9 +1,14 @@
--- What a certificate claims and why, in the order of document 01.
+-- What a certificate claims and why, in the order of document 01: certificates and files, the intruder and runs, hats
+-- and cover, the conditions; each decided; the verdict, and what it means.
 pub mod Certificate
 pub mod File
-pub mod Laid
 pub mod Run
 pub mod Hat
 pub mod Cover
 pub mod Conditions
 pub mod Decisions
+pub mod Verdict
+pub mod Meaning
+-- What the parts of the code promise to each other.
+pub mod Laid
+pub mod Listed

@@ -1,2 +1,3 @@
-// The judging layer: a certificate file gets its verdict.
+// The judging layer: what judging a certificate asks of its bytes. Each function here decides one condition.
+pub mod listed;
 pub mod verdict;

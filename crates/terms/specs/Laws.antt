@@ -8,16 +8,9 @@ use native.Mathlib.Omega.{arith}
 use Rattle.terms.specs.Term.{Term, variable, atom, pair, encrypted, Message, replace, asTerm}
 use Rattle.terms.specs.Place.{Turn, left, right, inside, Place, subtermAt, StrictlyAbove, AtOrAbove}
 use Rattle.terms.specs.Instance.{Matches}
+use Rattle.terms.specs.Occurs.{replace-twice}
 
 -- Replacements.
-
-pub replace-replace : {X Y Z : Type 0} (by : X → Term Y) (next : Y → Term Z) (t : Term X) →
-    replace next (replace by t) ≡ replace (λ x. replace next (by x)) t
-unfolding replace
-replace-replace by next (variable x) = refl
-replace-replace by next (atom a) = refl
-replace-replace by next (pair t u) = cc (replace-replace by next t, replace-replace by next u)
-replace-replace by next (encrypted k t) = cc (replace-replace by next t)
 
 -- A message holds no variable, so a replacement leaves it as it is.
 pub replace-message : (by : ⊥ → Message) (m : Message) → replace by m ≡ m
@@ -29,13 +22,13 @@ replace-message by (encrypted k m) = cc (replace-message by m)
 
 pub replace-asTerm : {X : Type 0} (by : X → Message) (m : Message) → replace by (asTerm m) ≡ m
 unfolding asTerm
-replace-asTerm by m = replace-replace (λ x. absurd x) by m ∙ replace-message (λ x. replace by (absurd x)) m
+replace-asTerm by m = replace-twice by (λ x. absurd x) m ∙ replace-message (λ x. replace by (absurd x)) m
 
 -- What matches a term matches the term's instances.
 pub matches-replace : {X Y Z : Type 0} {pattern : Term X} {t : Term Y} (by : Y → Term Z) → Matches pattern t →
     Matches pattern (replace by t)
 matches-replace {pattern} by h =
-    record { by = λ x. replace by (h .by x); same = sym (replace-replace (h .by) by pattern) ∙ ap (replace by) (h .same) }
+    record { by = λ x. replace by (h .by x); same = sym (replace-twice by (h .by) pattern) ∙ ap (replace by) (h .same) }
 
 -- Places.
 

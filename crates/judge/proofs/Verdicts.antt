@@ -1,0 +1,278 @@
+-- The verdict of a file is what document 01's conditions say, accepted or refused.
+use mathlib.Core.Path.{_≡_, refl, sym, ap, subst, _∙_}
+use mathlib.Core.Logic.{_⊎_, inl, inr, _↔_}
+use mathlib.Core.Bool.{true, false, _&&_}
+use mathlib.Core.List.{List, []}
+use mathlib.Core.Option.{Option, none, some, Option·none-ne-some}
+use Prim.Native.Nat.{ℕ, _+_, _<_}
+use native.Mathlib.Omega.{arith}
+use lib.Dec.{eqb, leb}
+use Rattle.blocks.specs.Block.{blockAt, kindOf, firstCount}
+use Rattle.terms.specs.declared.valid.Found.{Found}
+use Rattle.terms.specs.declared.valid.Found.the-variants.{At, Nothing}
+use Rattle.terms.specs.Term.{Term, Variable}
+use Rattle.terms.specs.Place.{Place, subtermAt}
+use Rattle.terms.specs.Entry.{size}
+use Rattle.terms.specs.Search.{Spot, spots, in-spots, spots-stand}
+use Rattle.terms.specs.First.{firstNot}
+use Rattle.terms.specs.Decide.{answer}
+use Rattle.terms.specs.Decisions.{says-eq}
+use Rattle.terms.specs.Solve.{Says, says-same}
+use Rattle.judge.specs.declared.verdict.Counts.{Counts}
+use Rattle.judge.specs.declared.verdict.Fault.{Fault}
+use Rattle.judge.specs.declared.verdict.Fault.the-variants.{Length, Missing, KnownSecret, NotClosed, KeyNotKept, Uncovered}
+use Rattle.judge.specs.declared.verdict.Verdict.the-variants.{Accepted, Refused}
+use Rattle.judge.specs.Certificate.{Certificate, Rule}
+use Rattle.judge.specs.File.{blockCount, patternOf, secretOf, ruleOf, certificateOf}
+use Rattle.judge.specs.Cover.{Risky, Covered, Dead, Passes, dead, covered}
+use Rattle.judge.specs.Conditions.{KnownAtom}
+use Rattle.judge.specs.Decisions.{known-atom?, weakly-closed?, kept-key?, risky?, dead?}
+use Rattle.judge.specs.Verdict.{kindCount, missingFault, onKind, kindFault, knownSecret, openSecret, looseKey, spotAt, FineAt, fine?}
+use Rattle.judge.specs.Verdict.{uncovered, openRule, knownFault, closedFault, keyFault, ruleFault, certificateFault}
+use Rattle.judge.specs.Verdict.{lengthFault, layoutFrom, layoutFault, faultOf, countsOf, verdictOf, blockFault}
+use Rattle.judge.specs.Meaning.{LengthRight, BlockRight, BlockFaulty, HasKind, Formed, Every, Unknown, Closed, Kept, Passing}
+use Rattle.judge.specs.Meaning.{FirstUncovered, Accepts, FirstAt, Faulty, lengthFails, blockFails, missing, secretKnown}
+use Rattle.judge.specs.Meaning.{secretOpen, keyOpen, placeOpen}
+use Rattle.judge.proofs.Exact.{Exact, found-none, found-some, reworded, tested, either, then, FirstPlace, at, first-place}
+use Rattle.judge.proofs.Exact.{FirstBlock, at-block, first-block, says-decided, says-le, says-both}
+use Rattle.judge.proofs.Judged.{length-judged, block-judged}
+use Rattle.judge.proofs.Members.{count-has, has-count, member-number, number-member, spots-length}
+
+-- ---- number 4
+
+missing-judged : (file : List ℕ) → Exact (HasKind 2 file × HasKind 5 file)
+    (λ g. (g ≡ Missing (blockCount file)) × (¬ (HasKind 2 file × HasKind 5 file))) (missingFault file)
+unfolding missingFault
+missing-judged file = tested (leb 1 (kindCount 2 file) && leb 1 (kindCount 5 file)) (Missing (blockCount file))
+    (says-both (HasKind 2 file) (HasKind 5 file) (leb 1 (kindCount 2 file)) (leb 1 (kindCount 5 file)) (has 2) (has 5))
+  where
+    has : (kind : ℕ) → Says (leb 1 (kindCount kind file)) (HasKind kind file)
+    has kind = says-same (leb 1 (kindCount kind file)) (count-has kind file) (has-count kind file) (says-le 1 (kindCount kind file))
+
+-- ---- the first block of a kind
+
+-- It fails there, and this is the fault.
+data KindWrong (kind : ℕ) (file : List ℕ) (P : List ℕ → Type 0) (W : ℕ → Fault → Type 0) (g : Fault) : Type 0 where
+  kind-wrong : {i : ℕ} → FirstAt i kind file P → W i g → KindWrong kind file P W g
+
+kind-judged : {P : List ℕ → Type 0} {W : ℕ → Fault → Type 0} (kind : ℕ) (judged : ℕ → List ℕ → Option Fault) (file : List ℕ)
+    → ((i : ℕ) → Exact (P (blockAt file i)) (W i) (judged i (blockAt file i)))
+    → Exact (Every kind file P) (KindWrong kind file P W) (kindFault kind judged file)
+unfolding kindFault onKind
+kind-judged {P} {W} kind judged file each = reworded (λ all i h. all i h) (λ all i h. all i h) to back
+    (first-block (onKind kind judged file) on (blockCount file))
+  where
+    R : ℕ → Type 0
+    R i = kindOf (blockAt file i) ≡ kind → P (blockAt file i)
+
+    U : ℕ → Fault → Type 0
+    U i g = (kindOf (blockAt file i) ≡ kind) × W i g
+
+    on : (i : ℕ) → Exact (R i) (U i) (onKind kind judged file i)
+    on i = reworded (λ w. w .0) (λ r. (r, λ n. tt)) onto (λ g w. inl w)
+        (either (eqb (kindOf (blockAt file i)) kind) (says-eq (kindOf (blockAt file i)) kind) (λ e. each i)
+        (λ n. found-none {Right = Unit {0}} {Wrong = λ g. ⊥} tt (λ g w. w)))
+      where
+        onto : (g : Fault) → ((kindOf (blockAt file i) ≡ kind) × W i g) ⊎ ((¬ (kindOf (blockAt file i) ≡ kind)) × ⊥) → U i g
+        onto g (inl w) = w
+        onto g (inr w) = absurd (w .1)
+
+    to : (g : Fault) → FirstBlock R U 0 (blockCount file) g → KindWrong kind file P W g
+    to g (at-block {i} l h all w) = kind-wrong {i = i} (record {
+      inside = omega arith;
+      is = w .0;
+      fails = λ p. Option·none-ne-some g (sym (each i .right-none p) ∙ each i .wrong-some g (w .1));
+      before = λ j b. all j (omega arith) b;
+    }) (w .1)
+
+    back : (g : Fault) → KindWrong kind file P W g → FirstBlock R U 0 (blockCount file) g
+    back g (kind-wrong {i} f w) = at-block {i = i} (omega arith) (let h = f .inside in omega arith) (λ j l h. f .before j h) (f .is, w)
+
+-- ---- number 12 of a rule
+
+module _ (certificate : Certificate) (rule : Rule) where
+  -- Each place by its number, and each place.
+  all-fine : ((k : ℕ) → k < size (rule .conclusion) → FineAt certificate rule k) → (p : Place) (t : Term Variable)
+      → subtermAt p (rule .conclusion) ≡ some t → Risky certificate t → Covered certificate rule p t
+  unfolding spotAt
+  all-fine all p t e =
+      let w = member-number (spots (rule .conclusion)) ([], rule .conclusion) (in-spots p (rule .conclusion) e) in
+      subst (λ (s : Spot Variable). Risky certificate (s .1) → Covered certificate rule (s .0) (s .1)) (w .2)
+      (all (w .0) (omega (arith, w .1, spots-length (rule .conclusion))))
+
+  fine-all : ¬ Dead certificate rule → Passes certificate rule → (k : ℕ) → k < size (rule .conclusion) → FineAt certificate rule k
+  unfolding spotAt
+  fine-all alive (dead d) k h = absurd (alive d)
+  fine-all alive (covered every) k h =
+      every _ _ (spots-stand (rule .conclusion) (spotAt (rule .conclusion) k)
+      (number-member (spots (rule .conclusion)) ([], rule .conclusion) k (omega (arith, spots-length (rule .conclusion)))))
+
+  abbrev RuleOpen : (ℕ → Fault) → Fault → Type 0
+  RuleOpen F g = (k : ℕ) × (g ≡ F k) × FirstUncovered certificate rule k
+
+  passes-judged : (F : ℕ → Fault) → Exact (Passes certificate rule) (RuleOpen F) (elim (uncovered certificate rule) [ At k ↦ some (F k) | Nothing ↦ none ])
+  unfolding uncovered
+  passes-judged F = go (dead? certificate rule)
+    where
+      wrong-to : ¬ Dead certificate rule → (g : Fault) → FirstPlace (FineAt certificate rule) (size (rule .conclusion)) F g → RuleOpen F g
+      wrong-to alive g (at {n} e l off all) = (
+        n,
+        e,
+        record {
+          alive = alive;
+          inside = l;
+          risky = elim (risky? certificate (spotAt (rule .conclusion) n .1)) [ yes r ↦ r | no m ↦ absurd (off (λ r. absurd (m r))) ];
+          bare = λ c. off (λ r. c);
+          before = all;
+        },
+      )
+
+      wrong-back : (g : Fault) → RuleOpen F g → FirstPlace (FineAt certificate rule) (size (rule .conclusion)) F g
+      wrong-back g (k, e, u) = at e (u .inside) (λ fine. u .bare (fine (u .risky))) (u .before)
+
+      go : (d : Dec (Dead certificate rule)) → Exact (Passes certificate rule) (RuleOpen F)
+          (elim (elim (answer d) as (λ t. Found) [ true ↦ Nothing | false ↦ firstNot (fine? certificate rule) (size (rule .conclusion)) ])
+          [ At k ↦ some (F k) | Nothing ↦ none ])
+      go (yes d) = found-none (dead d) (λ g w. w .2 .alive d)
+      go (no n) = reworded (λ all. covered (all-fine all)) (fine-all n) (wrong-to n) wrong-back
+          (first-place (fine? certificate rule) (size (rule .conclusion)) F)
+
+-- ---- numbers 9 to 12
+
+module _ (certificate : Certificate) (file : List ℕ) where
+  abbrev KnownWrong : ℕ → Fault → Type 0
+  KnownWrong i g = (g ≡ KnownSecret i) × KnownAtom certificate (secretOf (blockAt file i))
+
+  known-judged : Exact (Every 2 file (Unknown certificate)) (KindWrong 2 file (Unknown certificate) KnownWrong) (knownFault certificate file)
+  unfolding knownFault knownSecret
+  known-judged = kind-judged 2 (knownSecret certificate) file (λ i. go i (known-atom? certificate (secretOf (blockAt file i))))
+    where
+      go : (i : ℕ) (d : Dec (KnownAtom certificate (secretOf (blockAt file i))))
+          → Exact (Unknown certificate (blockAt file i)) (KnownWrong i) (elim (answer d) [ true ↦ some (KnownSecret i) | false ↦ none ])
+      go i (yes k) = found-some (KnownSecret i) (λ u. u k) (refl, k) (λ g w. w .0)
+      go i (no n) = found-none n (λ g w. n (w .1))
+
+  abbrev ClosedWrong : ℕ → Fault → Type 0
+  ClosedWrong i g = (g ≡ NotClosed i) × (¬ Closed certificate (blockAt file i))
+
+  closed-judged : Exact (Every 2 file (Closed certificate)) (KindWrong 2 file (Closed certificate) ClosedWrong) (closedFault certificate file)
+  unfolding closedFault openSecret
+  closed-judged = kind-judged 2 (openSecret certificate) file
+      (λ i. tested (answer (weakly-closed? certificate (secretOf (blockAt file i)))) (NotClosed i)
+      (says-decided (weakly-closed? certificate (secretOf (blockAt file i)))))
+
+  abbrev KeyWrong : ℕ → Fault → Type 0
+  KeyWrong i g = (g ≡ KeyNotKept i) × (¬ Kept certificate (blockAt file i))
+
+  key-judged : Exact (Every 3 file (Kept certificate)) (KindWrong 3 file (Kept certificate) KeyWrong) (keyFault certificate file)
+  unfolding keyFault looseKey
+  key-judged = kind-judged 3 (looseKey certificate) file
+      (λ i. tested (answer (kept-key? certificate (patternOf (blockAt file i)))) (KeyNotKept i)
+      (says-decided (kept-key? certificate (patternOf (blockAt file i)))))
+
+  abbrev RuleWrong : ℕ → Fault → Type 0
+  RuleWrong i g = RuleOpen certificate (ruleOf (blockAt file i)) (λ k. Uncovered i (firstCount (blockAt file i) + k)) g
+
+  rule-judged : Exact (Every 5 file (Passing certificate)) (KindWrong 5 file (Passing certificate) RuleWrong) (ruleFault certificate file)
+  unfolding ruleFault openRule
+  rule-judged = kind-judged 5 (openRule certificate) file
+      (λ i. passes-judged certificate (ruleOf (blockAt file i)) (λ k. Uncovered i (firstCount (blockAt file i) + k)))
+
+  abbrev Judged : Type 0
+  Judged = Every 2 file (Unknown certificate) × (Every 2 file (Closed certificate)
+      × (Every 3 file (Kept certificate) × Every 5 file (Passing certificate)))
+
+  abbrev JudgedWrong : Fault → Type 0
+  JudgedWrong g = KindWrong 2 file (Unknown certificate) KnownWrong g
+      ⊎ (Every 2 file (Unknown certificate) × (KindWrong 2 file (Closed certificate) ClosedWrong g
+      ⊎ (Every 2 file (Closed certificate) × (KindWrong 3 file (Kept certificate) KeyWrong g
+      ⊎ (Every 3 file (Kept certificate) × KindWrong 5 file (Passing certificate) RuleWrong g)))))
+
+  certificate-judged : Exact Judged JudgedWrong (certificateFault certificate file)
+  unfolding certificateFault
+  certificate-judged = then (knownFault certificate file) known-judged
+      (λ k. then (closedFault certificate file) closed-judged (λ c. then (keyFault certificate file) key-judged (λ h. rule-judged)))
+
+-- ---- the verdict
+
+module _ (file : List ℕ) where
+  abbrev Blocks : Type 0
+  Blocks = (i : ℕ) → i < blockCount file → BlockRight file i
+
+  layout-judged : Exact Blocks (FirstBlock (BlockRight file) (BlockFaulty file) 0 (blockCount file)) (layoutFault file)
+  unfolding layoutFault layoutFrom
+  layout-judged = first-block (blockFault file) (block-judged file) (blockCount file)
+
+  abbrev Right : Type 0
+  Right = LengthRight file × (Blocks × ((HasKind 2 file × HasKind 5 file) × Judged (certificateOf file) file))
+
+  abbrev Wrong : Fault → Type 0
+  Wrong g = ((g ≡ Length) × (¬ LengthRight file)) ⊎ (LengthRight file
+      × (FirstBlock (BlockRight file) (BlockFaulty file) 0 (blockCount file) g ⊎ (Blocks
+      × (((g ≡ Missing (blockCount file)) × (¬ (HasKind 2 file × HasKind 5 file)))
+      ⊎ ((HasKind 2 file × HasKind 5 file) × JudgedWrong (certificateOf file) file g)))))
+
+  fault-judged : Exact (Accepts file) (Faulty file) (faultOf file)
+  unfolding faultOf
+  fault-judged = reworded to back wrong-to (λ g w. wrong-back g w)
+      (then (lengthFault file) (length-judged file) (λ l. then (layoutFault file) layout-judged
+      (λ b. then (missingFault file) (missing-judged file) (λ h. certificate-judged (certificateOf file) file))))
+    where
+      formed : LengthRight file → Blocks → HasKind 2 file × HasKind 5 file → Formed file
+      formed l b h = record { long = l; blocks = b; secret = h .0; rule = h .1 }
+
+      to : Right → Accepts file
+      to (l, (b, (h, (u, (c, (k, p)))))) = record { formed = formed l b h; unknown = u; closed = c; kept = k; passing = p }
+
+      back : Accepts file → Right
+      back a = (a .formed .long, (a .formed .blocks, ((a .formed .secret, a .formed .rule), (a .unknown, (a .closed, (a .kept, a .passing))))))
+
+      judged-to : (g : Fault) → Formed file → JudgedWrong (certificateOf file) file g → Faulty file g
+      judged-to g f (inl (kind-wrong a w)) = secretKnown (w .0) f a (w .1)
+      judged-to g f (inr (u, inl (kind-wrong a w))) = secretOpen (w .0) f u a
+      judged-to g f (inr (u, inr (c, inl (kind-wrong a w)))) = keyOpen (w .0) f u c a
+      judged-to g f (inr (u, inr (c, inr (k, kind-wrong a w)))) = placeOpen (w .1) f u c k a (w .2)
+
+      wrong-to : (g : Fault) → Wrong g → Faulty file g
+      wrong-to g (inl w) = lengthFails (w .0) (w .1)
+      wrong-to g (inr (l, inl (at-block {i = i} a h all w))) = blockFails {i = i} l (omega arith) (λ j p. all j (omega arith) p) w
+      wrong-to g (inr (l, inr (b, inl w))) = missing (w .0) l b (w .1)
+      wrong-to g (inr (l, inr (b, inr (h, w)))) = judged-to g (formed l b h) w
+
+      later-on : (g : Fault) → Formed file → JudgedWrong (certificateOf file) file g → Wrong g
+      later-on g f w = inr (f .long, inr (f .blocks, inr ((f .secret, f .rule), w)))
+
+      wrong-back : (g : Fault) → Faulty file g → Wrong g
+      wrong-back g (lengthFails e n) = inl (e, n)
+      wrong-back g (blockFails {i} l h all w) = inr (l, inl (at-block {i = i} (omega arith) (omega arith) (λ j a p. all j p) w))
+      wrong-back g (missing e l b n) = inr (l, inr (b, inl (e, n)))
+      wrong-back g (secretKnown e f a k) = later-on g f (inl (kind-wrong a (e, k)))
+      wrong-back g (secretOpen e f u a) = later-on g f (inr (u, inl (kind-wrong a (e, a .fails))))
+      wrong-back g (keyOpen e f u c a) = later-on g f (inr (u, inr (c, inl (kind-wrong a (e, a .fails)))))
+      wrong-back g (placeOpen {k = n} e f u c k a w) = later-on g f (inr (u, inr (c, inr (k, kind-wrong a (n, e, w)))))
+
+  -- Accepted, with the file's own counts, if and only if every condition holds.
+  pub accepted-iff : (counts : Counts) → (verdictOf file ≡ Accepted counts) ↔ (Accepts file × (counts ≡ countsOf file))
+  unfolding verdictOf
+  accepted-iff counts = go (faultOf file) fault-judged
+    where
+      go : (o : Option Fault) → Exact (Accepts file) (Faulty file) o
+          → ((elim o [ some f ↦ Refused f | none ↦ Accepted (countsOf file) ]) ≡ Accepted counts) ↔ (Accepts file × (counts ≡ countsOf file))
+      go none x = (λ e. (x .none-right refl, cc), λ w. ap Accepted (sym (w .1)))
+      go (some f) x = (
+        λ e. (let z : _≡_ {A = ℕ} 0 1 = cc in absurd (omega arith)),
+        λ w. absurd (Option·none-ne-some f (sym (x .right-none (w .0)))),
+      )
+
+  -- Refused with this fault if and only if it is the first in document 01's order.
+  pub refused-iff : (fault : Fault) → (verdictOf file ≡ Refused fault) ↔ Faulty file fault
+  unfolding verdictOf
+  refused-iff fault = go (faultOf file) fault-judged
+    where
+      go : (o : Option Fault) → Exact (Accepts file) (Faulty file) o
+          → ((elim o [ some f ↦ Refused f | none ↦ Accepted (countsOf file) ]) ≡ Refused fault) ↔ Faulty file fault
+      go none x = (
+        λ e. (let z : _≡_ {A = ℕ} 0 1 = cc in absurd (omega arith)),
+        λ w. absurd (Option·none-ne-some fault (x .wrong-some fault w)),
+      )
+      go (some f) x = (λ e. x .some-wrong fault (cc), λ w. (let q = x .wrong-some fault w in cc))

@@ -1,0 +1,41 @@
+use borrow.Author.Needs.{needs}
+use Rattle.terms.specs.EntryLaws.{begins}
+use Rattle.terms.specs.WalkLaws.{pair-first, encryption-first, right-begins}
+use Rattle.judge.specs.File.{certificateOf}
+use Rattle.judge.proofs.Listing.{search-part}
+use Rattle.judge.proofs.Numbers.{closed-left, closed-right, closed-content, closed-key, closed-atom}
+use Rattle.judge.proofs.listed.is_closed.Statement.{statement}
+use Rattle.judge.proofs.listed.is_closed.Tie as tie
+
+pub is-closed-spec : {M : Type 1} → statement M
+is-closed-spec = tie.close (tie.spec
+    (λ c. search needs)  -- shared-slice-read-tag
+    (λ c. search needs)  -- sub-is-listed-secret
+    (λ c. search needs)  -- part-is-listed-secret-start
+    (λ c. search needs)  -- part-is-listed-secret-end
+    (λ c κs. search-part 4 (c .before .before .before .before .before .pre) (begins (pair-first (c .before .before .before .before .before .pre .term) (c .before .if1 .taken) .below)))  -- is-listed-secret-requires
+    (λ c. λ m message. closed-left (certificateOf (c .before .before .before .before .before .before .before .args .file .now)) (c .before .before .before .before .before .before .before .pre .term) m message (c .before .before .before .if1 .taken) (c .before .is-listed-secret .ensures) (c .if2 .taken))  -- returns
+    (λ c. search needs)  -- sub-term-size
+    (λ c. search needs)  -- part-term-size-start
+    (λ c. search needs)  -- part-term-size-end
+    (λ c κs. begins (pair-first (c .before .before .before .before .before .before .before .before .pre .term) (c .before .before .before .before .if1 .taken) .below))  -- term-size-requires
+    (λ c. search needs)  -- add-right
+    (λ c. search needs)  -- mul-is-listed-secret
+    (λ c. search needs)  -- sub-is-listed-secret-2
+    (λ c. search needs)  -- part-is-listed-secret-start-2
+    (λ c. search needs)  -- part-is-listed-secret-end-2
+    (λ c κs. let p = pair-first (c .before .before .before .before .before .before .before .before .before .before .pre .term) (c .before .before .before .before .before .before .if1 .taken) in
+    search-part _ (c .before .before .before .before .before .before .before .before .before .before .pre) (begins (right-begins p (c .before .term-size .ensures .0))))  -- is-listed-secret-requires-2
+    (λ c. λ m message. closed-right (certificateOf (c .before .before .before .before .before .before .before .before .before .before .before .args .file .now)) (c .before .before .before .before .before .before .before .before .before .before .before .pre .term) m message (c .before .before .before .before .before .before .before .if1 .taken) (c .before .before .before .before .before .is-listed-secret .ensures) (c .before .before .before .before .if2 .left)
+    (c .before .before .term-size .ensures .0) (c .is-listed-secret2 .result) (c .is-listed-secret2 .ensures))  -- returns-2
+    (λ c. search needs)  -- sub-is-listed-secret-3
+    (λ c. search needs)  -- part-is-listed-secret-start-3
+    (λ c. search needs)  -- part-is-listed-secret-end-3
+    (λ c κs. search-part 4 (c .before .before .before .before .before .before .pre) (begins (encryption-first (c .before .before .before .before .before .before .pre .term) (c .before .if3 .taken) .below)))  -- is-listed-secret-requires-3
+    (λ c. λ m message. closed-content (certificateOf (c .before .before .before .before .before .before .before .before .args .file .now)) (c .before .before .before .before .before .before .before .before .pre .term) m message (c .before .before .before .if3 .taken) (c .before .is-listed-secret3 .ensures) (c .if4 .taken))  -- returns-3
+    (λ c κs. search needs)  -- value-requires
+    (λ c κs. search needs)  -- is-listed-atom-requires
+    (λ c. λ m message. closed-key (certificateOf (c .before .before .before .before .before .before .before .before .before .before .args .file .now)) (c .before .before .before .before .before .before .before .before .before .before .pre .term) m message (c .before .before .before .before .before .if3 .taken) (c .before .before .before .is-listed-secret3 .ensures) (c .before .before .if4 .left)
+    (c .before .value .ensures .0) (c .is-listed-atom .result) (c .is-listed-atom .ensures))  -- returns-4
+    (λ c. λ m message. closed-atom (certificateOf (c .before .before .before .before .before .args .file .now)) (c .before .before .before .before .before .pre .term) m message (c .before .if1 .left) (c .if3 .left))  -- returns-5
+    )

@@ -1,0 +1,14 @@
+use borrow.Author.Needs.{needs}
+use Rattle.judge.specs.File.{certificateOf}
+use Rattle.judge.proofs.Numbers.{kept-says}
+use Rattle.judge.proofs.listed.is_kept.Statement.{statement}
+use Rattle.judge.proofs.listed.is_kept.Tie as tie
+
+pub is-kept-spec : {M : Type 1} → statement M
+is-kept-spec = tie.close (tie.spec
+    (λ c κs. search needs)  -- value-requires
+    (λ c κs. search needs)  -- inverse-of-requires
+    (λ c κs. search needs)  -- is-listed-atom-requires
+    (λ c. kept-says (certificateOf (c .before .before .before .before .before .args .file .now)) (c .before .before .before .before .before .pre .0 .term) (c .before .before .before .before .before .pre .1) (c .before .before .value .ensures .0) (c .before .inverse-of .ensures .0)
+    (c .is-listed-atom .result) (c .is-listed-atom .ensures))  -- returns
+    )

@@ -1,0 +1,16 @@
+use mathlib.Core.Path.{refl}
+use borrow.Author.Needs.{needs}
+use Rattle.terms.specs.EntryLaws.{begins}
+use Rattle.judge.specs.File.{certificateOf}
+use Rattle.judge.proofs.Numbers.{one-atom, atom-says}
+use Rattle.judge.proofs.listed.is_listed_atom.Statement.{statement}
+use Rattle.judge.proofs.listed.is_listed_atom.Tie as tie
+
+pub is-listed-atom-spec : {M : Type 1} → statement M
+is-listed-atom-spec = tie.close (tie.spec
+    (λ c. search needs)  -- cast-t5
+    (λ c. search needs)  -- cast-t7
+    (λ c. search needs)  -- slice-aggregate-is-listed-secret
+    (λ c κs. record { laid = c .before .before .pre .0; low = search needs; high = search needs; term = begins (one-atom (c .before .before .args .a)); short = search needs })  -- is-listed-secret-requires
+    (λ c. atom-says (certificateOf (c .before .before .before .args .file .now)) (c .before .before .before .args .a) refl (c .is-listed-secret .result) (c .is-listed-secret .ensures))  -- returns
+    )

@@ -1,0 +1,33 @@
+use Prim.Native.Nat.{ℕ, _≤_, _<_, _-_}
+use native.Mathlib.Omega.{arith}
+use borrow.Author.Needs.{needs}
+use Rattle.terms.specs.Instance.{Matches}
+use Rattle.terms.specs.Entry.{termOf}
+use Rattle.terms.specs.Decisions.{says-no}
+use Rattle.judge.specs.File.{blockCount}
+use Rattle.judge.specs.Listed.{HoldsAt, matches-listed?}
+use Rattle.judge.proofs.Listing.{found-answer, none-answer, above-more}
+use Rattle.judge.proofs.listed.is_listed_match.Statement.{statement}
+use Rattle.judge.proofs.listed.is_listed_match.Tie as tie
+
+abbrev Inv-loop : tie.InvT-loop
+Inv-loop file kind e count left₀ left =
+    (left ≤ blockCount file) × ((k : ℕ) → left ≤ k → k < blockCount file → ¬ HoldsAt file kind (λ p. Matches p (termOf e)) k)
+
+abbrev μ-loop : tie.MeasureT-loop
+μ-loop file kind e count left₀ left = left
+
+pub is-listed-match-spec : {M : Type 1} → statement M
+is-listed-match-spec = tie.close (tie.spec Inv-loop μ-loop
+    (λ c. (search needs, λ k low high. absurd (omega arith)))  -- loop-holds
+    (λ c. search needs)  -- sub-matches-at
+    (λ c κs. search needs)  -- matches-at-requires
+    (λ c. let s = c .before .before .before .before .before .before in
+    found-answer (s .pre .laid) (s .args .kind) (λ p. Matches p (termOf (s .args .e .now))) (s .pre .low) (s .pre .high) (search needs)
+    (c .before .matches-at .result) (c .before .matches-at .ensures) (c .if1 .taken) (matches-listed? _ _ _))  -- returns
+    (λ c. search needs)  -- sub-left
+    (λ c. search needs)  -- loop-less
+    (λ c. (search needs, above-more _ _ (c .before .before .before .loop .inv .1) (says-no (c .before .matches-at .result) (c .before .matches-at .ensures) (c .if1 .left))))  -- loop-again
+    (λ c. let s = c .before .before .before .before in
+    none-answer (s .pre .laid) (s .args .kind) (λ p. Matches p (termOf (s .args .e .now))) (λ k l. c .before .loop .inv .1 k (omega arith) l) (matches-listed? _ _ _))  -- returns-2
+    )

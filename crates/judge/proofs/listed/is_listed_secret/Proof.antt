@@ -1,0 +1,32 @@
+use Prim.Native.Nat.{ℕ, _≤_, _<_, _-_}
+use native.Mathlib.Omega.{arith}
+use borrow.Author.Needs.{needs}
+use borrow.Author.Count.{below-none, below-more}
+use mathlib.Core.Path.{_≡_}
+use Rattle.terms.specs.Entry.{termOf}
+use Rattle.terms.specs.Decisions.{says-no}
+use Rattle.judge.specs.File.{blockCount}
+use Rattle.judge.specs.Listed.{HoldsAt, is-secret?}
+use Rattle.judge.proofs.Listing.{found-answer, none-answer}
+use Rattle.judge.proofs.listed.is_listed_secret.Statement.{statement}
+use Rattle.judge.proofs.listed.is_listed_secret.Tie as tie
+
+abbrev Inv-loop : tie.InvT-loop
+Inv-loop file e count i₀ i = (i ≤ blockCount file) × ((k : ℕ) → k < i → ¬ HoldsAt file 2 (λ p. p ≡ termOf e) k)
+
+abbrev μ-loop : tie.MeasureT-loop
+μ-loop file e count i₀ i = blockCount file - i
+
+pub is-listed-secret-spec : {M : Type 1} → statement M
+is-listed-secret-spec = tie.close (tie.spec Inv-loop μ-loop
+    (λ c. (search needs, below-none _))  -- loop-holds
+    (λ c κs. search needs)  -- same-at-requires
+    (λ c. let s = c .before .before .before .before .before .before in
+    found-answer (s .pre .laid) 2 (λ p. p ≡ termOf (s .args .e .now)) (s .pre .low) (s .pre .high) (c .before .before .loop-test .taken)
+    (c .before .same-at .result) (c .before .same-at .ensures) (c .if1 .taken) (is-secret? _ _))  -- returns
+    (λ c. search needs)  -- add-i
+    (λ c. search needs)  -- loop-less
+    (λ c. (search needs, below-more _ _ (c .before .before .before .loop .inv .1) (says-no (c .before .same-at .result) (c .before .same-at .ensures) (c .if1 .left))))  -- loop-again
+    (λ c. let s = c .before .before .before .before in
+    none-answer (s .pre .laid) 2 (λ p. p ≡ termOf (s .args .e .now)) (λ k l. c .before .loop .inv .1 k (omega arith)) (is-secret? _ _))  -- returns-2
+    )

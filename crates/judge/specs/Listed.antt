@@ -1,0 +1,96 @@
+-- What the blocks of one kind list, and what is asked of them.
+use mathlib.Core.Path.{_≡_}
+use mathlib.Core.Bool.{Bool, true, false}
+use mathlib.Core.List.{List, [], map, List·Memᴰ}
+use mathlib.Core.Option.{Option, none, some}
+use Prim.Native.Nat.{ℕ, zero, suc, _<_, _≤_}
+use lib.ListN.{length}
+use Rattle.blocks.specs.Block.{blockAt, kindOf, firstEntries}
+use Rattle.terms.specs.Term.{Term, Variable, asTerm, replace}
+use Rattle.terms.specs.Instance.{Matches, Share}
+use Rattle.terms.specs.Entry.{Begins}
+use Rattle.terms.specs.Search.{dec-map, any?}
+use Rattle.terms.specs.declared.valid.Found.{Found}
+use Rattle.terms.specs.declared.valid.Found.the-variants.{At, Nothing}
+use Rattle.judge.specs.declared.verdict.Fault.{Fault}
+use Rattle.judge.specs.Certificate.{Certificate}
+use Rattle.judge.specs.File.{patternOf}
+use Rattle.judge.specs.Laid.{Laid}
+use Rattle.judge.specs.Decisions.{same-term?, matches?, shares?}
+
+-- The terms that the blocks of one kind list: 2 the secrets, 3 the good patterns, 4 the bad ones.
+unfoldable pub listedOf : Certificate → ℕ → List (Term Variable)
+unfolding asTerm replace
+listedOf c zero = []
+listedOf c (suc zero) = []
+listedOf c (suc (suc zero)) = map asTerm (c .secrets)
+listedOf c (suc (suc (suc zero))) = c .goods
+listedOf c (suc (suc (suc (suc zero)))) = c .bads
+listedOf c (suc (suc (suc (suc (suc n))))) = []
+
+-- One of them has P.
+pub record AnyListed (c : Certificate) (kind : ℕ) (P : Term Variable → Type 0) : Type 0 where
+  pub term : Term Variable
+  pub listed : List·Memᴰ term (listedOf c kind)
+  pub holds : P term
+
+unfoldable pub any-listed? : (c : Certificate) (kind : ℕ) {P : Term Variable → Type 0} → ((p : Term Variable) → Dec (P p)) → Dec (AnyListed c kind P)
+unfolding listedOf dec-map any?
+any-listed? c kind d =
+    dec-map (λ w. record { term = w .0; listed = w .1; holds = w .2 }) (λ h. (h .term, h .listed, h .holds)) (any? (listedOf c kind) d)
+
+-- The term is a listed pattern with its variables replaced by terms.
+abbrev pub MatchesListed : Certificate → ℕ → Term Variable → Type 0
+MatchesListed c kind t = AnyListed c kind (λ p. Matches p t)
+
+unfoldable pub matches-listed? : (c : Certificate) (kind : ℕ) (t : Term Variable) → Dec (MatchesListed c kind t)
+unfolding any-listed? matches?
+matches-listed? c kind t = any-listed? c kind (λ p. matches? p t)
+
+-- A listed term shares an instance with the term.
+abbrev pub SharesListed : Certificate → ℕ → Term Variable → Type 0
+SharesListed c kind t = AnyListed c kind (λ p. Share p t)
+
+unfoldable pub shares-listed? : (c : Certificate) (kind : ℕ) (t : Term Variable) → Dec (SharesListed c kind t)
+unfolding any-listed? shares?
+shares-listed? c kind t = any-listed? c kind (λ p. shares? p t)
+
+-- The term, symbol for symbol, is a listed secret.
+abbrev pub IsSecret : Certificate → Term Variable → Type 0
+IsSecret c t = AnyListed c 2 (λ p. p ≡ t)
+
+unfoldable pub is-secret? : (c : Certificate) (t : Term Variable) → Dec (IsSecret c t)
+unfolding any-listed? same-term?
+is-secret? c t = any-listed? c 2 (λ p. same-term? p t)
+
+-- Block i is of this kind, and its term has P.
+pub record HoldsAt (file : List ℕ) (kind : ℕ) (P : Term Variable → Type 0) (i : ℕ) : Type 0 where
+  pub of-kind : kindOf (blockAt file i) ≡ kind
+  pub holds : P (patternOf (blockAt file i))
+
+-- What a search asks for: a laid file, a kind that lists terms, and entries that begin with a term.
+pub record Searching (file : List ℕ) (kind : ℕ) (e : List ℕ) : Type 0 where
+  pub laid : Laid file
+  pub low : 2 ≤ kind
+  pub high : kind ≤ 4
+  pub term : Begins e
+  pub short : length e ≤ 252
+
+-- The entries are those of the term of block i.
+pub record TermPart (file : List ℕ) (i : ℕ) (e : List ℕ) : Type 0 where
+  pub part : e ≡ firstEntries (blockAt file i)
+  pub term : Begins e
+  pub short : length e ≤ 252
+
+-- A fault, if a test tells of one.
+abbrev pub faultIf : Bool → Fault → Option Fault
+faultIf t f = elim t [ true ↦ some f | false ↦ none ]
+
+-- The block that a search for a fault finds, as the fault that the verdict names; and that it is a block of the file.
+abbrev pub faultFound : (ℕ → Fault) → Found → Option Fault
+faultFound fault (At i) = some (fault i)
+faultFound fault Nothing = none
+
+abbrev pub Inside : ℕ → Found → Type 0
+Inside count (At i) = i < count
+Inside count Nothing = Unit {0}

@@ -1,0 +1,176 @@
+-- What acceptance and each refusal mean (document 01, "Verdicts"). That `verdictOf` says just this is proved in
+-- proofs/Verdicts.antt.
+use mathlib.Core.Path.{_≡_}
+use mathlib.Core.List.{List}
+use Prim.Native.Nat.{ℕ, suc, _+_, _%_, _<_, _≤_}
+use lib.ListN.{length}
+use Rattle.blocks.specs.Block.{blockAt, kindOf, firstCount, secondCount, firstEntries, secondEntries}
+use Rattle.blocks.specs.Check.{CheckRight}
+use Rattle.blocks.specs.Layout.{LayoutRight}
+use Rattle.terms.specs.Entry.{termOf, size}
+use Rattle.terms.specs.Atom.{Atom, atomsOf, AtomRight}
+use Rattle.terms.specs.TermEntry.{EntryRight}
+use Rattle.terms.specs.Each.{EntryIs}
+use Rattle.terms.specs.OneTerm.{OneTerm, IsEncryption}
+use Rattle.judge.specs.declared.verdict.Fault.{Fault}
+use Rattle.judge.specs.declared.verdict.Fault.the-variants.{Length, Check, Kind, Missing, Layout, AtomEntry, TermEntry}
+use Rattle.judge.specs.declared.verdict.Fault.the-variants.{NotOneTerm, KnownSecret, NotClosed, KeyNotKept, Uncovered}
+use Rattle.judge.specs.Certificate.{Certificate, Rule}
+use Rattle.judge.specs.File.{blockCount, patternOf, secretOf, ruleOf, certificateOf}
+use Rattle.judge.specs.Cover.{Risky, Covered, Dead, Passes}
+use Rattle.judge.specs.Conditions.{KnownAtom, WeaklyClosed, KeptKey}
+use Rattle.judge.specs.Verdict.{fileAtoms, usedEntries, spotAt, FineAt}
+
+-- 1: not length 0, a multiple of 512, not above 32,768.
+pub record LengthRight (file : List ℕ) : Type 0 where
+  pub some-byte : 1 ≤ length file
+  pub whole : length file % 512 ≡ 0
+  pub most : length file ≤ 32768
+
+-- 3: the first block has kind 1; a later one has a kind from 2 to 5, not below that of the block before it.
+pub data KindRight (file : List ℕ) (i : ℕ) : Type 0 where
+  first : i ≡ 0 → kindOf (blockAt file i) ≡ 1 → KindRight file i
+  later : {j : ℕ} → i ≡ suc j → 2 ≤ kindOf (blockAt file i) → kindOf (blockAt file i) ≤ 5
+      → kindOf (blockAt file j) ≤ kindOf (blockAt file i) → KindRight file i
+
+-- Numbers 2, 3 and 5 find nothing at block i.
+pub record Shaped (file : List ℕ) (i : ℕ) : Type 0 where
+  pub check : CheckRight (blockAt file i)
+  pub kind : KindRight file i
+  pub layout : LayoutRight (blockAt file i)
+
+-- 6: atom entry n of a block is right.
+abbrev pub AtomIs : List ℕ → ℕ → Type 0
+AtomIs b n = AtomRight (atomsOf (firstEntries b)) n
+
+-- 7: entry n of a block is right. Premise and conclusion are counted together.
+abbrev pub TermEntryIs : List Atom → List ℕ → ℕ → Type 0
+TermEntryIs atoms b n = EntryIs (EntryRight atoms (kindOf b)) (usedEntries b) n
+
+abbrev pub EntriesRight : List Atom → List ℕ → Type 0
+EntriesRight atoms b = (n : ℕ) → n < firstCount b + secondCount b → TermEntryIs atoms b n
+
+-- 8: the entries are exactly one term, and a pattern's root is an encryption.
+pub record PatternRight (b : List ℕ) : Type 0 where
+  pub one : OneTerm (firstEntries b)
+  pub root : 3 ≤ kindOf b → kindOf b ≤ 4 → IsEncryption (termOf (firstEntries b))
+
+-- A premise of no entries is none.
+abbrev pub PremiseRight : List ℕ → Type 0
+PremiseRight b = (firstCount b ≡ 0 → ⊥) → OneTerm (firstEntries b)
+
+-- Numbers 2, 3, 5, 6, 7 and 8 find nothing at block i.
+pub record BlockRight (file : List ℕ) (i : ℕ) : Type 0 where
+  pub shaped : Shaped file i
+  pub atoms : kindOf (blockAt file i) ≡ 1 → (n : ℕ) → n < firstCount (blockAt file i) → AtomIs (blockAt file i) n
+  pub entries : 2 ≤ kindOf (blockAt file i) → EntriesRight (fileAtoms file) (blockAt file i)
+  pub pattern : 2 ≤ kindOf (blockAt file i) → kindOf (blockAt file i) ≤ 4 → PatternRight (blockAt file i)
+  pub premise : kindOf (blockAt file i) ≡ 5 → PremiseRight (blockAt file i)
+  pub conclusion : kindOf (blockAt file i) ≡ 5 → OneTerm (secondEntries (blockAt file i))
+
+-- What they find first: the condition fails, and what the order puts before it in this block holds.
+pub data BlockFaulty (file : List ℕ) (i : ℕ) (fault : Fault) : Type 0 where
+  -- 2
+  checkFails : fault ≡ Check i → ¬ CheckRight (blockAt file i) → BlockFaulty file i fault
+  -- 3
+  kindFails : fault ≡ Kind i → CheckRight (blockAt file i) → ¬ KindRight file i → BlockFaulty file i fault
+  -- 5
+  layoutFails : fault ≡ Layout i → CheckRight (blockAt file i) → KindRight file i → ¬ LayoutRight (blockAt file i)
+      → BlockFaulty file i fault
+  -- 6
+  atomFails : {n : ℕ} → fault ≡ AtomEntry i n → Shaped file i → kindOf (blockAt file i) ≡ 1
+      → n < firstCount (blockAt file i) → ¬ AtomIs (blockAt file i) n
+      → ((k : ℕ) → k < n → AtomIs (blockAt file i) k) → BlockFaulty file i fault
+  -- 7
+  entryFails : {n : ℕ} → fault ≡ TermEntry i n → Shaped file i → 2 ≤ kindOf (blockAt file i)
+      → n < firstCount (blockAt file i) + secondCount (blockAt file i) → ¬ TermEntryIs (fileAtoms file) (blockAt file i) n
+      → ((k : ℕ) → k < n → TermEntryIs (fileAtoms file) (blockAt file i) k) → BlockFaulty file i fault
+  -- 8
+  patternFails : fault ≡ NotOneTerm i 0 → Shaped file i → 2 ≤ kindOf (blockAt file i) → kindOf (blockAt file i) ≤ 4
+      → EntriesRight (fileAtoms file) (blockAt file i) → ¬ PatternRight (blockAt file i) → BlockFaulty file i fault
+  premiseFails : fault ≡ NotOneTerm i 0 → Shaped file i → kindOf (blockAt file i) ≡ 5
+      → EntriesRight (fileAtoms file) (blockAt file i) → ¬ PremiseRight (blockAt file i) → BlockFaulty file i fault
+  conclusionFails : fault ≡ NotOneTerm i (firstCount (blockAt file i)) → Shaped file i → kindOf (blockAt file i) ≡ 5
+      → EntriesRight (fileAtoms file) (blockAt file i) → PremiseRight (blockAt file i)
+      → ¬ OneTerm (secondEntries (blockAt file i)) → BlockFaulty file i fault
+
+-- 4: the file has a block of this kind.
+pub record HasKind (kind : ℕ) (file : List ℕ) : Type 0 where
+  pub block : ℕ
+  pub inside : block < blockCount file
+  pub same : kindOf (blockAt file block) ≡ kind
+
+-- Numbers 1 to 8 find nothing.
+pub record Formed (file : List ℕ) : Type 0 where
+  pub long : LengthRight file
+  pub blocks : (i : ℕ) → i < blockCount file → BlockRight file i
+  pub secret : HasKind 2 file
+  pub rule : HasKind 5 file
+
+-- P of the blocks of this kind before block n, and of all of them.
+abbrev pub Before : ℕ → ℕ → List ℕ → (List ℕ → Type 0) → Type 0
+Before n kind file P = (i : ℕ) → i < n → kindOf (blockAt file i) ≡ kind → P (blockAt file i)
+
+abbrev pub Every : ℕ → List ℕ → (List ℕ → Type 0) → Type 0
+Every kind file P = Before (blockCount file) kind file P
+
+-- 9, 10, 11, 12 of a block.
+abbrev pub Unknown : Certificate → List ℕ → Type 0
+Unknown certificate b = ¬ KnownAtom certificate (secretOf b)
+
+abbrev pub Closed : Certificate → List ℕ → Type 0
+Closed certificate b = WeaklyClosed certificate (secretOf b)
+
+abbrev pub Kept : Certificate → List ℕ → Type 0
+Kept certificate b = KeptKey certificate (patternOf b)
+
+abbrev pub Passing : Certificate → List ℕ → Type 0
+Passing certificate b = Passes certificate (ruleOf b)
+
+-- The first uncovered place of a rule that is not dead: place k of the conclusion, in the order of the entries.
+pub record FirstUncovered (certificate : Certificate) (rule : Rule) (k : ℕ) : Type 0 where
+  pub alive : ¬ Dead certificate rule
+  pub inside : k < size (rule .conclusion)
+  pub risky : Risky certificate (spotAt (rule .conclusion) k .1)
+  pub bare : ¬ Covered certificate rule (spotAt (rule .conclusion) k .0) (spotAt (rule .conclusion) k .1)
+  pub before : (m : ℕ) → m < k → FineAt certificate rule m
+
+-- Accepted: every condition of document 01 holds.
+pub record Accepts (file : List ℕ) : Type 0 where
+  pub formed : Formed file
+  pub unknown : Every 2 file (Unknown (certificateOf file))
+  pub closed : Every 2 file (Closed (certificateOf file))
+  pub kept : Every 3 file (Kept (certificateOf file))
+  pub passing : Every 5 file (Passing (certificateOf file))
+
+-- Block i is of this kind, P fails there, and holds of the blocks of this kind before it.
+pub record FirstAt (i kind : ℕ) (file : List ℕ) (P : List ℕ → Type 0) : Type 0 where
+  pub inside : i < blockCount file
+  pub is : kindOf (blockAt file i) ≡ kind
+  pub fails : ¬ P (blockAt file i)
+  pub before : Before i kind file P
+
+-- Refused: the condition fails, and all that document 01's order puts before it holds.
+pub data Faulty (file : List ℕ) (fault : Fault) : Type 0 where
+  -- 1
+  lengthFails : fault ≡ Length → ¬ LengthRight file → Faulty file fault
+  -- 2, 3, 5, 6, 7, 8
+  blockFails : {i : ℕ} → LengthRight file → i < blockCount file → ((j : ℕ) → j < i → BlockRight file j)
+      → BlockFaulty file i fault → Faulty file fault
+  -- 4
+  missing : fault ≡ Missing (blockCount file) → LengthRight file → ((i : ℕ) → i < blockCount file → BlockRight file i)
+      → ¬ (HasKind 2 file × HasKind 5 file) → Faulty file fault
+  -- 9
+  secretKnown : {i : ℕ} → fault ≡ KnownSecret i → Formed file → FirstAt i 2 file (Unknown (certificateOf file))
+      → KnownAtom (certificateOf file) (secretOf (blockAt file i)) → Faulty file fault
+  -- 10
+  secretOpen : {i : ℕ} → fault ≡ NotClosed i → Formed file → Every 2 file (Unknown (certificateOf file))
+      → FirstAt i 2 file (Closed (certificateOf file)) → Faulty file fault
+  -- 11
+  keyOpen : {i : ℕ} → fault ≡ KeyNotKept i → Formed file → Every 2 file (Unknown (certificateOf file))
+      → Every 2 file (Closed (certificateOf file)) → FirstAt i 3 file (Kept (certificateOf file)) → Faulty file fault
+  -- 12: the place is the entry's number in the block.
+  placeOpen : {i k : ℕ} → fault ≡ Uncovered i (firstCount (blockAt file i) + k) → Formed file
+      → Every 2 file (Unknown (certificateOf file)) → Every 2 file (Closed (certificateOf file))
+      → Every 3 file (Kept (certificateOf file)) → FirstAt i 5 file (Passing (certificateOf file))
+      → FirstUncovered (certificateOf file) (ruleOf (blockAt file i)) k → Faulty file fault

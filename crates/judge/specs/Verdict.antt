@@ -1,0 +1,245 @@
+-- The verdict of a file (document 01, "Verdicts"), in the order "1; per block in file order 2, 3, 5, 6 or 7, 8; then 4;
+-- then 9, 10, 11, 12, each over all blocks in file order". `none` is: no fault here.
+use mathlib.Core.Bool.{Bool, true, false, _&&_}
+use mathlib.Core.List.{List, []}
+use mathlib.Core.Option.{Option, none, some}
+use Prim.Native.Nat.{ℕ, zero, suc, _+_, _*_, _%_}
+use lib.Dec.{eqb, leb}
+use lib.ListN.{length, take, getD}
+use Rattle.blocks.specs.Block.{blockAt, kindOf, firstCount, secondCount, entriesOf, firstEntries, secondEntries}
+use Rattle.blocks.specs.Check.{checkRight, checkA, checkB, total, weighted}
+use Rattle.blocks.specs.Layout.{within, layoutRight, countsRight, zeroFrom, allZero}
+use Rattle.terms.specs.declared.valid.Found.{Found}
+use Rattle.terms.specs.declared.valid.Found.the-variants.{At, Nothing}
+use Rattle.terms.specs.Term.{Term, Variable}
+use Rattle.terms.specs.Entry.{termOf, size}
+use Rattle.terms.specs.Atom.{Atom, atomsOf, wrongAtom}
+use Rattle.terms.specs.TermEntry.{wrongEntry}
+use Rattle.terms.specs.OneTerm.{oneTerm?, encryption?}
+use Rattle.terms.specs.First.{firstNot}
+use Rattle.terms.specs.Search.{Spot, spots, dec-implies}
+use Rattle.terms.specs.Decide.{answer}
+use Rattle.judge.specs.declared.verdict.Counts.{Counts}
+use Rattle.judge.specs.declared.verdict.Fault.{Fault}
+use Rattle.judge.specs.declared.verdict.Fault.the-variants.{Length, Check, Kind, Missing, Layout, AtomEntry, TermEntry}
+use Rattle.judge.specs.declared.verdict.Fault.the-variants.{NotOneTerm, KnownSecret, NotClosed, KeyNotKept, Uncovered}
+use Rattle.judge.specs.declared.verdict.Verdict.{Verdict}
+use Rattle.judge.specs.declared.verdict.Verdict.the-variants.{Accepted, Refused}
+use Rattle.judge.specs.Certificate.{Certificate, Rule}
+use Rattle.judge.specs.File.{blockCount, blocksFrom, blocksOf, ofKind, patternOf, secretOf, ruleOf, certificateOf}
+use Rattle.judge.specs.Cover.{Risky, Covered}
+use Rattle.judge.specs.Decisions.{known-atom?, weakly-closed?, kept-key?, risky?, covered?, dead?}
+
+-- ---- number 1
+
+-- 1: "length 0, not a multiple of 512, or above 32,768".
+unfoldable pub lengthRight : List ℕ → Bool
+lengthRight file = leb 1 (length file) && (eqb (length file % 512) 0 && leb (length file) 32768)
+
+unfoldable pub lengthFault : List ℕ → Option Fault
+lengthFault file = elim (lengthRight file) [ true ↦ none | false ↦ some Length ]
+
+-- ---- numbers 2, 3, 5, 6, 7, 8: block i by itself
+
+-- 3: the first block has kind 1; a later one has a kind from 2 to 5, not below that of the block before it.
+unfoldable pub kindRight : List ℕ → ℕ → Bool
+kindRight file zero = eqb (kindOf (blockAt file 0)) 1
+kindRight file (suc i) =
+    within 2 5 (kindOf (blockAt file (suc i))) && leb (kindOf (blockAt file i)) (kindOf (blockAt file (suc i)))
+
+-- The atoms of a file: those of its first block.
+unfoldable pub fileAtoms : List ℕ → List Atom
+fileAtoms file = atomsOf (firstEntries (blockAt file 0))
+
+-- The entries in use.
+unfoldable pub usedEntries : List ℕ → List ℕ
+usedEntries b = take (4 * (firstCount b + secondCount b)) (entriesOf b)
+
+-- 6: "atom entry wrong".
+unfoldable pub atomFault : ℕ → List ℕ → Option Fault
+atomFault i b = elim (wrongAtom (atomsOf (firstEntries b))) [ At n ↦ some (AtomEntry i n) | Nothing ↦ none ]
+
+-- 7: "tag, zero byte or value wrong, or variable not allowed here", over all entries of the block.
+unfoldable pub entryFault : List Atom → ℕ → List ℕ → Option Fault
+entryFault atoms i b =
+    elim (wrongEntry atoms (kindOf b) (usedEntries b)) [ At n ↦ some (TermEntry i n) | Nothing ↦ none ]
+
+-- A pattern's root is an encryption; the patterns are of kinds 3 and 4.
+unfoldable pub rootRight : ℕ → List ℕ → Bool
+rootRight kind e = elim (within 3 4 kind) [ true ↦ answer (encryption? (termOf e)) | false ↦ true ]
+
+-- 8: "entries are not exactly one term, or a pattern's root is no encryption". Kinds 2 to 4 hold one term.
+unfoldable pub patternFault : ℕ → List ℕ → Option Fault
+patternFault i b = elim (answer (oneTerm? (firstEntries b))) [
+  | false ↦ some (NotOneTerm i 0)
+  | true ↦ elim (rootRight (kindOf b) (firstEntries b)) [ false ↦ some (NotOneTerm i 0) | true ↦ none ]
+]
+
+-- 8 for the conclusion of a rule.
+unfoldable pub conclusionFault : ℕ → List ℕ → Option Fault
+conclusionFault i b = elim (answer (oneTerm? (secondEntries b))) [ false ↦ some (NotOneTerm i (firstCount b)) | true ↦ none ]
+
+-- 8 for a rule: premise before conclusion. A premise of no entries is none.
+unfoldable pub rulePartsFault : ℕ → List ℕ → Option Fault
+rulePartsFault i b = elim (eqb (firstCount b) 0) [
+  | true ↦ conclusionFault i b
+  | false ↦ elim (answer (oneTerm? (firstEntries b))) [ false ↦ some (NotOneTerm i 0) | true ↦ conclusionFault i b ]
+]
+
+unfoldable pub termFault : ℕ → List ℕ → Option Fault
+termFault i b = elim (eqb (kindOf b) 5) [ true ↦ rulePartsFault i b | false ↦ patternFault i b ]
+
+-- 6 for the atoms, else 7 and then 8.
+unfoldable pub entriesFault : List Atom → ℕ → List ℕ → Option Fault
+entriesFault atoms i b = elim (eqb (kindOf b) 1) [
+  | true ↦ atomFault i b
+  | false ↦ elim (entryFault atoms i b) [ some f ↦ some f | none ↦ termFault i b ]
+]
+
+-- 2: "check wrong"; 3: "kind out of order or unknown"; 5: "a count, byte 3 or an unused entry wrong"; then 6 to 8.
+unfoldable pub blockFault : List ℕ → ℕ → Option Fault
+blockFault file i = elim (checkRight (blockAt file i)) [
+  | false ↦ some (Check i)
+  | true ↦ elim (kindRight file i) [
+    | false ↦ some (Kind i)
+    | true ↦ elim (layoutRight (blockAt file i)) [
+      | false ↦ some (Layout i)
+      | true ↦ entriesFault (fileAtoms file) i (blockAt file i)
+    ]
+  ]
+]
+
+-- The first fault of the blocks from block i on, so many of them, each judged by its number.
+unfoldable pub firstFault : (ℕ → Option Fault) → ℕ → ℕ → Option Fault
+firstFault judged i zero = none
+firstFault judged i (suc left) = elim (judged i) [ some f ↦ some f | none ↦ firstFault judged (suc i) left ]
+
+unfoldable pub layoutFrom : List ℕ → ℕ → ℕ → Option Fault
+layoutFrom file i left = firstFault (blockFault file) i left
+
+unfoldable pub layoutFault : List ℕ → Option Fault
+layoutFault file = layoutFrom file 0 (blockCount file)
+
+-- ---- number 4 and the counts
+
+unfoldable pub kindCount : ℕ → List ℕ → ℕ
+kindCount kind file = length (ofKind kind (blocksOf file))
+
+-- 4: "no secret or no rule".
+unfoldable pub missingFault : List ℕ → Option Fault
+missingFault file = elim (leb 1 (kindCount 2 file) && leb 1 (kindCount 5 file)) [ true ↦ none | false ↦ some (Missing (blockCount file)) ]
+
+-- The counts that are reported on acceptance.
+unfoldable pub countsOf : List ℕ → Counts
+countsOf file = record {
+  blocks = blockCount file;
+  secrets = kindCount 2 file;
+  goods = kindCount 3 file;
+  bads = kindCount 4 file;
+  rules = kindCount 5 file;
+}
+
+-- ---- numbers 9 to 12: the certificate
+
+-- Block i, if it is of this kind.
+unfoldable pub onKind : ℕ → (ℕ → List ℕ → Option Fault) → List ℕ → ℕ → Option Fault
+onKind kind judged file i = elim (eqb (kindOf (blockAt file i)) kind) [ true ↦ judged i (blockAt file i) | false ↦ none ]
+
+-- The first fault of the blocks of this kind.
+unfoldable pub kindFault : ℕ → (ℕ → List ℕ → Option Fault) → List ℕ → Option Fault
+kindFault kind judged file = firstFault (onKind kind judged file) 0 (blockCount file)
+
+-- 9: "a secret is a known atom".
+unfoldable pub knownSecret : Certificate → ℕ → List ℕ → Option Fault
+knownSecret certificate i b = elim (answer (known-atom? certificate (secretOf b))) [ true ↦ some (KnownSecret i) | false ↦ none ]
+
+-- 10: "secret not weakly closed".
+unfoldable pub openSecret : Certificate → ℕ → List ℕ → Option Fault
+openSecret certificate i b = elim (answer (weakly-closed? certificate (secretOf b))) [ true ↦ none | false ↦ some (NotClosed i) ]
+
+-- 11: "inverse of a good pattern's root key is not a listed secret".
+unfoldable pub looseKey : Certificate → ℕ → List ℕ → Option Fault
+looseKey certificate i b = elim (answer (kept-key? certificate (patternOf b))) [ true ↦ none | false ↦ some (KeyNotKept i) ]
+
+-- Place k of a term, with the subterm there: the places in the order of the entries.
+unfoldable pub spotAt : Term Variable → ℕ → Spot Variable
+spotAt t k = getD (spots t) k ([], t)
+
+-- Place k of the conclusion is covered if it is risky.
+abbrev pub FineAt : Certificate → Rule → ℕ → Type 0
+FineAt certificate rule k =
+    Risky certificate (spotAt (rule .conclusion) k .1)
+    → Covered certificate rule (spotAt (rule .conclusion) k .0) (spotAt (rule .conclusion) k .1)
+
+unfoldable pub fine? : (certificate : Certificate) (rule : Rule) (k : ℕ) → Dec (FineAt certificate rule k)
+fine? certificate rule k =
+    dec-implies (risky? certificate (spotAt (rule .conclusion) k .1))
+    (λ r. covered? certificate rule (spotAt (rule .conclusion) k .0) (spotAt (rule .conclusion) k .1))
+
+-- The first risky place of the conclusion that is not covered, if the rule is not dead.
+unfoldable pub uncovered : Certificate → Rule → Found
+uncovered certificate rule = elim (answer (dead? certificate rule)) [
+  | true ↦ Nothing
+  | false ↦ firstNot (fine? certificate rule) (size (rule .conclusion))
+]
+
+-- 12: "risky place not covered"; the place is the entry's number in the block.
+unfoldable pub openRule : Certificate → ℕ → List ℕ → Option Fault
+openRule certificate i b =
+    elim (uncovered certificate (ruleOf b)) [ At k ↦ some (Uncovered i (firstCount b + k)) | Nothing ↦ none ]
+
+unfoldable pub knownFault : Certificate → List ℕ → Option Fault
+knownFault certificate file = kindFault 2 (knownSecret certificate) file
+
+unfoldable pub closedFault : Certificate → List ℕ → Option Fault
+closedFault certificate file = kindFault 2 (openSecret certificate) file
+
+unfoldable pub keyFault : Certificate → List ℕ → Option Fault
+keyFault certificate file = kindFault 3 (looseKey certificate) file
+
+unfoldable pub ruleFault : Certificate → List ℕ → Option Fault
+ruleFault certificate file = kindFault 5 (openRule certificate) file
+
+-- 9, 10, 11, 12, each over all blocks.
+unfoldable pub certificateFault : Certificate → List ℕ → Option Fault
+certificateFault certificate file = elim (knownFault certificate file) [
+  | some f ↦ some f
+  | none ↦ elim (closedFault certificate file) [
+    | some f ↦ some f
+    | none ↦ elim (keyFault certificate file) [
+      | some f ↦ some f
+      | none ↦ ruleFault certificate file
+    ]
+  ]
+]
+
+-- ---- the verdict
+
+-- The first fault in document 01's order.
+unfoldable pub faultOf : List ℕ → Option Fault
+faultOf file = elim (lengthFault file) [
+  | some f ↦ some f
+  | none ↦ elim (layoutFault file) [
+    | some f ↦ some f
+    | none ↦ elim (missingFault file) [
+      | some f ↦ some f
+      | none ↦ certificateFault (certificateOf file) file
+    ]
+  ]
+]
+
+-- "A verdict is accepted with its counts, or refused with the kind of fault inside it."
+unfoldable pub verdictOf : List ℕ → Verdict
+verdictOf file = elim (faultOf file) [ some f ↦ Refused f | none ↦ Accepted (countsOf file) ]
+
+-- The same, for theorems by computation: `unfolding computing` opens all that the verdict of a whole file asks.
+unfoldable pub computing : List ℕ → Verdict
+unfolding verdictOf faultOf countsOf lengthFault lengthRight layoutFault layoutFrom missingFault certificateFault
+    knownFault closedFault keyFault ruleFault kindFault onKind firstFault knownSecret openSecret looseKey openRule
+    uncovered fine? spotAt blockFault kindRight fileAtoms usedEntries entriesFault atomFault entryFault termFault
+    patternFault rulePartsFault conclusionFault rootRight kindCount
+    blocksOf blocksFrom ofKind patternOf secretOf ruleOf certificateOf
+    blockAt entriesOf firstEntries secondEntries checkRight checkA checkB total weighted layoutRight countsRight zeroFrom
+    allZero atomsOf wrongAtom wrongEntry oneTerm? encryption? termOf size firstNot spots dec-implies
+    known-atom? weakly-closed? kept-key? risky? covered? dead?
+computing file = verdictOf file

@@ -1,0 +1,290 @@
+// Searches through the blocks of one kind, each a part of the file, and numbers 9, 10 and 11.
+ghost use mathlib.Core.Path.{_≡_};
+ghost use Prim.Native.Nat.{_*_, _<_, _≤_};
+ghost use Rattle.blocks.specs.Block.{blockAt, kindOf, firstEntries};
+ghost use Rattle.terms.specs.Term.{Message, atom, asTerm};
+ghost use Rattle.terms.specs.Instance.{Matches, Share};
+ghost use Rattle.terms.specs.Entry.{termOf};
+ghost use Rattle.terms.specs.OneTerm.{IsEncryption};
+ghost use Rattle.terms.specs.Solve.{Says};
+ghost use Rattle.terms.specs.Decide.{answer};
+ghost use Rattle.judge.specs.Certificate.{Secret, inverse};
+ghost use Rattle.judge.specs.File.{blockCount, certificateOf};
+ghost use Rattle.judge.specs.Laid.{Laid, TermBlock};
+ghost use Rattle.judge.specs.Conditions.{KnownAtom, WeaklyClosed, KeptKey};
+ghost use Rattle.judge.specs.Verdict.{onKind, knownSecret, openSecret, looseKey, knownFault, closedFault, keyFault};
+ghost use Rattle.judge.specs.Listed.{HoldsAt, Searching, TermPart, matches-listed?, shares-listed?, is-secret?, faultIf, faultFound, Inside};
+ghost use Rattle.judge.specs.declared.verdict.Fault.the-variants.{KnownSecret, NotClosed, KeyNotKept};
+use terms::entry;
+use terms::matching;
+use terms::sharing;
+use terms::valid::Found;
+
+// Is block i of this kind?
+fn is_kind(file: &[u8], i: usize, kind: u8) -> bool
+    requires { ⌜ i < blockCount (now file) ⌝ }
+    ensures { λ r. ⌜ Says r (kindOf (blockAt (now (file .entry)) i) ≡ kind) ⌝ }
+{
+    let block = blocks::block(file, i);
+    blocks::kind(block) == kind
+}
+
+// The entries of the term of block i.
+fn term_at(file: &[u8], i: usize) -> &[u8]
+    requires { ⌜ (i < blockCount (now file)) × TermBlock (blockAt (now file) i) ⌝ }
+    ensures { λ r. ⌜ TermPart (now (file .entry)) i (now r) ⌝ }
+{
+    let block = blocks::block(file, i);
+    blocks::first_entries(block)
+}
+
+// Does block i, if it is of this kind, hold a pattern that e's term is, with its variables replaced?
+fn matches_at(file: &[u8], i: usize, kind: u8, e: &[u8]) -> bool
+    requires { ⌜ Searching (now file) kind (now e) × (i < blockCount (now file)) ⌝ }
+    ensures { λ r. ⌜ Says r (HoldsAt (now (file .entry)) kind (λ p. Matches p (termOf (now (e .entry)))) i) ⌝ }
+{
+    if is_kind(file, i, kind) {
+        matching::matches(term_at(file, i), e)
+    } else {
+        false
+    }
+}
+
+// Is the term that e begins with some listed pattern of this kind, with its variables replaced? Asked from the last block
+// back, as the patterns stand behind the secrets.
+pub fn is_listed_match(file: &[u8], kind: u8, e: &[u8]) -> bool
+    requires { ⌜ Searching (now file) kind (now e) ⌝ }
+    ensures { λ r. ⌜ r ≡ answer (matches-listed? (certificateOf (now (file .entry))) kind (termOf (now (e .entry)))) ⌝ }
+{
+    let count = file.len() / 512;
+    let mut left = count;
+    while 0 < left {
+        if matches_at(file, left - 1, kind, e) {
+            return true;
+        }
+        left -= 1;
+    }
+    false
+}
+
+// Does block i, if it is of this kind, hold a term that shares an instance with e's term?
+fn shares_at(file: &[u8], i: usize, kind: u8, e: &[u8]) -> bool
+    requires { ⌜ Searching (now file) kind (now e) × (i < blockCount (now file)) ⌝ }
+    ensures { λ r. ⌜ Says r (HoldsAt (now (file .entry)) kind (λ p. Share p (termOf (now (e .entry)))) i) ⌝ }
+{
+    if is_kind(file, i, kind) {
+        sharing::shares(term_at(file, i), e)
+    } else {
+        false
+    }
+}
+
+// Does some listed term of this kind share an instance with the term that e begins with? Asked from the last block back.
+pub fn shares_listed(file: &[u8], kind: u8, e: &[u8]) -> bool
+    requires { ⌜ Searching (now file) kind (now e) ⌝ }
+    ensures { λ r. ⌜ r ≡ answer (shares-listed? (certificateOf (now (file .entry))) kind (termOf (now (e .entry)))) ⌝ }
+{
+    let count = file.len() / 512;
+    let mut left = count;
+    while 0 < left {
+        if shares_at(file, left - 1, kind, e) {
+            return true;
+        }
+        left -= 1;
+    }
+    false
+}
+
+// Is block i a secret's, and its secret e's term, symbol for symbol?
+fn same_at(file: &[u8], i: usize, e: &[u8]) -> bool
+    requires { ⌜ Searching (now file) 2 (now e) × (i < blockCount (now file)) ⌝ }
+    ensures { λ r. ⌜ Says r (HoldsAt (now (file .entry)) 2 (λ p. p ≡ termOf (now (e .entry))) i) ⌝ }
+{
+    if is_kind(file, i, 2) {
+        matching::same(term_at(file, i), e)
+    } else {
+        false
+    }
+}
+
+// Is the term that e begins with, symbol for symbol, a listed secret?
+pub fn is_listed_secret(file: &[u8], e: &[u8]) -> bool
+    requires { ⌜ Searching (now file) 2 (now e) ⌝ }
+    ensures { λ r. ⌜ r ≡ answer (is-secret? (certificateOf (now (file .entry))) (termOf (now (e .entry)))) ⌝ }
+{
+    let count = file.len() / 512;
+    let mut i = 0;
+    while i < count {
+        if same_at(file, i, e) {
+            return true;
+        }
+        i += 1;
+    }
+    false
+}
+
+// Is this atom a listed secret?
+fn is_listed_atom(file: &[u8], a: usize) -> bool
+    requires { ⌜ Laid (now file) × (a ≤ 65535) ⌝ }
+    ensures { λ r. ⌜ Says r (Secret (certificateOf (now (file .entry))) (atom a)) ⌝ }
+{
+    let e = [1, 0, (a % 256) as u8, (a / 256) as u8];
+    is_listed_secret(file, &e)
+}
+
+// The atom entries.
+fn atom_entries(file: &[u8]) -> &[u8]
+    requires { ⌜ Laid (now file) ⌝ }
+    ensures { λ r. ⌜ now r ≡ firstEntries (blockAt (now (file .entry)) 0) ⌝ }
+{
+    let block = blocks::block(file, 0);
+    blocks::first_entries(block)
+}
+
+// Is the term that e begins with, as a message, a known atom?
+fn is_known(file: &[u8], e: &[u8]) -> bool
+    requires { ⌜ Searching (now file) 2 (now e) ⌝ }
+    ensures { λ r. ⌜ ((m : Message) → termOf (now (e .entry)) ≡ asTerm m → Says r (KnownAtom (certificateOf (now (file .entry))) m)) ⌝ }
+{
+    let tag = e[0];
+    if tag != 1 {
+        return false;
+    }
+    let atoms = atom_entries(file);
+    let a = entry::value(e);
+    if atoms.len() / 4 <= a {
+        return false;
+    }
+    let known = atoms[4 * a + 1];
+    known == 1
+}
+
+// Is block i a secret's, and its secret a known atom?
+fn known_at(file: &[u8], i: usize) -> bool
+    requires { ⌜ Laid (now file) × (i < blockCount (now file)) ⌝ }
+    ensures { λ r. ⌜ faultIf r (KnownSecret i) ≡ onKind 2 (knownSecret (certificateOf (now (file .entry)))) (now (file .entry)) i ⌝ }
+{
+    if is_kind(file, i, 2) {
+        is_known(file, term_at(file, i))
+    } else {
+        false
+    }
+}
+
+// Number 9: the first block whose secret is a known atom.
+pub fn known_secret(file: &[u8]) -> Found
+    requires { ⌜ Laid (now file) ⌝ }
+    ensures fault { λ r. ⌜ faultFound KnownSecret r ≡ knownFault (certificateOf (now (file .entry))) (now (file .entry)) ⌝ }
+    ensures inside { λ r. ⌜ Inside (blockCount (now (file .entry))) r ⌝ }
+{
+    let count = file.len() / 512;
+    let mut i = 0;
+    while i < count {
+        if known_at(file, i) {
+            return Found::At(i);
+        }
+        i += 1;
+    }
+    Found::Nothing
+}
+
+// Is the term that e begins with, as a message, weakly closed? With a pair, one half is listed; with {m}k, m or k is.
+fn is_closed(file: &[u8], e: &[u8]) -> bool
+    requires { ⌜ Searching (now file) 2 (now e) ⌝ }
+    ensures { λ r. ⌜ ((m : Message) → termOf (now (e .entry)) ≡ asTerm m → Says r (WeaklyClosed (certificateOf (now (file .entry))) m)) ⌝ }
+{
+    let tag = e[0];
+    if tag == 2 {
+        if is_listed_secret(file, &e[4..]) {
+            return true;
+        }
+        let right = 1 + entry::term_size(&e[4..]);
+        return is_listed_secret(file, &e[4 * right..]);
+    }
+    if tag == 3 {
+        if is_listed_secret(file, &e[4..]) {
+            return true;
+        }
+        return is_listed_atom(file, entry::value(e));
+    }
+    true
+}
+
+// Is block i a secret's, and its secret not weakly closed?
+fn open_at(file: &[u8], i: usize) -> bool
+    requires { ⌜ Laid (now file) × (i < blockCount (now file)) ⌝ }
+    ensures { λ r. ⌜ faultIf r (NotClosed i) ≡ onKind 2 (openSecret (certificateOf (now (file .entry)))) (now (file .entry)) i ⌝ }
+{
+    if is_kind(file, i, 2) {
+        !is_closed(file, term_at(file, i))
+    } else {
+        false
+    }
+}
+
+// Number 10: the first block whose secret is not weakly closed.
+pub fn not_closed(file: &[u8]) -> Found
+    requires { ⌜ Laid (now file) ⌝ }
+    ensures fault { λ r. ⌜ faultFound NotClosed r ≡ closedFault (certificateOf (now (file .entry))) (now (file .entry)) ⌝ }
+    ensures inside { λ r. ⌜ Inside (blockCount (now (file .entry))) r ⌝ }
+{
+    let count = file.len() / 512;
+    let mut i = 0;
+    while i < count {
+        if open_at(file, i) {
+            return Found::At(i);
+        }
+        i += 1;
+    }
+    Found::Nothing
+}
+
+// The inverse of a key: the partner field of its entry.
+fn inverse_of(file: &[u8], k: usize) -> usize
+    requires { ⌜ Laid (now file) ⌝ }
+    ensures { λ r. ⌜ (r ≡ inverse (certificateOf (now (file .entry))) k) × (r ≤ 65535) ⌝ }
+{
+    let atoms = atom_entries(file);
+    if k < atoms.len() / 4 {
+        entry::value(&atoms[4 * k..])
+    } else {
+        0
+    }
+}
+
+// Is the inverse of the root key of the encryption that e begins with a listed secret?
+fn is_kept(file: &[u8], e: &[u8]) -> bool
+    requires { ⌜ Searching (now file) 3 (now e) × IsEncryption (termOf (now e)) ⌝ }
+    ensures { λ r. ⌜ Says r (KeptKey (certificateOf (now (file .entry))) (termOf (now (e .entry)))) ⌝ }
+{
+    is_listed_atom(file, inverse_of(file, entry::value(e)))
+}
+
+// Is block i a good pattern's, and the inverse of its root key no listed secret?
+fn loose_at(file: &[u8], i: usize) -> bool
+    requires { ⌜ Laid (now file) × (i < blockCount (now file)) ⌝ }
+    ensures { λ r. ⌜ faultIf r (KeyNotKept i) ≡ onKind 3 (looseKey (certificateOf (now (file .entry)))) (now (file .entry)) i ⌝ }
+{
+    if is_kind(file, i, 3) {
+        !is_kept(file, term_at(file, i))
+    } else {
+        false
+    }
+}
+
+// Number 11: the first block whose good pattern has a root key whose inverse is not a listed secret.
+pub fn key_not_kept(file: &[u8]) -> Found
+    requires { ⌜ Laid (now file) ⌝ }
+    ensures fault { λ r. ⌜ faultFound KeyNotKept r ≡ keyFault (certificateOf (now (file .entry))) (now (file .entry)) ⌝ }
+    ensures inside { λ r. ⌜ Inside (blockCount (now (file .entry))) r ⌝ }
+{
+    let count = file.len() / 512;
+    let mut i = 0;
+    while i < count {
+        if loose_at(file, i) {
+            return Found::At(i);
+        }
+        i += 1;
+    }
+    Found::Nothing
+}

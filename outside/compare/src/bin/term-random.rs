@@ -1,0 +1,122 @@
+//! `term-random N [SEED]`: N random pairs, from this seed on, asked of the
+//! archive and of the outside reference.
+
+use compare::{disagreement, outside, proved, Answer, Question, QUESTIONS};
+use generate::pairs::{small_term_pair, term_pair};
+use generate::random::Random;
+use literal::{encode, Term};
+use std::process::ExitCode;
+
+fn main() -> ExitCode {
+    let words: Vec<String> = std::env::args().skip(1).collect();
+    match run(&words) {
+        Ok(true) => ExitCode::SUCCESS,
+        Ok(false) => ExitCode::FAILURE,
+        Err(message) => {
+            eprintln!("{message}");
+            ExitCode::FAILURE
+        }
+    }
+}
+
+fn run(words: &[String]) -> Result<bool, String> {
+    let (count, first) = match words {
+        [count] => (number(count)?, 0),
+        [count, seed] => (number(count)?, number(seed)?),
+        _ => return Err("term-random N [SEED]".to_string()),
+    };
+    let mut tally = Tally::default();
+    for seed in (0..count).map(|i| first.wrapping_add(i)) {
+        tally.pair(seed);
+    }
+    println!("{count} pairs from seed {first}, {}", tally.line());
+    Ok(tally.wrong == 0)
+}
+
+fn number(word: &str) -> Result<u64, String> {
+    word.parse().map_err(|_| format!("`{word}` is no number"))
+}
+
+/// Both kinds of pairs; on some the term has marked variables too.
+fn random_pair(seed: u64) -> (Term, Term) {
+    let (pattern, term) = match seed % 2 {
+        0 => term_pair(seed),
+        _ => small_term_pair(seed),
+    };
+    if seed % 3 == 0 {
+        return (pattern, with_marks(&term));
+    }
+    (pattern, term)
+}
+
+/// Plain variables of odd number become marked ones.
+fn with_marks(term: &Term) -> Term {
+    match term {
+        Term::Plain(number) if number % 2 == 1 => Term::Marked(*number),
+        Term::Pair(left, right) => Term::pair(with_marks(left), with_marks(right)),
+        Term::Encryption(message, key) => Term::encryption(with_marks(message), *key),
+        _ => term.clone(),
+    }
+}
+
+/// One byte changed, most often to a small one, or the end cut off.
+fn damaged(bytes: &[u8], seed: u64) -> Vec<u8> {
+    let mut random = Random::new(!seed);
+    let mut bytes = bytes.to_vec();
+    let at = random.below(bytes.len());
+    match random.below(8) {
+        0 => bytes.truncate(at),
+        1 => bytes[at] = random.byte(),
+        _ => bytes[at] = random.below(9) as u8,
+    }
+    bytes
+}
+
+#[derive(Default)]
+struct Tally {
+    asked: usize,
+    wrong: usize,
+    /// Yes to each of the three questions, and no term.
+    yes: [usize; 3],
+    no_term: usize,
+}
+
+impl Tally {
+    fn pair(&mut self, seed: u64) {
+        let (pattern, term) = random_pair(seed);
+        let (p, t) = (encode(&pattern), encode(&term));
+        self.both_orders(&p, &t, seed);
+        self.both_orders(&p, &damaged(&p, seed), seed);
+    }
+
+    fn both_orders(&mut self, s: &[u8], t: &[u8], seed: u64) {
+        for question in QUESTIONS {
+            self.ask(question, s, t, seed);
+            self.ask(question, t, s, seed);
+        }
+    }
+
+    fn ask(&mut self, question: Question, s: &[u8], t: &[u8], seed: u64) {
+        let found = proved::ask(question, s, t);
+        let expected = outside::ask(question, s, t);
+        self.asked += 1;
+        match expected {
+            Answer::Yes => self.yes[question as usize] += 1,
+            Answer::NoTerm => self.no_term += 1,
+            Answer::No => {}
+        }
+        if found != expected {
+            self.wrong += 1;
+            let line = disagreement(question, s, t, expected, found);
+            println!("seed {seed}: {line}");
+        }
+    }
+
+    fn line(&self) -> String {
+        let [shares, matches, same] = self.yes;
+        format!(
+            "{} answers ({shares} share, {matches} match, {same} same, {} no term), {} disagree",
+            self.asked, self.no_term, self.wrong
+        )
+    }
+}

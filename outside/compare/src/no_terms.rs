@@ -1,0 +1,97 @@
+//! Bytes that are no term of at most 63 entries, with what is wrong in words.
+
+use crate::words::entries;
+
+const ATOM: [u8; 4] = [1, 0, 0, 0];
+const PAIR: [u8; 4] = [2, 0, 0, 0];
+const ENCRYPTION: [u8; 4] = [3, 0, 2, 0];
+
+pub fn all() -> Vec<(&'static str, Vec<u8>)> {
+    [lengths(), shapes(), single_entries()].concat()
+}
+
+/// So many encryptions of one atom.
+fn nest(depth: usize) -> Vec<u8> {
+    [ENCRYPTION.repeat(depth), ATOM.to_vec()].concat()
+}
+
+/// A list of so many atoms.
+fn list(count: usize) -> Vec<u8> {
+    [[PAIR, ATOM].concat().repeat(count - 1), ATOM.to_vec()].concat()
+}
+
+fn lengths() -> Vec<(&'static str, Vec<u8>)> {
+    vec![
+        ("no entry", vec![]),
+        ("one byte", vec![1]),
+        ("three bytes", vec![1, 0, 0]),
+        ("five bytes", [&ATOM[..], &[1]].concat()),
+        ("63 entries and a byte", [list(32), vec![0]].concat()),
+        ("64 entries, nested", nest(63)),
+        (
+            "64 entries, a list",
+            [ENCRYPTION.to_vec(), list(32)].concat(),
+        ),
+        ("65 entries", list(33)),
+        ("1,001 entries", list(501)),
+        ("65,537 entries", list(32_769)),
+    ]
+}
+
+fn shapes() -> Vec<(&'static str, Vec<u8>)> {
+    let whole = entries("((?x, A), {(*x, I)}KA)").expect("a term");
+    let cut = |entries: usize| whole[..4 * entries].to_vec();
+    vec![
+        ("a pair cut short", cut(1)),
+        ("a left half cut short", cut(2)),
+        ("the right half missing", cut(4)),
+        ("a message missing", cut(5)),
+        ("the last entry missing", cut(7)),
+        ("the last byte missing", whole[..31].to_vec()),
+        ("an entry too many", [&whole[..], &ATOM].concat()),
+        ("two terms", whole.repeat(2)),
+        ("two atoms", ATOM.repeat(2)),
+        ("63 pairs", PAIR.repeat(63)),
+        ("63 encryptions", ENCRYPTION.repeat(63)),
+        ("63 atoms", ATOM.repeat(63)),
+        (
+            "62 entries, the last of 63 missing",
+            list(32)[..248].to_vec(),
+        ),
+    ]
+}
+
+fn single_entries() -> Vec<(&'static str, Vec<u8>)> {
+    vec![
+        ("tag 0", vec![0, 0, 0, 0]),
+        ("tag 6", vec![6, 0, 0, 0]),
+        ("tag 255", vec![255, 0, 0, 0]),
+        ("an atom with second byte 1", vec![1, 1, 0, 0]),
+        ("a plain variable with second byte 1", vec![4, 1, 0, 0]),
+        ("a marked variable with second byte 128", vec![5, 128, 0, 0]),
+        ("atom 126", vec![1, 0, 126, 0]),
+        ("atom 256", vec![1, 0, 0, 1]),
+        ("plain variable 8", vec![4, 0, 8, 0]),
+        ("plain variable 256", vec![4, 0, 0, 1]),
+        ("marked variable 8", vec![5, 0, 8, 0]),
+        ("marked variable 256", vec![5, 0, 0, 1]),
+        ("a pair with value 1", with_root([2, 0, 1, 0], 2)),
+        ("a pair with value 256", with_root([2, 0, 0, 1], 2)),
+        ("a pair with second byte 1", with_root([2, 1, 0, 0], 2)),
+        ("key 126", with_root([3, 0, 126, 0], 1)),
+        ("key 256", with_root([3, 0, 0, 1], 1)),
+        (
+            "an encryption with second byte 1",
+            with_root([3, 1, 2, 0], 1),
+        ),
+        (
+            "tag 6 deep inside",
+            [ENCRYPTION.repeat(30), vec![6, 0, 0, 0]].concat(),
+        ),
+    ]
+}
+
+/// The entry over so many atoms.
+fn with_root(root: [u8; 4], atoms: usize) -> Vec<u8> {
+    [root.to_vec(), ATOM.repeat(atoms)].concat()
+}

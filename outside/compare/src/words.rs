@@ -1,0 +1,53 @@
+//! Terms in the text form. The first eight atoms have the document's names,
+//! the others are `a8` to `a125`.
+
+use crate::outside;
+use literal::block::BLOCK;
+use literal::Term;
+
+const NAMES: [&str; 8] = ["A", "I", "KA", "KAi", "KI", "KIi", "N", "T"];
+
+pub fn name(number: u16) -> String {
+    match NAMES.get(number as usize) {
+        Some(name) => name.to_string(),
+        None => format!("a{number}"),
+    }
+}
+
+/// The entries of the term that the text says.
+pub fn entries(term: &str) -> Result<Vec<u8>, String> {
+    let atoms: String = (0..126)
+        .map(|n| format!("atom {} symmetric known\n", name(n)))
+        .collect();
+    let file = text::assemble(&format!("{atoms}good {term}"))
+        .map_err(|error| format!("{term}: {}", error.message))?;
+    let block = &file[BLOCK..];
+    let end = 4 + 4 * literal::block::first_count(block);
+    Ok(block[4..end].to_vec())
+}
+
+pub fn text_of(term: &Term) -> String {
+    match term {
+        Term::Atom(number) => name(*number),
+        Term::Pair(left, right) => format!("({}, {})", text_of(left), text_of(right)),
+        Term::Encryption(message, key) => format!("{{{}}}{}", text_of(message), name(*key)),
+        Term::Plain(number) => format!("?{number}"),
+        Term::Marked(number) => format!("*{number}"),
+    }
+}
+
+/// The term as text, or the bytes if they are none.
+pub fn shown(bytes: &[u8]) -> String {
+    match outside::read(bytes) {
+        Some(term) => text_of(&term),
+        None => format!("the bytes [{}]", hex(bytes)),
+    }
+}
+
+fn hex(bytes: &[u8]) -> String {
+    let entries: Vec<String> = bytes
+        .chunks(4)
+        .map(|entry| entry.iter().map(|byte| format!("{byte:02x}")).collect())
+        .collect();
+    entries.join(" ")
+}
