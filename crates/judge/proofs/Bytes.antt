@@ -5,109 +5,30 @@ use mathlib.Core.List.{List, map, List·Memᴰ, Memᴰ·of-map}
 use Prim.Native.Nat.{ℕ, _+_, _*_, _<_, _≤_}
 use native.Mathlib.Omega.{arith}
 use lib.ListN.{length}
-use lib.Seq.{take-take}
-use Rattle.blocks.specs.Block.{blockAt, kindOf, firstCount, secondCount, entriesOf, firstEntries, Fitting}
-use Rattle.blocks.specs.Layout.{CountsRight, atoms, term, rule}
-use Rattle.blocks.proofs.Layouts.{layout-fits}
+use Rattle.blocks.specs.Block.{blockAt, firstEntries}
 use Rattle.blocks.proofs.Parts.{first-length}
 use Rattle.terms.specs.Term.{Term, Message, Variable, atom, Foreign, instance, replace}
 use Rattle.terms.specs.Atom.{Atom, length-atoms}
-use Rattle.terms.specs.TermEntry.{EntryRight}
-use Rattle.terms.specs.Each.{Each, each-of, each-take}
-use Rattle.terms.specs.TermLaws.{TermRight, atomRight, pairRight, encryptedRight, plainRight, markedRight, one-begins, right-term, secret-message}
+use Rattle.terms.specs.TermLaws.{TermRight, atomRight, pairRight, encryptedRight, plainRight, markedRight}
 use Rattle.judge.specs.declared.verdict.Counts.{Counts}
 use Rattle.judge.specs.declared.verdict.Verdict.the-variants.{Accepted}
 use Rattle.judge.specs.Certificate.{Secret}
 use Rattle.judge.specs.File.{blocksOf, ofKind, patternOf, secretOf, ruleOf, certificateOf}
-use Rattle.judge.specs.Laid.{TermBlock, RuleBlock, SecretBlock, GoodBlock, Laid}
+use Rattle.judge.specs.Laid.{Laid}
 use Rattle.judge.specs.Run.{Derives, Step, after}
 use Rattle.judge.specs.Cover.{Passes}
 use Rattle.judge.specs.Conditions.{KnownAtom, WeaklyClosed, KeptKey, Meets}
-use Rattle.judge.specs.Verdict.{verdictOf, fileAtoms, usedEntries}
-use Rattle.judge.specs.Meaning.{BlockRight, Formed, Accepts, Every}
-use Rattle.judge.proofs.Judged.{used-length}
+use Rattle.judge.specs.Verdict.{verdictOf, fileAtoms}
+use Rattle.judge.specs.Meaning.{Formed, Accepts, Every}
+use Rattle.judge.proofs.LaidLaws.{fits, pattern-right, laid}
 use Rattle.judge.proofs.Members.{block-of-kind}
 use Rattle.judge.proofs.Verdicts.{accepted-iff}
 use Rattle.judge.proofs.Secrecy.{secrecy}
 
--- ---- a block that has passed
-
-module _ (file : List ℕ) (i : ℕ) (right : BlockRight file i) where
-  abbrev b : List ℕ
-  b = blockAt file i
-
-  fits : Fitting b
-  fits = layout-fits b (right .shaped .layout)
-
-  -- The counts of kinds 2 to 4, and of kind 5.
-  short : 2 ≤ kindOf b → firstCount b ≤ 63
-  short l = go (right .shaped .layout .counts)
-    where
-      go : CountsRight (kindOf b) (firstCount b) (secondCount b) → firstCount b ≤ 63
-      go (atoms k a c d) = absurd (omega arith)
-      go (term k a c d e) = d
-      go (rule k a c d) = a
-
-  second-short : kindOf b ≡ 5 → secondCount b ≤ 63
-  second-short l = go (right .shaped .layout .counts)
-    where
-      go : CountsRight (kindOf b) (firstCount b) (secondCount b) → secondCount b ≤ 63
-      go (atoms k a c d) = absurd (omega arith)
-      go (term k a c d e) = absurd (omega arith)
-      go (rule k a c d) = d
-
-  -- Each entry of the first part is right.
-  each : 2 ≤ kindOf b → Each (EntryRight (fileAtoms file) (kindOf b)) (firstEntries b)
-  unfolding usedEntries firstEntries
-  each l =
-      let size = used-length b fits in
-      let all : Each (EntryRight (fileAtoms file) (kindOf b)) (usedEntries b) =
-      each-of (usedEntries b) (omega arith) (λ n h. right .entries l n (omega arith)) in
-      let less : 4 * firstCount b ≤ 4 * (firstCount b + secondCount b) = omega arith in
-      rw (take-take (4 * firstCount b) (4 * (firstCount b + secondCount b)) (entriesOf b) less) at (each-take (firstCount b) all)
-
-  -- The term of a block of kind 2 to 4.
-  pattern-right : 2 ≤ kindOf b → kindOf b ≤ 4 → TermRight (fileAtoms file) (kindOf b) (patternOf b)
-  unfolding patternOf
-  pattern-right l h = right-term (each l) (right .pattern l h .one)
-
-  term-block : 2 ≤ kindOf b → kindOf b ≤ 4 → TermBlock b
-  term-block l h = record { fitting = fits; term = one-begins (right .pattern l h .one); short = short l }
-
-  rule-block : kindOf b ≡ 5 → RuleBlock b
-  rule-block k = record {
-    fitting = fits;
-    premise = λ n. one-begins (right .premise k n);
-    conclusion = one-begins (right .conclusion k);
-    premise-short = short (omega arith);
-    conclusion-short = second-short k;
-  }
-
-  secret-block : kindOf b ≡ 2 → SecretBlock b
-  secret-block k =
-      let w = secret-message k (pattern-right (omega arith) (omega arith)) in record { message = w .0; same = w .1 }
-
-  good-block : kindOf b ≡ 3 → GoodBlock b
-  unfolding patternOf
-  good-block k =
-      let w = right .pattern (omega arith) (omega arith) .root (omega arith) (omega arith) in
-      record { key = w .key; content = w .content; same = w .is }
-
 -- ---- accepted bytes
 
 pub formed-laid : (file : List ℕ) → Formed file → Laid file
-formed-laid file f =
-    let l = f .long in
-    record {
-      exact = omega arith;
-      some-block = omega arith;
-      few = omega arith;
-      atoms = fits file 0 (f .blocks 0 (omega arith));
-      terms = λ i h. term-block file i (f .blocks i h);
-      rules = λ i h. rule-block file i (f .blocks i h);
-      secrets = λ i h. secret-block file i (f .blocks i h);
-      goods = λ i h. good-block file i (f .blocks i h);
-    }
+formed-laid file f = laid file (f .long) (f .blocks)
 
 -- What holds of the blocks of a kind holds of what they list.
 listed : {A : Type 0} (file : List ℕ) (kind : ℕ) (f : List ℕ → A) (P : A → Type 0) → Every kind file (λ b. P (f b))

@@ -6,12 +6,24 @@ pub mod Secrecy
 -- What the verdict means; secrecy over accepted bytes; the worked cases.
 pub mod Exact
 pub mod Judged
+pub mod LaidLaws
 pub mod Members
 pub mod Verdicts
 pub mod Bytes
 pub mod Spots
 pub mod Cases
--- Laws of the blocks of one kind, and of numbers 9 to 11.
+-- Laws of what is made of a verdict.
+pub mod Answers
+pub mod Digits
+pub mod Printing
+-- Laws of the code: the layout stage; the blocks of one kind and numbers 9 to 11; cover; the verdict put together.
+pub mod LayoutLaws
 pub mod ListedLaws
 pub mod Listing
 pub mod Numbers
+pub mod Flags
+pub mod Marks
+pub mod Hats
+pub mod Opens
+pub mod Covers
+pub mod JudgingLaws

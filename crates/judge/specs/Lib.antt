@@ -9,6 +9,11 @@ pub mod Conditions
 pub mod Decisions
 pub mod Verdict
 pub mod Meaning
+-- What is made of a verdict: number, block and place, the refused part, the tally, the line.
+pub mod Answer
+pub mod Line
 -- What the parts of the code promise to each other.
+pub mod Judgement
 pub mod Laid
 pub mod Listed
+pub mod CoverEntries

@@ -1,3 +1,8 @@
-// The judging layer: what judging a certificate asks of its bytes. Each function here decides one condition.
+// The judging layer: a certificate file gets its verdict.
+pub mod answer;
+pub mod cover;
+pub mod judging;
+pub mod layout;
+pub mod line;
 pub mod listed;
 pub mod verdict;

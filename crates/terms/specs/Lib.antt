@@ -24,6 +24,7 @@ pub mod ValidTries
 pub mod Proper
 -- Laws of terms, places and entries.
 pub mod Laws
+pub mod PlaceLaws
 pub mod EntryLaws
 pub mod WalkLaws
 pub mod Count

@@ -1,7 +1,7 @@
 // The term layer: entries of blocks as terms, matching and shared instances.
-pub mod ending;
+mod ending;
 pub mod entry;
 pub mod matching;
-pub mod node;
+mod node;
 pub mod sharing;
 pub mod valid;

@@ -1,0 +1,98 @@
+-- Laws of specs/Answer.antt: the answers of the code, and what the packed number tells. Assumes nothing.
+use mathlib.Core.Path.{_≡_, sym, ap, _∙_}
+use mathlib.Core.Bool.{Bool, true, false}
+use mathlib.Core.List.{List, []}
+use Prim.Native.Nat.{ℕ, _+_, _*_, _/_, _%_, _≤_, _<_}
+use native.Mathlib.Omega.{arith}
+use borrow.Author.Tests.{eq-eqb, ne-eqb, leb-true}
+use Rattle.blocks.specs.Block.{HasBlock, hasBlock, blockAt}
+use Rattle.judge.specs.declared.verdict.Fault.{Fault}
+use Rattle.judge.specs.declared.verdict.Fault.the-variants.{Length, Check, Kind, Missing, Layout, AtomEntry}
+use Rattle.judge.specs.declared.verdict.Fault.the-variants.{TermEntry, NotOneTerm, KnownSecret, NotClosed, KeyNotKept, Uncovered}
+use Rattle.judge.specs.declared.verdict.Counts.{Counts}
+use Rattle.judge.specs.declared.verdict.Verdict.{Verdict}
+use Rattle.judge.specs.declared.verdict.Verdict.the-variants.{Accepted, Refused}
+use Rattle.judge.specs.declared.answer.Row.{Row}
+use Rattle.judge.specs.declared.answer.Tally.{Tally}
+use Rattle.judge.specs.Answer.{rowOf, numberOf, blockOf, placeOf, packedOf, blockOrNone, partOf, full, raisedOf, talliedOf}
+
+-- ---- the packed number
+
+pub packed-refused : {v : Verdict} {f : Fault} {n b p : ℕ} → v ≡ Refused f → n ≡ numberOf f → b ≡ blockOf f → p ≡ placeOf f
+    → n * 65536 + b * 256 + p ≡ packedOf v
+packed-refused e n b p = rw (e, n, b, p)
+
+-- Every number is one of 1 to 12.
+pub numbers : (f : Fault) → (1 ≤ numberOf f) × (numberOf f ≤ 12)
+numbers Length = omega arith
+numbers (Check b) = omega arith
+numbers (Kind b) = omega arith
+numbers (Missing n) = omega arith
+numbers (Layout b) = omega arith
+numbers (AtomEntry b p) = omega arith
+numbers (TermEntry b p) = omega arith
+numbers (NotOneTerm b p) = omega arith
+numbers (KnownSecret b) = omega arith
+numbers (NotClosed b) = omega arith
+numbers (KeyNotKept b) = omega arith
+numbers (Uncovered b p) = omega arith
+
+pub number-is : {r : Row} (f : Fault) → r ≡ rowOf f → (r .number ≡ numberOf f) × (r .number ≤ 12)
+number-is f e = let same = ap (λ (r : Row). r .number) e in (same, omega (arith, numbers f))
+
+-- The loader reads them back: 0 is no refusal, and number, block and place are parts of the packed number.
+pub packed-tells : (f : Fault) → blockOf f < 256 → placeOf f < 256
+    → (0 < packedOf (Refused f))
+    × (packedOf (Refused f) / 65536 ≡ numberOf f)
+    × (packedOf (Refused f) / 256 % 256 ≡ blockOf f)
+    × (packedOf (Refused f) % 256 ≡ placeOf f)
+packed-tells f b p = omega (arith, numbers f)
+
+-- ---- the refused part
+
+-- What the test of a block says.
+pub has : (file : List ℕ) (i : ℕ) {t : Bool} → t ≡ hasBlock file i → t ≡ true → HasBlock file i
+has file i e h = leb-true _ _ (sym e ∙ h)
+
+module _ (file : List ℕ) (i : ℕ) {t : Bool} (e : t ≡ hasBlock file i) where
+  pub block-there : t ≡ true → {part : List ℕ} → part ≡ blockAt file i → part ≡ blockOrNone file i
+  unfolding blockOrNone
+  block-there h p = rw (← e, h) p
+
+  pub block-lacking : t ≡ false → [] ≡ blockOrNone file i
+  unfolding blockOrNone
+  block-lacking h = rw (← e, h)
+
+pub part-accepted : (file : List ℕ) {v : Verdict} {c : Counts} → v ≡ Accepted c → [] ≡ partOf file v
+unfolding partOf
+part-accepted file e = rw e
+
+module _ (file : List ℕ) {v : Verdict} {f : Fault} (e : v ≡ Refused f) {n : ℕ} (number : n ≡ numberOf f) where
+  pub part-of-one : n ≡ 1 → [] ≡ partOf file v
+  unfolding partOf
+  part-of-one h = rw (e, ← number, eq-eqb n 1 h)
+
+  pub part-of-four : (n ≡ 1 → ⊥) → n ≡ 4 → [] ≡ partOf file v
+  unfolding partOf
+  part-of-four l h = rw (e, ← number, ne-eqb n 1 l, eq-eqb n 4 h)
+
+  pub part-of-other : (n ≡ 1 → ⊥) → (n ≡ 4 → ⊥) → {b : ℕ} {part : List ℕ} → b ≡ blockOf f → part ≡ blockOrNone file b
+      → part ≡ partOf file v
+  unfolding partOf
+  part-of-other l m q p = rw (e, ← number, ne-eqb n 1 l, ne-eqb n 4 m, ← q) p
+
+-- ---- the tally
+
+pub raised-full : (n : ℕ) → n ≡ full → n ≡ raisedOf n
+raised-full n h = rw (eq-eqb n full h)
+
+pub raised-one : (n : ℕ) → (n ≡ full → ⊥) → n + 1 ≡ raisedOf n
+raised-one n h = rw (ne-eqb n full h)
+
+pub tallied-accepted : (t : Tally) {v : Verdict} {c : Counts} {n : ℕ} → v ≡ Accepted c → n ≡ raisedOf (t .accepted)
+    → _≡_ {A = Tally} (record { accepted = n; refused = t .refused }) (talliedOf t v)
+tallied-accepted t e h = rw (e, h)
+
+pub tallied-refused : (t : Tally) {v : Verdict} {f : Fault} {n : ℕ} → v ≡ Refused f → n ≡ raisedOf (t .refused)
+    → _≡_ {A = Tally} (record { accepted = t .accepted; refused = n }) (talliedOf t v)
+tallied-refused t e h = rw (e, h)

@@ -1,0 +1,146 @@
+-- Laws of specs/Verdict.antt, numbers 9 to 12 and the verdict, shaped like the branches of the code. Assumes nothing.
+use mathlib.Core.Path.{_≡_, refl, sym, ap, _∙_}
+use mathlib.Core.Bool.{Bool, true, false}
+use mathlib.Core.List.{List}
+use mathlib.Core.Option.{Option, none, some}
+use Prim.Native.Nat.{ℕ, _+_, _-_, _*_, _≤_, _<_}
+use native.Mathlib.Omega.{arith}
+use lib.ListN.{length}
+use borrow.Author.Tests.{eq-eqb, ne-eqb}
+use Rattle.blocks.specs.Block.{blockAt, kindOf, firstCount, secondCount, secondEntries}
+use Rattle.blocks.proofs.Parts.{second-length}
+use Rattle.terms.specs.declared.valid.Found.{Found}
+use Rattle.terms.specs.declared.valid.Found.the-variants.{At, Nothing}
+use Rattle.terms.specs.Entry.{Begins, termOf, size}
+use Rattle.terms.specs.EntryLaws.{fits, termOf-reads}
+use Rattle.terms.specs.First.{firstNot, first-is}
+use Rattle.terms.specs.Decide.{answer}
+use Rattle.judge.specs.declared.verdict.Counts.{Counts}
+use Rattle.judge.specs.declared.verdict.Fault.{Fault}
+use Rattle.judge.specs.declared.verdict.Fault.the-variants.{Length, Uncovered}
+use Rattle.judge.specs.declared.verdict.Verdict.the-variants.{Accepted, Refused}
+use Rattle.judge.specs.declared.layout.Judged.the-variants.{Fine, Faulty}
+use Rattle.judge.specs.Certificate.{Certificate, Rule}
+use Rattle.judge.specs.Decisions.{dead?}
+use Rattle.judge.specs.File.{blockCount, ruleOf, certificateOf}
+use Rattle.judge.specs.Laid.{Laid, RuleBlock}
+use Rattle.judge.specs.Listed.{faultFound, Inside}
+use Rattle.judge.specs.Judgement.{judgedOf}
+use Rattle.judge.specs.Verdict.{lengthRight, lengthFault, layoutFault, missingFault, countsOf, firstFault, onKind, kindFault}
+use Rattle.judge.specs.Verdict.{fine?, uncovered, openRule, knownFault, closedFault, keyFault, ruleFault, certificateFault}
+use Rattle.judge.specs.Verdict.{faultOf, verdictOf}
+use Rattle.judge.proofs.LayoutLaws.{found-below}
+
+-- ---- number 12
+
+-- The place that is found is an entry of the conclusion.
+place-inside : (c : Certificate) (rule : Rule) {n : ℕ} → uncovered c rule ≡ At n → n < size (rule .conclusion)
+unfolding uncovered
+place-inside c rule {n} h = go (answer (dead? c rule)) h
+  where
+    go : (t : Bool) → _≡_ {A = Found} (elim t [ true ↦ Nothing | false ↦ firstNot (fine? c rule) (size (rule .conclusion)) ]) (At n)
+        → n < size (rule .conclusion)
+    go true e = let z : _≡_ {A = ℕ} 0 1 = cc in absurd (omega arith)
+    go false e = found-below (first-is (fine? c rule) (size (rule .conclusion))) e
+
+begins-size : {e : List ℕ} → Begins e → 4 * size (termOf e) ≤ length e
+begins-size w = rw (termOf-reads (w .reads)) (fits (w .term) (w .reads))
+
+pub place-small : (c : Certificate) {b : List ℕ} → RuleBlock b → {u : Found} {n : ℕ} → u ≡ uncovered c (ruleOf b) → u ≡ At n
+    → firstCount b + n < 256
+unfolding ruleOf
+place-small c {b} w said h =
+    let inside = place-inside c (ruleOf b) (sym said ∙ h) in
+    let short = w .conclusion-short in
+    let first = w .premise-short in
+    omega (arith, begins-size (w .conclusion), second-length b (w .fitting))
+
+pub rule-at : {file : List ℕ} {i : ℕ} → Laid file → i < blockCount file → {b : List ℕ} → b ≡ blockAt file i → {k : ℕ} → k ≡ kindOf b
+    → k ≡ 5 → RuleBlock b
+rule-at {i = i} laid inside same kind five = rw same (laid .rules i inside (ap kindOf (sym same) ∙ sym kind ∙ five))
+
+module _ (c : Certificate) (file : List ℕ) (i : ℕ) {b : List ℕ} (same : b ≡ blockAt file i) {k : ℕ} (kind : k ≡ kindOf b) where
+  pub open-other : (k ≡ 5 → ⊥) → Fine ≡ judgedOf (onKind 5 (openRule c) file i)
+  unfolding judgedOf onKind
+  open-other n = rw (← same, ne-eqb (kindOf b) 5 (λ e. n (kind ∙ e)), onKind)
+
+  module _ (five : k ≡ 5) {u : Found} (said : u ≡ uncovered c (ruleOf b)) where
+    pub open-found : {n m : ℕ} → u ≡ At n → m ≡ firstCount b → Faulty (Uncovered i (m + n)) ≡ judgedOf (onKind 5 (openRule c) file i)
+    unfolding judgedOf onKind openRule
+    open-found h count = rw (← same, eq-eqb (kindOf b) 5 (sym kind ∙ five), ← same, ← said, h, ← same, count, onKind, openRule)
+
+    pub open-fine : u ≡ Nothing → Fine ≡ judgedOf (onKind 5 (openRule c) file i)
+    unfolding judgedOf onKind openRule
+    open-fine h = rw (← same, eq-eqb (kindOf b) 5 (sym kind ∙ five), ← same, ← said, h, onKind, openRule)
+
+pub rule-start : (c : Certificate) (file : List ℕ) → firstFault (onKind 5 (openRule c) file) 0 (blockCount file - 0) ≡ ruleFault c file
+unfolding ruleFault kindFault
+rule-start c file = let all : blockCount file - 0 ≡ blockCount file = omega arith in rw all
+
+-- ---- numbers 9 to 12
+
+pub found-some : (fault : ℕ → Fault) {r : Found} {o : Option Fault} → faultFound fault r ≡ o → {i : ℕ} → r ≡ At i → o ≡ some (fault i)
+found-some fault said h = sym said ∙ ap (faultFound fault) h
+
+pub found-none : (fault : ℕ → Fault) {r : Found} {o : Option Fault} → faultFound fault r ≡ o → r ≡ Nothing → o ≡ none
+found-none fault said h = sym said ∙ ap (faultFound fault) h
+
+pub found-block : {file : List ℕ} → Laid file → (r : Found) → Inside (blockCount file) r → {i : ℕ} → r ≡ At i → i < 256
+found-block laid (At n) inside {i} h = let same : n ≡ i = cc in let few = laid .few in omega arith
+found-block laid Nothing inside h = let z : _≡_ {A = ℕ} 0 1 = cc in absurd (omega arith)
+
+module _ (c : Certificate) (file : List ℕ) where
+  pub certificate-known : {f : Fault} → knownFault c file ≡ some f → certificateFault c file ≡ some f
+  unfolding certificateFault
+  certificate-known h = rw (h, certificateFault)
+
+  module _ (known : knownFault c file ≡ none) where
+    pub certificate-closed : {f : Fault} → closedFault c file ≡ some f → certificateFault c file ≡ some f
+    unfolding certificateFault
+    certificate-closed h = rw (known, h, certificateFault)
+
+    module _ (closed : closedFault c file ≡ none) where
+      pub certificate-key : {f : Fault} → keyFault c file ≡ some f → certificateFault c file ≡ some f
+      unfolding certificateFault
+      certificate-key h = rw (known, closed, h, certificateFault)
+
+      pub certificate-rule : keyFault c file ≡ none → ruleFault c file ≡ certificateFault c file
+      unfolding certificateFault
+      certificate-rule h = rw (known, closed, h, certificateFault)
+
+-- ---- the verdict
+
+module _ (file : List ℕ) where
+  pub fault-length : lengthRight file ≡ false → faultOf file ≡ some Length
+  unfolding faultOf lengthFault
+  fault-length h = rw (h, faultOf, lengthFault)
+
+  module _ (long : lengthRight file ≡ true) where
+    pub fault-layout : {f : Fault} → layoutFault file ≡ some f → faultOf file ≡ some f
+    unfolding faultOf lengthFault
+    fault-layout h = rw (long, h, faultOf, lengthFault)
+
+    module _ (shaped : layoutFault file ≡ none) where
+      pub fault-missing : {f : Fault} → missingFault file ≡ some f → faultOf file ≡ some f
+      unfolding faultOf lengthFault
+      fault-missing h = rw (long, shaped, h, faultOf, lengthFault)
+
+      pub fault-certificate : missingFault file ≡ none → certificateFault (certificateOf file) file ≡ faultOf file
+      unfolding faultOf lengthFault
+      fault-certificate h = rw (long, shaped, h, faultOf, lengthFault)
+
+  -- No fault: the length is right.
+  pub fault-none : faultOf file ≡ none → lengthRight file ≡ true
+  fault-none h = go (lengthRight file) refl
+    where
+      go : (t : Bool) → lengthRight file ≡ t → t ≡ true
+      go true e = refl
+      go false e = let z : _≡_ {A = ℕ} 0 1 = cc (fault-length e, h) in absurd (omega arith)
+
+  pub verdict-refused : {f : Fault} → faultOf file ≡ some f → Refused f ≡ verdictOf file
+  unfolding verdictOf
+  verdict-refused h = rw (h, verdictOf)
+
+  pub verdict-accepted : faultOf file ≡ none → {counts : Counts} → counts ≡ countsOf file → Accepted counts ≡ verdictOf file
+  unfolding verdictOf
+  verdict-accepted h e = rw (h, e, verdictOf)

@@ -1,0 +1,109 @@
+-- A file whose length and blocks have passed numbers 1 to 8 is laid out, as the conditions after them find it. Assumes nothing.
+use mathlib.Core.Path.{_≡_}
+use mathlib.Core.Bool.{true}
+use mathlib.Core.List.{List}
+use mathlib.Core.Option.{none}
+use Prim.Native.Nat.{ℕ, _+_, _*_, _<_, _≤_}
+use native.Mathlib.Omega.{arith}
+use lib.Seq.{take-take}
+use Rattle.blocks.specs.Block.{blockAt, kindOf, firstCount, secondCount, entriesOf, firstEntries, Fitting}
+use Rattle.blocks.specs.Layout.{CountsRight, atoms, term, rule}
+use Rattle.blocks.proofs.Layouts.{layout-fits}
+use Rattle.terms.specs.TermEntry.{EntryRight}
+use Rattle.terms.specs.Each.{Each, each-of, each-take}
+use Rattle.terms.specs.TermLaws.{TermRight, one-begins, right-term, secret-message}
+use Rattle.judge.specs.File.{blockCount, patternOf}
+use Rattle.judge.specs.Laid.{TermBlock, RuleBlock, SecretBlock, GoodBlock, Laid}
+use Rattle.judge.specs.Verdict.{lengthRight, lengthFault, fileAtoms, usedEntries, blockFault, layoutFrom, layoutFault}
+use Rattle.judge.specs.Meaning.{LengthRight, BlockRight}
+use Rattle.judge.proofs.Exact.{first-block}
+use Rattle.judge.proofs.Judged.{length-judged, used-length, block-judged}
+
+-- ---- a block that has passed
+
+module _ (file : List ℕ) (i : ℕ) (right : BlockRight file i) where
+  abbrev pub b : List ℕ
+  b = blockAt file i
+
+  pub fits : Fitting b
+  fits = layout-fits b (right .shaped .layout)
+
+  -- The counts of kinds 2 to 4, and of kind 5.
+  short : 2 ≤ kindOf b → firstCount b ≤ 63
+  short l = go (right .shaped .layout .counts)
+    where
+      go : CountsRight (kindOf b) (firstCount b) (secondCount b) → firstCount b ≤ 63
+      go (atoms k a c d) = absurd (omega arith)
+      go (term k a c d e) = d
+      go (rule k a c d) = a
+
+  second-short : kindOf b ≡ 5 → secondCount b ≤ 63
+  second-short l = go (right .shaped .layout .counts)
+    where
+      go : CountsRight (kindOf b) (firstCount b) (secondCount b) → secondCount b ≤ 63
+      go (atoms k a c d) = absurd (omega arith)
+      go (term k a c d e) = absurd (omega arith)
+      go (rule k a c d) = d
+
+  -- Each entry of the first part is right.
+  each : 2 ≤ kindOf b → Each (EntryRight (fileAtoms file) (kindOf b)) (firstEntries b)
+  unfolding usedEntries firstEntries
+  each l =
+      let size = used-length b fits in
+      let all : Each (EntryRight (fileAtoms file) (kindOf b)) (usedEntries b) =
+      each-of (usedEntries b) (omega arith) (λ n h. right .entries l n (omega arith)) in
+      let less : 4 * firstCount b ≤ 4 * (firstCount b + secondCount b) = omega arith in
+      rw (take-take (4 * firstCount b) (4 * (firstCount b + secondCount b)) (entriesOf b) less) at (each-take (firstCount b) all)
+
+  -- The term of a block of kind 2 to 4.
+  pub pattern-right : 2 ≤ kindOf b → kindOf b ≤ 4 → TermRight (fileAtoms file) (kindOf b) (patternOf b)
+  unfolding patternOf
+  pattern-right l h = right-term (each l) (right .pattern l h .one)
+
+  term-block : 2 ≤ kindOf b → kindOf b ≤ 4 → TermBlock b
+  term-block l h = record { fitting = fits; term = one-begins (right .pattern l h .one); short = short l }
+
+  rule-block : kindOf b ≡ 5 → RuleBlock b
+  rule-block k = record {
+    fitting = fits;
+    premise = λ n. one-begins (right .premise k n);
+    conclusion = one-begins (right .conclusion k);
+    premise-short = short (omega arith);
+    conclusion-short = second-short k;
+  }
+
+  secret-block : kindOf b ≡ 2 → SecretBlock b
+  secret-block k =
+      let w = secret-message k (pattern-right (omega arith) (omega arith)) in record { message = w .0; same = w .1 }
+
+  good-block : kindOf b ≡ 3 → GoodBlock b
+  unfolding patternOf
+  good-block k =
+      let w = right .pattern (omega arith) (omega arith) .root (omega arith) (omega arith) in
+      record { key = w .key; content = w .content; same = w .is }
+
+-- ---- a file that has passed
+
+pub laid : (file : List ℕ) → LengthRight file → ((i : ℕ) → i < blockCount file → BlockRight file i) → Laid file
+laid file l blocks = record {
+  exact = omega arith;
+  some-block = omega arith;
+  few = omega arith;
+  atoms = fits file 0 (blocks 0 (omega arith));
+  terms = λ i h. term-block file i (blocks i h);
+  rules = λ i h. rule-block file i (blocks i h);
+  secrets = λ i h. secret-block file i (blocks i h);
+  goods = λ i h. good-block file i (blocks i h);
+}
+
+-- What the first stage's answers tell.
+pub long : (file : List ℕ) → lengthRight file ≡ true → LengthRight file
+unfolding lengthFault
+long file h = length-judged file .none-right (rw (h, lengthFault))
+
+pub block-fits : (file : List ℕ) (i : ℕ) → blockFault file i ≡ none → Fitting (blockAt file i)
+block-fits file i h = fits file i (block-judged file i .none-right h)
+
+pub layout-laid : (file : List ℕ) → lengthRight file ≡ true → layoutFault file ≡ none → Laid file
+unfolding layoutFault layoutFrom
+layout-laid file l h = laid file (long file l) (first-block (blockFault file) (block-judged file) (blockCount file) .none-right h)

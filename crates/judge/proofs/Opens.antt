@@ -1,0 +1,126 @@
+-- Laws of open places on the entries: what closing below an encryption, and below each of them, leaves. Assumes nothing.
+use mathlib.Core.Path.{_≡_, refl, sym, ap, subst, _∙_}
+use mathlib.Core.Bool.{Bool, true, false}
+use mathlib.Core.List.{List, _∷_}
+use mathlib.Core.Logic.{_⊎_, inl, inr, _↔_}
+use mathlib.Core.Option.{Option, some}
+use Prim.Native.Nat.{ℕ, _+_, _*_, _<_, _≤_}
+use native.Mathlib.Omega.{arith}
+use native.Mathlib.Decide.{ℕ-discrete, decLe, decLt}
+use lib.ListN.{length, getD, replicate, length-drop}
+use Rattle.terms.specs.Term.{Term, Variable, encrypted}
+use Rattle.terms.specs.Place.{Place, subtermAt, StrictlyAbove}
+use Rattle.terms.specs.Entry.{size, termOf, Reads, Begins}
+use Rattle.terms.specs.EntryLaws.{size-positive, fits}
+use Rattle.terms.specs.OneTerm.{IsEncryption}
+use Rattle.terms.specs.Solve.{Says, says-same}
+use Rattle.terms.specs.WalkLaws.{from}
+use Rattle.terms.specs.PlaceLaws.{entryAt, Placed, placed, within, spotted, subterm-at, placed-begins, strictly-above-entry}
+use Rattle.judge.specs.Certificate.{Certificate}
+use Rattle.judge.specs.Cover.{NoHat, Open}
+use Rattle.judge.specs.Listed.{MatchesListed, SharesListed}
+use Rattle.judge.specs.CoverEntries.{subAt, On, Painted, Raised, Flags, OpenBelow, OpenEntry, ClosedBelow}
+use Rattle.judge.proofs.Flags.{painted-raised, zero-off}
+use Rattle.judge.proofs.Marks.{term-reads}
+use Rattle.judge.proofs.Hats.{encryption-tag}
+use Rattle.judge.proofs.ListedLaws.{no-hat-is}
+
+-- What may stand above an open place, by the answers of the searches.
+module _ {c : Certificate} {t : Term Variable} where
+  pub no-good-shares : ¬ SharesListed c 3 t → NoHat c t
+  no-good-shares none = no-hat-is c t .1 (inl none)
+
+  pub by-bad : SharesListed c 3 t → (b : Bool) → Says b (MatchesListed c 4 t) → Says b (NoHat c t)
+  by-bad shares b says = says-same b (λ m. no-hat-is c t .1 (inr m)) (λ n. go (no-hat-is c t .0 n)) says
+    where
+      go : (SharesListed c 3 t → ⊥) ⊎ MatchesListed c 4 t → MatchesListed c 4 t
+      go (inl n) = absurd (n shares)
+      go (inr m) = m
+
+-- Closing below entry h: nothing has to be closed, or all strictly below it.
+module _ {c : Certificate} {e : List ℕ} {h : ℕ} where
+  pub closed-none : {old : List ℕ} → length old ≡ 64 → (getD e (4 * h) 0 ≡ 3 → NoHat c (subAt e h)) → ClosedBelow c old old e h
+  closed-none long fine = record { long = long; on = λ k. (λ o. (o, λ tag a b. fine tag), λ w. w .0) }
+
+  pub closed-below : {old new : List ℕ} {r : ℕ} → getD e (4 * h) 0 ≡ 3 → ¬ NoHat c (subAt e h) → r ≡ size (subAt e h) → Painted old new (h + 1) (h + r) 0 → ClosedBelow c old new e h
+  closed-below {old} {new} {r} tag off is p = record { long = p .long; on = λ k. (λ o. to k o (decLt h k) (decLt k (h + r)), λ w. back k w (decLt h k) (decLt k (h + r))) }
+    where
+      Fine : ℕ → Type 0
+      Fine k = getD e (4 * h) 0 ≡ 3 → h < k → k < h + size (subAt e h) → NoHat c (subAt e h)
+
+      to : (k : ℕ) → On new k → Dec (h < k) → Dec (k < h + r) → On old k × Fine k
+      to k o (yes a) (yes b) = let z = p .inside k (omega arith) b in absurd (omega arith)
+      to k o (yes a) (no b) = (sym (p .outside k (λ w. b (w .1))) ∙ o, λ t l g. absurd (b (omega arith)))
+      to k o (no a) d = (sym (p .outside k (λ w. a (let l = w .0 in omega arith))) ∙ o, λ t l g. absurd (a l))
+
+      back : (k : ℕ) → On old k × Fine k → Dec (h < k) → Dec (k < h + r) → On new k
+      back k w (yes a) (yes b) = absurd (off (w .1 tag a (omega arith)))
+      back k w (yes a) (no b) = p .outside k (λ x. b (x .1)) ∙ w .0
+      back k w (no a) d = p .outside k (λ x. a (let l = x .0 in omega arith)) ∙ w .0
+
+-- Entry after entry.
+pub open-none : {c : Certificate} {e new : List ℕ} {n : ℕ} → n ≡ size (termOf e) → Painted (replicate 64 0) new 0 n 1 → Flags new (OpenBelow c e 0)
+open-none {c} {e} {new} {n} is p = record { long = p .long; on = λ k. (λ o. to k (r .on k .0 o), λ w. r .on k .1 (inr (omega arith, let l = w .inside in omega arith))) }
+  where
+    r : Raised (replicate 64 0) new (λ k. (0 ≤ k) × (k < n))
+    r = painted-raised p
+
+    to : (k : ℕ) → On (replicate 64 0) k ⊎ ((0 ≤ k) × (k < n)) → OpenBelow c e 0 k
+    to k (inl o) = absurd (zero-off k o)
+    to k (inr w) = record { inside = let l = w .1 in omega arith; every = λ h l. absurd (omega arith) }
+
+pub open-more : {c : Certificate} {e : List ℕ} {h : ℕ} {old new : List ℕ} → Flags old (OpenBelow c e h) → ClosedBelow c old new e h → Flags new (OpenBelow c e (h + 1))
+open-more {c} {e} {h} {old} {new} f s = record { long = s .long; on = λ k. (λ o. to k (s .on k .0 o), λ w. s .on k .1 (back k w)) }
+  where
+    Fine : ℕ → ℕ → Type 0
+    Fine k h = getD e (4 * h) 0 ≡ 3 → h < k → k < h + size (subAt e h) → NoHat c (subAt e h)
+
+    to : (k : ℕ) → On old k × Fine k h → OpenBelow c e (h + 1) k
+    to k w = let o = f .on k .0 (w .0) in record { inside = o .inside; every = λ j l. go j l (ℕ-discrete j h) }
+      where
+        go : (j : ℕ) → j < h + 1 → Dec (j ≡ h) → Fine k j
+        go j l (yes is) = rw is (w .1)
+        go j l (no n) = f .on k .0 (w .0) .every j (omega arith)
+
+    back : (k : ℕ) → OpenBelow c e (h + 1) k → On old k × Fine k h
+    back k w = (f .on k .1 (record { inside = w .inside; every = λ j l. w .every j (omega arith) }), w .every h (omega arith))
+
+pub open-all : {c : Certificate} {e flags : List ℕ} {h n : ℕ} → Flags flags (OpenBelow c e h) → h ≡ n → Flags flags (OpenBelow c e n)
+open-all f is = rw is at f
+
+-- With a term, or without one.
+pub open-term : {c : Certificate} {e flags : List ℕ} → ¬ (length e ≡ 0) → Flags flags (OpenBelow c e (size (termOf e))) → Flags flags (OpenEntry c e)
+open-term some-entry f = record { long = f .long; on = λ k. (λ o. record { some-entry = some-entry; isOpen = f .on k .0 o }, λ w. f .on k .1 (w .isOpen)) }
+
+pub open-empty : {c : Certificate} {e : List ℕ} → length e ≡ 0 → Flags (replicate 64 0) (OpenEntry c e)
+open-empty none = record { long = refl; on = λ k. (λ o. absurd (zero-off k o), λ w. absurd (w .some-entry none)) }
+
+-- On the places this is document 01's open place of a premise.
+module _ {c : Certificate} {e : List ℕ} (b : Begins e) {k : ℕ} {p : Place} {s : Term Variable} (low : Placed (termOf e) k p s) where
+  pub open-place : OpenBelow c e (size (termOf e)) k ↔ Open c (termOf e) p
+  open-place = (λ w. record { every = to w }, back)
+    where
+      reads : Reads e (termOf e ∷ b .others)
+      reads = term-reads b refl
+
+      to : OpenBelow c e (size (termOf e)) k → (q : Place) → StrictlyAbove q p → (i : ℕ) (t : Term Variable) → subtermAt q (termOf e) ≡ some (encrypted i t) → NoHat c (encrypted i t)
+      to w q above i t stands =
+          let high = placed q (termOf e) stands in
+          let h = entryAt q (termOf e) in
+          let u : subAt e h ≡ encrypted i t = subterm-at high reads in
+          let range = strictly-above-entry high low .0 above in
+          let tag = encryption-tag e h (placed-begins high reads) .0 (record { key = i; content = t; is = u }) in
+          let size-is : size (subAt e h) ≡ size (encrypted i t) = ap size u in
+          rw u at (w .every h (omega (arith, within high, size-positive (encrypted i t))) tag (range .0) (omega (arith, range .1)))
+
+      back : Open c (termOf e) p → OpenBelow c e (size (termOf e)) k
+      back o = record { inside = omega (arith, within low, size-positive s); every = every }
+        where
+          every : (h : ℕ) → h < size (termOf e) → getD e (4 * h) 0 ≡ 3 → h < k → k < h + size (subAt e h) → NoHat c (subAt e h)
+          every h inside tag a g =
+              let w = spotted (termOf e) h inside in
+              let u : subAt e h ≡ w .subterm = subterm-at (w .is) reads in
+              let x = encryption-tag e h (placed-begins (w .is) reads) .1 tag in
+              let size-is : size (subAt e h) ≡ size (w .subterm) = ap size u in
+              let stands : subtermAt (w .place) (termOf e) ≡ some (encrypted (x .key) (x .content)) = w .is .stands ∙ ap some (sym u ∙ x .is) in
+              rw (x .is) (o .every (w .place) (strictly-above-entry (w .is) low .1 (a, omega arith)) (x .key) (x .content) stands)

@@ -1,0 +1,15 @@
+-- `judge::answer::tallied` meets its contract. Assumes nothing.
+use Rattle.judge.proofs.Answers.{tallied-accepted, tallied-refused}
+use borrow.Author.Needs.{needs}
+use Rattle.judge.proofs.answer.tallied.Statement.{statement}
+use Rattle.judge.proofs.answer.tallied.Tie as tie
+
+pub tallied-spec : {M : Type 1} → statement M
+tallied-spec = tie.close (tie.spec
+    (λ c. search needs)  -- enum-told
+    (λ c κs. search needs)  -- raised-requires
+    (λ c. search needs)  -- enum-told-2
+    (λ c κs. search needs)  -- raised-requires-2
+    (λ c. tallied-accepted _ (c .before .enum-told .given .1) (c .raised .ensures))  -- returns
+    (λ c. tallied-refused _ (c .before .enum-told2 .given .1) (c .raised2 .ensures))  -- returns-2
+    )

@@ -1,0 +1,29 @@
+use borrow.Author.Needs.{needs}
+use Prim.Native.Nat.{ℕ, _≤_, _<_, _-_}
+use borrow.Author.Count.{below-none, below-more}
+use lib.ListN.{length}
+use Rattle.terms.specs.Decisions.{says-yes, says-no}
+use Rattle.judge.specs.File.{certificateOf}
+use Rattle.judge.specs.Listed.{IsSecret}
+use Rattle.judge.specs.CoverEntries.{OpenWith}
+use Rattle.judge.proofs.Covers.{open-found, none-open}
+use Rattle.judge.proofs.cover.is_dead.Statement.{statement}
+use Rattle.judge.proofs.cover.is_dead.Tie as tie
+
+abbrev Inv-loop : tie.InvT-loop
+Inv-loop file e opened k₀ k = (k ≤ 63) × ((j : ℕ) → j < k → ¬ OpenWith e opened (IsSecret (certificateOf file)) j)
+
+abbrev μ-loop : tie.MeasureT-loop
+μ-loop file e opened k₀ k = length e - k
+
+pub is-dead-spec : {M : Type 1} → statement M
+is-dead-spec = tie.close (tie.spec Inv-loop μ-loop
+    (λ c. (search needs, below-none _))  -- loop-holds
+    (λ c. search needs)  -- mul-loop
+    (λ c κs. search needs)  -- secret-at-requires
+    (λ c. open-found (says-yes (c .before .secret-at .result) (c .before .secret-at .ensures) (c .if1 .taken)))  -- returns
+    (λ c. search needs)  -- add-k
+    (λ c. search needs)  -- loop-less
+    (λ c. (search needs, below-more _ _ (c .before .before .before .loop .inv .1) (says-no (c .before .secret-at .result) (c .before .secret-at .ensures) (c .if1 .left))))  -- loop-again
+    (λ c. none-open (c .before .before .before .before .pre .1) (c .loop-test .left) (c .before .loop .inv .1))  -- returns-2
+    )

@@ -1,0 +1,25 @@
+use borrow.Author.Needs.{needs}
+use mathlib.Core.Path.{sym, _∙_}
+use borrow.Author.Tests.{not-true, not-false}
+use Rattle.terms.specs.Decide.{yes-of, no-of}
+use Rattle.judge.specs.Listed.{matches-listed?, shares-listed?}
+use Rattle.judge.proofs.Hats.{searching-at, no-good, shares-bad, hat-raised, no-encryption}
+use Rattle.judge.proofs.cover.lay_hat.Statement.{statement}
+use Rattle.judge.proofs.cover.lay_hat.Tie as tie
+
+pub lay-hat-spec : {M : Type 1} → statement M
+lay-hat-spec = tie.close (tie.spec
+    (λ c. search needs)  -- mul-if1
+    (λ c. search needs)  -- shared-slice-read-if1
+    (λ c. search needs)  -- mul-t
+    (λ c. search needs)  -- sub-t
+    (λ c. search needs)  -- part-t-start
+    (λ c. search needs)  -- part-t-end
+    (λ c κs. searching-at (c .before .before .before .before .before .pre .0) (search needs) (search needs))  -- is-listed-match-requires
+    (λ c κs. searching-at (c .before .before .before .before .before .before .before .pre .0) (search needs) (search needs))  -- shares-listed-requires
+    (λ c κs. search needs)  -- lay-goods-requires
+    (λ c. hat-raised (no-of (shares-listed? _ _ _) (sym (c .before .before .before .shares-listed .ensures) ∙ not-true (c .before .before .before .shares-listed .result) (c .before .before .if3 .taken))) (c .lay-goods .ensures))  -- returns
+    (λ c. shares-bad (c .before .before .before .before .before .before .before .before .before .pre .1) (yes-of (shares-listed? _ _ _) (sym (c .before .shares-listed .ensures) ∙ not-false (c .before .shares-listed .result) (c .if3 .left))))  -- returns-2
+    (λ c. no-good (c .before .before .before .before .before .before .before .pre .1) (no-of (matches-listed? _ _ _) (sym (c .before .is-listed-match .ensures) ∙ c .if2 .left)))  -- returns-3
+    (λ c. no-encryption (c .before .before .before .before .pre .0) (c .if1 .left) (c .before .before .before .before .pre .1))  -- returns-4
+    )

@@ -1,0 +1,29 @@
+use borrow.Author.Needs.{needs}
+use Prim.Native.Nat.{ℕ, _≤_, _<_, _-_}
+use borrow.Author.Count.{below-none, below-more}
+use lib.ListN.{length}
+use Rattle.terms.specs.Decisions.{says-yes, says-no}
+use mathlib.Core.Path.{_≡_}
+use Rattle.terms.specs.Entry.{termOf}
+use Rattle.judge.specs.CoverEntries.{OpenWith}
+use Rattle.judge.proofs.Covers.{open-found, none-open}
+use Rattle.judge.proofs.cover.stands_open.Statement.{statement}
+use Rattle.judge.proofs.cover.stands_open.Tie as tie
+
+abbrev Inv-loop : tie.InvT-loop
+Inv-loop e opened t k₀ k = (k ≤ 63) × ((j : ℕ) → j < k → ¬ OpenWith e opened (λ s. s ≡ termOf t) j)
+
+abbrev μ-loop : tie.MeasureT-loop
+μ-loop e opened t k₀ k = length e - k
+
+pub stands-open-spec : {M : Type 1} → statement M
+stands-open-spec = tie.close (tie.spec Inv-loop μ-loop
+    (λ c. (search needs, below-none _))  -- loop-holds
+    (λ c. search needs)  -- mul-loop
+    (λ c κs. search needs)  -- same-at-requires
+    (λ c. open-found (says-yes (c .before .same-at .result) (c .before .same-at .ensures) (c .if1 .taken)))  -- returns
+    (λ c. search needs)  -- add-k
+    (λ c. search needs)  -- loop-less
+    (λ c. (search needs, below-more _ _ (c .before .before .before .loop .inv .1) (says-no (c .before .same-at .result) (c .before .same-at .ensures) (c .if1 .left))))  -- loop-again
+    (λ c. none-open (c .before .before .before .before .pre .0) (c .loop-test .left) (c .before .loop .inv .1))  -- returns-2
+    )

@@ -1,0 +1,37 @@
+-- `judge::judging::rule_fault` meets its contract: what is left answers as the whole does. Assumes nothing.
+use mathlib.Core.Path.{_≡_, sym, _∙_}
+use Prim.Native.Nat.{ℕ, _-_, _≤_}
+use Rattle.judge.specs.File.{blockCount, certificateOf}
+use Rattle.judge.specs.Verdict.{firstFault, onKind, openRule, ruleFault}
+use Rattle.judge.proofs.LayoutLaws.{fine-none, faulty-some, judged-none, judged-some, first-stop, first-more, first-end}
+use Rattle.judge.proofs.JudgingLaws.{rule-start}
+use borrow.Author.Needs.{needs}
+use Rattle.judge.proofs.judging.rule_fault.Statement.{statement}
+use Rattle.judge.proofs.judging.rule_fault.Tie as tie
+
+abbrev Inv-loop : tie.InvT-loop
+Inv-loop file count i₀ i =
+    (i ≤ blockCount file)
+    × (firstFault (onKind 5 (openRule (certificateOf file)) file) i (blockCount file - i) ≡ ruleFault (certificateOf file) file)
+
+abbrev μ-loop : tie.MeasureT-loop
+μ-loop file count i₀ i = blockCount file - i
+
+pub rule-fault-spec : {M : Type 1} → statement M
+rule-fault-spec = tie.close (tie.spec Inv-loop μ-loop
+    (λ c. (search needs, rule-start _ _))  -- loop-holds
+    (λ c κs. (c .before .before .before .pre, c .loop-test .taken))  -- open-rule-requires
+    (λ c. search needs)  -- enum-known-f
+    (λ c.
+    let at = c .before .before .before in
+    judged-some (sym (at .before .before .loop .inv .1) ∙ first-stop _ _ _ (at .before .loop-test .taken)
+    (faulty-some _ (at .open-rule .ensures) (c .before .f .given .1))))  -- returns
+    (λ c. search needs)  -- enum-told
+    (λ c. search needs)  -- add-i
+    (λ c. search needs)  -- loop-less
+    (λ c.
+    let at = c .before .before in
+    let fine = fine-none _ (at .open-rule .ensures) (c .enum-told .given .1) in
+    (search needs, first-more _ _ _ (at .before .loop-test .taken) fine ∙ at .before .before .loop .inv .1))  -- loop-again
+    (λ c. judged-none (sym (c .before .loop .inv .1) ∙ first-end _ _ _ (c .loop-test .left)))  -- returns-2
+    )

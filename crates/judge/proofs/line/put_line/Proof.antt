@@ -1,0 +1,31 @@
+-- `judge::line::put_line` meets its contract. Assumes nothing.
+use Rattle.judge.proofs.Printing.{line-accepted, line-refused}
+use borrow.Author.Needs.{needs}
+use Rattle.judge.proofs.line.put_line.Statement.{statement}
+use Rattle.judge.proofs.line.put_line.Tie as tie
+
+pub put-line-spec : {M : Type 1} → statement M
+put-line-spec = tie.close (tie.spec
+    (λ c. search needs)  -- enum-known-v
+    (λ c κs.
+    rw (line-accepted (c .before .before .v .given .1)) at (c .before .before .before .before .before .pre))  -- put-accepted-requires
+    (λ c. search needs)  -- enum-known-v-2
+    (λ c κs. search needs)  -- number-requires
+    (λ c κs. search needs)  -- block-of-requires
+    (λ c. search needs)  -- cast-put-refused
+    (λ c κs. search needs)  -- place-of-requires
+    (λ c. search needs)  -- cast-put-refused-2
+    (λ c κs.
+    rw
+    (line-refused (c .before .before .before .before .before .v2 .given .1) (c .before .before .number .ensures .0) (c .before .block-of .ensures) (c .place-of .ensures))
+    at (c .before .before .before .before .before .before .before .before .pre))  -- put-refused-requires
+    (λ c. search needs)  -- same-length
+    (λ c.
+    rw (line-accepted (c .before .before .before .before .before .v .given .1))
+    (c .before .before .put-accepted .ensures))  -- returns
+    (λ c. search needs)  -- same-length-2
+    (λ c.
+    rw
+    (line-refused (c .before .before .before .before .before .before .before .before .v2 .given .1) (c .before .before .before .before .before .number .ensures .0) (c .before .before .before .before .block-of .ensures) (c .before .before .before .place-of .ensures))
+    (c .before .before .put-refused .ensures))  -- returns-2
+    )

@@ -1,0 +1,72 @@
+-- What is made of a verdict: its number, block and place, the packed answer, the refused part and the tally (document 01,
+-- "Verdicts").
+use mathlib.Core.Bool.{cond}
+use mathlib.Core.List.{List, []}
+use Prim.Native.Nat.{ℕ, _+_, _*_}
+use lib.Dec.{eqb}
+use Rattle.judge.specs.declared.verdict.Fault.{Fault}
+use Rattle.judge.specs.declared.verdict.Fault.the-variants.{Length, Check, Kind, Missing, Layout, AtomEntry}
+use Rattle.judge.specs.declared.verdict.Fault.the-variants.{TermEntry, NotOneTerm, KnownSecret, NotClosed, KeyNotKept, Uncovered}
+use Rattle.judge.specs.declared.verdict.Verdict.{Verdict}
+use Rattle.judge.specs.declared.verdict.Verdict.the-variants.{Accepted, Refused}
+use Rattle.judge.specs.declared.answer.Row.{Row}
+use Rattle.judge.specs.declared.answer.Tally.{Tally}
+use Rattle.blocks.specs.Block.{hasBlock, blockAt}
+
+-- ---- the table of verdicts
+
+-- The columns "Nr" and "Block, place", for each kind of fault. For number 4 the block is "number of blocks".
+abbrev pub rowOf : Fault → Row
+rowOf Length = record { number = 1; block = 0; place = 0 }
+rowOf (Check b) = record { number = 2; block = b; place = 0 }
+rowOf (Kind b) = record { number = 3; block = b; place = 0 }
+rowOf (Missing n) = record { number = 4; block = n; place = 0 }
+rowOf (Layout b) = record { number = 5; block = b; place = 0 }
+rowOf (AtomEntry b p) = record { number = 6; block = b; place = p }
+rowOf (TermEntry b p) = record { number = 7; block = b; place = p }
+rowOf (NotOneTerm b p) = record { number = 8; block = b; place = p }
+rowOf (KnownSecret b) = record { number = 9; block = b; place = 0 }
+rowOf (NotClosed b) = record { number = 10; block = b; place = 0 }
+rowOf (KeyNotKept b) = record { number = 11; block = b; place = 0 }
+rowOf (Uncovered b p) = record { number = 12; block = b; place = p }
+
+abbrev pub numberOf : Fault → ℕ
+numberOf f = rowOf f .number
+
+abbrev pub blockOf : Fault → ℕ
+blockOf f = rowOf f .block
+
+abbrev pub placeOf : Fault → ℕ
+placeOf f = rowOf f .place
+
+-- "number × 65,536 + block × 256 + place, 0 if accepted."
+abbrev pub packedOf : Verdict → ℕ
+packedOf (Accepted c) = 0
+packedOf (Refused f) = numberOf f * 65536 + blockOf f * 256 + placeOf f
+
+-- ---- the refused part
+
+-- Block i, or an empty part "for a block number the file lacks".
+unfoldable pub blockOrNone : List ℕ → ℕ → List ℕ
+blockOrNone file i = cond (hasBlock file i) (blockAt file i) []
+
+-- "The caller gets back the refused block as a part of its own file; on acceptance, for number 1, or for a block number
+-- the file lacks, an empty part." The table leaves an empty part for number 4 too, whatever block it names.
+unfoldable pub partOf : List ℕ → Verdict → List ℕ
+partOf file (Accepted c) = []
+partOf file (Refused f) = cond (eqb (numberOf f) 1) [] (cond (eqb (numberOf f) 4) [] (blockOrNone file (blockOf f)))
+
+-- ---- the tally
+
+-- The largest number of 32 bits.
+abbrev pub full : ℕ
+full = 4_294_967_295
+
+-- "Raised by 1; a full count stays."
+abbrev pub raisedOf : ℕ → ℕ
+raisedOf n = cond (eqb n full) n (n + 1)
+
+-- "Each check takes a tally (accepted, refused, 32 bits each) by value and returns it with one of the two raised by 1."
+abbrev pub talliedOf : Tally → Verdict → Tally
+talliedOf t (Accepted c) = record { accepted = raisedOf (t .accepted); refused = t .refused }
+talliedOf t (Refused f) = record { accepted = t .accepted; refused = raisedOf (t .refused) }

@@ -1,0 +1,173 @@
+// What is made of a verdict: its number, block and place, the packed answer, the refused part and the tally.
+ghost use mathlib.Core.Path.{_≡_};
+ghost use Prim.Native.Nat.{_≤_};
+ghost use Rattle.judge.specs.Answer.{rowOf, numberOf, blockOf, placeOf, packedOf, blockOrNone, partOf, raisedOf, talliedOf};
+use crate::verdict::Fault;
+use crate::verdict::Verdict;
+
+// A fault's number, block and place.
+pub struct Row {
+    pub number: u32,
+    pub block: u8,
+    pub place: u8,
+}
+
+// How many files were accepted and how many refused.
+pub struct Tally {
+    pub accepted: u32,
+    pub refused: u32,
+}
+
+// The row of document 01's table for a fault.
+fn row_of(f: Fault) -> Row
+    ensures { λ r. ⌜ r ≡ rowOf f ⌝ }
+{
+    match f {
+        Fault::Length => Row {
+            number: 1,
+            block: 0,
+            place: 0,
+        },
+        Fault::Check(b) => Row {
+            number: 2,
+            block: b,
+            place: 0,
+        },
+        Fault::Kind(b) => Row {
+            number: 3,
+            block: b,
+            place: 0,
+        },
+        Fault::Missing(n) => Row {
+            number: 4,
+            block: n,
+            place: 0,
+        },
+        Fault::Layout(b) => Row {
+            number: 5,
+            block: b,
+            place: 0,
+        },
+        Fault::AtomEntry(b, p) => Row {
+            number: 6,
+            block: b,
+            place: p,
+        },
+        Fault::TermEntry(b, p) => Row {
+            number: 7,
+            block: b,
+            place: p,
+        },
+        Fault::NotOneTerm(b, p) => Row {
+            number: 8,
+            block: b,
+            place: p,
+        },
+        Fault::KnownSecret(b) => Row {
+            number: 9,
+            block: b,
+            place: 0,
+        },
+        Fault::NotClosed(b) => Row {
+            number: 10,
+            block: b,
+            place: 0,
+        },
+        Fault::KeyNotKept(b) => Row {
+            number: 11,
+            block: b,
+            place: 0,
+        },
+        Fault::Uncovered(b, p) => Row {
+            number: 12,
+            block: b,
+            place: p,
+        },
+    }
+}
+
+// The number of a fault.
+pub fn number(f: Fault) -> u32
+    ensures { λ r. ⌜ (r ≡ numberOf f) × (r ≤ 12) ⌝ }
+{
+    row_of(f).number
+}
+
+// The block that a fault names.
+pub fn block_of(f: Fault) -> u8
+    ensures { λ r. ⌜ r ≡ blockOf f ⌝ }
+{
+    row_of(f).block
+}
+
+// The place that a fault names.
+pub fn place_of(f: Fault) -> u8
+    ensures { λ r. ⌜ r ≡ placeOf f ⌝ }
+{
+    row_of(f).place
+}
+
+// What the loader gets: number × 65,536 + block × 256 + place, 0 if accepted.
+pub fn packed(v: Verdict) -> u32
+    ensures { λ r. ⌜ r ≡ packedOf v ⌝ }
+{
+    match v {
+        Verdict::Accepted(_) => 0,
+        Verdict::Refused(f) => number(f) * 65536 + block_of(f) as u32 * 256 + place_of(f) as u32,
+    }
+}
+
+// Block i of the file, empty if the file lacks it.
+fn block_or_none<'a>(file: &'a [u8], i: usize) -> &'a [u8]
+    ensures { λ r. ⌜ now r ≡ blockOrNone (now (file .entry)) i ⌝ }
+{
+    if blocks::has_block(file, i) {
+        return blocks::block(file, i);
+    }
+    &file[0..0]
+}
+
+// The refused block, as a part of the file; empty on acceptance, for numbers 1 and 4, and for a block that the file lacks.
+pub fn refused_part<'a>(file: &'a [u8], v: Verdict) -> &'a [u8]
+    ensures { λ r. ⌜ now r ≡ partOf (now (file .entry)) v ⌝ }
+{
+    match v {
+        Verdict::Accepted(_) => &file[0..0],
+        Verdict::Refused(f) => {
+            let n = number(f);
+            if n == 1 {
+                return &file[0..0];
+            }
+            if n == 4 {
+                return &file[0..0];
+            }
+            block_or_none(file, block_of(f) as usize)
+        }
+    }
+}
+
+// One more; a full count stays.
+fn raised(n: u32) -> u32
+    ensures { λ r. ⌜ r ≡ raisedOf n ⌝ }
+{
+    if n == 4_294_967_295 {
+        return n;
+    }
+    n + 1
+}
+
+// The tally with the verdict counted.
+pub fn tallied(t: Tally, v: Verdict) -> Tally
+    ensures { λ r. ⌜ r ≡ talliedOf t v ⌝ }
+{
+    match v {
+        Verdict::Accepted(_) => Tally {
+            accepted: raised(t.accepted),
+            refused: t.refused,
+        },
+        Verdict::Refused(_) => Tally {
+            accepted: t.accepted,
+            refused: raised(t.refused),
+        },
+    }
+}

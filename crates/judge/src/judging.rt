@@ -1,0 +1,91 @@
+// The verdict of a file: numbers 1 to 12 in document 01's order.
+ghost use mathlib.Core.Path.{_≡_};
+ghost use Prim.Native.Nat.{_<_};
+ghost use Rattle.judge.specs.File.{blockCount, certificateOf};
+ghost use Rattle.judge.specs.Laid.{Laid};
+ghost use Rattle.judge.specs.Judgement.{judgedOf};
+ghost use Rattle.judge.specs.Verdict.{onKind, openRule, ruleFault, certificateFault, faultOf, verdictOf};
+use crate::cover;
+use crate::layout;
+use crate::layout::Judged;
+use crate::listed;
+use crate::verdict::Fault;
+use crate::verdict::Verdict;
+use terms::valid::Found;
+
+// Number 12 at block i, if it is a rule: its first place that is risky and not covered.
+fn open_rule(file: &[u8], i: usize) -> Judged
+    requires { ⌜ Laid (now file) × (i < blockCount (now file)) ⌝ }
+    ensures { λ r. ⌜ r ≡ judgedOf (onKind 5 (openRule (certificateOf (now (file .entry)))) (now (file .entry)) i) ⌝ }
+{
+    let block = blocks::block(file, i);
+    if blocks::kind(block) != 5 {
+        return Judged::Fine;
+    }
+    match cover::uncovered(file, block) {
+        Found::At(k) => Judged::Faulty(Fault::Uncovered(
+            i as u8,
+            (blocks::first_count(block) + k) as u8,
+        )),
+        Found::Nothing => Judged::Fine,
+    }
+}
+
+// Number 12: the first rule that does not pass.
+fn rule_fault(file: &[u8]) -> Judged
+    requires { ⌜ Laid (now file) ⌝ }
+    ensures { λ r. ⌜ r ≡ judgedOf (ruleFault (certificateOf (now (file .entry))) (now (file .entry))) ⌝ }
+{
+    let count = file.len() / 512;
+    let mut i = 0;
+    while i < count {
+        match open_rule(file, i) {
+            Judged::Faulty(f) => return Judged::Faulty(f),
+            Judged::Fine => i += 1,
+        }
+    }
+    Judged::Fine
+}
+
+// Numbers 9, 10, 11, 12, each over all blocks.
+fn certificate_fault(file: &[u8]) -> Judged
+    requires { ⌜ Laid (now file) ⌝ }
+    ensures { λ r. ⌜ r ≡ judgedOf (certificateFault (certificateOf (now (file .entry))) (now (file .entry))) ⌝ }
+{
+    if let Found::At(i) = listed::known_secret(file) {
+        return Judged::Faulty(Fault::KnownSecret(i as u8));
+    }
+    if let Found::At(i) = listed::not_closed(file) {
+        return Judged::Faulty(Fault::NotClosed(i as u8));
+    }
+    if let Found::At(i) = listed::key_not_kept(file) {
+        return Judged::Faulty(Fault::KeyNotKept(i as u8));
+    }
+    rule_fault(file)
+}
+
+// The first fault in document 01's order: 1; 2, 3, 5, 6 or 7, 8 block by block; 4; 9 to 12.
+fn first_fault(file: &[u8]) -> Judged
+    ensures { λ r. ⌜ r ≡ judgedOf (faultOf (now (file .entry))) ⌝ }
+{
+    if !layout::length_right(file) {
+        return Judged::Faulty(Fault::Length);
+    }
+    if let Judged::Faulty(f) = layout::layout_fault(file) {
+        return Judged::Faulty(f);
+    }
+    if let Judged::Faulty(f) = layout::missing_fault(file) {
+        return Judged::Faulty(f);
+    }
+    certificate_fault(file)
+}
+
+// The verdict: refused with the first fault, or accepted with the file's own counts.
+pub fn judge(file: &[u8]) -> Verdict
+    ensures { λ r. ⌜ r ≡ verdictOf (now (file .entry)) ⌝ }
+{
+    match first_fault(file) {
+        Judged::Faulty(f) => Verdict::Refused(f),
+        Judged::Fine => Verdict::Accepted(layout::counts(file)),
+    }
+}
