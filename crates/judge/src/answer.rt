@@ -18,71 +18,34 @@ pub struct Tally {
     pub refused: u32,
 }
 
+// A row from its three columns.
+fn columns(number: u32, block: u8, place: u8) -> Row
+    ensures { λ r. ⌜ r ≡ record { number = number; block = block; place = place } ⌝ }
+{
+    Row {
+        number: number,
+        block: block,
+        place: place,
+    }
+}
+
 // The row of document 01's table for a fault.
 fn row_of(f: Fault) -> Row
     ensures { λ r. ⌜ r ≡ rowOf f ⌝ }
 {
     match f {
-        Fault::Length => Row {
-            number: 1,
-            block: 0,
-            place: 0,
-        },
-        Fault::Check(b) => Row {
-            number: 2,
-            block: b,
-            place: 0,
-        },
-        Fault::Kind(b) => Row {
-            number: 3,
-            block: b,
-            place: 0,
-        },
-        Fault::Missing(n) => Row {
-            number: 4,
-            block: n,
-            place: 0,
-        },
-        Fault::Layout(b) => Row {
-            number: 5,
-            block: b,
-            place: 0,
-        },
-        Fault::AtomEntry(b, p) => Row {
-            number: 6,
-            block: b,
-            place: p,
-        },
-        Fault::TermEntry(b, p) => Row {
-            number: 7,
-            block: b,
-            place: p,
-        },
-        Fault::NotOneTerm(b, p) => Row {
-            number: 8,
-            block: b,
-            place: p,
-        },
-        Fault::KnownSecret(b) => Row {
-            number: 9,
-            block: b,
-            place: 0,
-        },
-        Fault::NotClosed(b) => Row {
-            number: 10,
-            block: b,
-            place: 0,
-        },
-        Fault::KeyNotKept(b) => Row {
-            number: 11,
-            block: b,
-            place: 0,
-        },
-        Fault::Uncovered(b, p) => Row {
-            number: 12,
-            block: b,
-            place: p,
-        },
+        Fault::Length => columns(1, 0, 0),
+        Fault::Check(b) => columns(2, b, 0),
+        Fault::Kind(b) => columns(3, b, 0),
+        Fault::Missing(n) => columns(4, n, 0),
+        Fault::Layout(b) => columns(5, b, 0),
+        Fault::AtomEntry(b, p) => columns(6, b, p),
+        Fault::TermEntry(b, p) => columns(7, b, p),
+        Fault::NotOneTerm(b, p) => columns(8, b, p),
+        Fault::KnownSecret(b) => columns(9, b, 0),
+        Fault::NotClosed(b) => columns(10, b, 0),
+        Fault::KeyNotKept(b) => columns(11, b, 0),
+        Fault::Uncovered(b, p) => columns(12, b, p),
     }
 }
 
