@@ -15,6 +15,9 @@ use Rattle.judge.specs.declared.verdict.Verdict.the-variants.{Accepted, 
 use Rattle.judge.specs.declared.answer.Row.{Row}
 use Rattle.judge.specs.declared.answer.Tally.{Tally}
 use Rattle.judge.specs.Answer.{rowOf, numberOf, blockOf, placeOf, packedOf, blockOrNone, partOf, full, raisedOf, talliedOf}
+use Rattle.judge.specs.declared.checking.Checked.{Checked}
+use Rattle.judge.specs.Checked.{checkedOf}
+use Rattle.judge.specs.Verdict.{verdictOf}
 
 -- ---- the packed number
 
@@ -96,3 +99,9 @@ tallied-accepted t e h = rw (e, h)
 pub tallied-refused : (t : Tally) {v : Verdict} {f : Fault} {n : ℕ} → v ≡ Refused f → n ≡ raisedOf (t .refused)
     → _≡_ {A = Tally} (record { accepted = t .accepted; refused = n }) (talliedOf t v)
 tallied-refused t e h = rw (e, h)
+
+-- ---- one check
+
+pub checked-is : (file : List ℕ) (t : Tally) {u : Tally} {v : Verdict} → v ≡ verdictOf file → u ≡ talliedOf t v
+    → _≡_ {A = Checked} (record { verdict = v; tally = u }) (checkedOf file t)
+checked-is file t e h = rw (h, e)

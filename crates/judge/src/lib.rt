@@ -1,5 +1,6 @@
 // The judging layer: a certificate file gets its verdict.
 pub mod answer;
+pub mod checking;
 pub mod cover;
 pub mod judging;
 pub mod layout;

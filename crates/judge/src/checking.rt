@@ -1,0 +1,35 @@
+// The check as its callers ask for it: with a tally, and from C.
+ghost use mathlib.Core.Path.{_≡_};
+ghost use Rattle.judge.specs.Verdict.{verdictOf};
+ghost use Rattle.judge.specs.Answer.{packedOf};
+ghost use Rattle.judge.specs.Checked.{checkedOf};
+use crate::answer::Tally;
+use crate::answer::packed;
+use crate::answer::tallied;
+use crate::judging::judge;
+use crate::verdict::Verdict;
+
+// A file's verdict, and the tally with it counted.
+pub struct Checked {
+    pub verdict: Verdict,
+    pub tally: Tally,
+}
+
+// Judges a file and counts its verdict.
+pub fn check(file: &[u8], t: Tally) -> Checked
+    ensures { λ r. ⌜ r ≡ checkedOf (now (file .entry)) t ⌝ }
+{
+    let v = judge(file);
+    Checked {
+        verdict: v,
+        tally: tallied(t, v),
+    }
+}
+
+// The loader's call: number × 65,536 + block × 256 + place, 0 if the file is accepted.
+#[no_mangle]
+pub extern "C" fn zepayong_check(file: &[u8]) -> u32
+    ensures { λ r. ⌜ r ≡ packedOf (verdictOf (now (file .entry))) ⌝ }
+{
+    packed(judge(file))
+}

@@ -1,0 +1,2 @@
+-- What the functions for other languages answer.
+pub mod Asked
