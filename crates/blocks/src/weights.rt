@@ -1,6 +1,7 @@
 // The weights of the check, 508 down to 1. The table is shared with the aisle controller.
 ghost use mathlib.Core.Path.{_≡_};
-ghost use Prim.Native.Nat.{_<_};
+ghost use Prim.Native.Nat.{ℕ, _<_};
+ghost use lib.ListN.{getD};
 ghost use Rattle.blocks.specs.Check.{weightOf};
 
 pub const WEIGHTS: [u16; 508] = [
@@ -514,10 +515,9 @@ pub const WEIGHTS: [u16; 508] = [
     1,
 ];
 
-// The weight of byte i.
-pub fn weight(i: usize) -> u16
-    requires { ⌜ i < 508 ⌝ }
-    ensures { λ r. ⌜ r ≡ weightOf i ⌝ }
+// The whole table, handed out once for a block.
+pub fn table() -> [u16; 508]
+    ensures { λ r. ⌜ ((i : ℕ) → i < 508 → getD r i 0 ≡ weightOf i) ⌝ }
 {
-    WEIGHTS[i]
+    WEIGHTS
 }

@@ -2,33 +2,39 @@
 use mathlib.Core.Path.{_≡_, ap}
 use Prim.Native.Nat.{ℕ, _+_, _-_, _*_, _%_, _≤_, _<_}
 use native.Mathlib.Omega.{arith}
-use lib.ListN.{length, take}
+use lib.ListN.{length, take, getD}
 use borrow.Author.Needs.{needs}
-use Rattle.blocks.specs.Check.{total, weighted, checkA, checkB}
+use Rattle.blocks.specs.Check.{total, weighted, weightOf, checkA, checkB}
 use Rattle.blocks.proofs.Sums.{total-step, weighted-step, product-small}
 use Rattle.blocks.proofs.check_of.Statement.{statement}
 use Rattle.blocks.proofs.check_of.Tie as tie
 
 abbrev Inv-loop : tie.InvT-loop
-Inv-loop block a₀ b₀ i₀ a b i =
+Inv-loop block weights a₀ b₀ i₀ a b i =
     (i ≤ 508) × ((a ≡ total (take i block)) × ((b ≡ weighted 0 (take i block)) × ((a ≤ 255 * i) × (b ≤ 129540 * i))))
 
 abbrev μ-loop : tie.MeasureT-loop
-μ-loop block a₀ b₀ i₀ a b i = 508 - i
+μ-loop block weights a₀ b₀ i₀ a b i = 508 - i
 
-small : (c : tie.After-weight Inv-loop μ-loop) → c .weight .result * c .before .wide .result ≤ 129540
-small c = product-small (omega arith) (omega arith)
+-- The weight read in this turn.
+weight : (c : tie.After-wide Inv-loop μ-loop)
+    → getD (c .before .before .before .before .table .result) (c .before .before .before .loop .i) 0 ≡ weightOf (c .before .before .before .loop .i)
+weight c = c .before .before .before .before .table .ensures _ (omega arith)
+
+small : (c : tie.After-wide Inv-loop μ-loop)
+    → getD (c .before .before .before .before .table .result) (c .before .before .before .loop .i) 0 * c .wide .result ≤ 129540
+small c = product-small (omega (arith, weight c)) (omega arith)
 
 again : tie.Need-loop-again Inv-loop μ-loop
 again c =
-    let loop = c .before .before .before .before .loop in
+    let loop = c .before .before .before .loop in
     let block = c .before .before .before .before .before .before .args .block .now in
     let inside : loop .i < length block = omega arith in (
       search needs,
       (
-        total-step block (loop .i) inside (loop .inv .1 .0) (c .before .wide .ensures .0),
+        total-step block (loop .i) inside (loop .inv .1 .0) (c .wide .ensures .0),
         (
-          weighted-step block (loop .i) inside (loop .inv .1 .1 .0) (c .weight .ensures) (c .before .wide .ensures .0),
+          weighted-step block (loop .i) inside (loop .inv .1 .1 .0) (weight c) (c .wide .ensures .0),
           (search needs, omega (arith, small c)),
         ),
       ),
@@ -46,14 +52,16 @@ done c =
 pub check-of-spec : {M : Type 1} → statement M
 unfolding total weighted
 check-of-spec = tie.close (tie.spec Inv-loop μ-loop
+    (λ c κs. search needs)  -- table-requires
     (λ c. search needs)  -- loop-holds
     (λ c. search needs)  -- shared-slice-read-wide
     (λ c κs. search needs)  -- wide-requires
     (λ c. search needs)  -- cast-x
     (λ c. search needs)  -- add-a
-    (λ c κs. search needs)  -- weight-requires
+    (λ c. search needs)  -- mul-b
+    (λ c. search needs)  -- array-read-b
     (λ c. search needs)  -- cast-b
-    (λ c. omega (arith, small c))  -- mul-b
+    (λ c. omega (arith, small c))  -- mul-b-2
     (λ c. omega (arith, small c))  -- add-b
     (λ c. search needs)  -- add-i
     (λ c. search needs)  -- loop-less
