@@ -1,9 +1,9 @@
 //! The shares of verdicts among generated files, and what is in them.
 
-use literal::hats::{has_sure_hat, is_dead, is_risky, open_subterms, sure_hats};
-use literal::read::{read, Certificate};
-use literal::term::places;
-use literal::Verdict;
+use literal::hats::{has_sure_hat, is_dead, is_listed, is_risky, open_subterms, sure_hats};
+use literal::read::{read, Certificate, Listed, Rule};
+use literal::term::{places, strictly_above, Place};
+use literal::{Term, Verdict};
 use std::collections::{BTreeMap, BTreeSet};
 
 const FILES: u64 = 40_000;
@@ -169,4 +169,133 @@ fn accepted_certificates_are_not_trivial() {
     assert!(reasons.dead_rule_needed * 50 > reasons.accepted);
     assert!(reasons.bad_needed * 100 > reasons.accepted);
     assert!(refused_for_bads > 100);
+}
+
+/// How many files have a rule that shows it, among those that are read whole.
+#[derive(Default, Debug)]
+struct Depths {
+    read: u64,
+    /// An encryption within an encryption.
+    nested: u64,
+    /// A risky place below two or more encryptions, covered by a sure hat.
+    nested_hat: u64,
+    /// A risky place with no sure hat, covered by an open place below two or more.
+    nested_open: u64,
+    /// A listed secret at an open place below an encryption.
+    dead_below_encryption: u64,
+    /// A dead rule that would not pass alive.
+    dead_needed: u64,
+    /// Two or more bad patterns, and a verdict that all but one do not give.
+    several_bads_needed: u64,
+    /// A premise or a conclusion of 63 entries.
+    longest: u64,
+}
+
+/// How many encryptions stand strictly above each place, in entry order.
+fn encryptions_above(term: &Term) -> Vec<usize> {
+    let all = places(term);
+    let above = |place: &Place| {
+        let upper = all.iter().filter(|p| p.subterm.is_encryption());
+        upper
+            .filter(|p| strictly_above(&p.path, &place.path))
+            .count()
+    };
+    all.iter().map(above).collect()
+}
+
+/// The open places of the premise: the subterm, and how many encryptions are above.
+fn open_places<'a>(certificate: &Certificate, rule: &'a Rule) -> Vec<(&'a Term, usize)> {
+    let open = open_subterms(certificate, rule);
+    let Some(premise) = &rule.premise else {
+        return Vec::new();
+    };
+    let depths = encryptions_above(premise);
+    let found = places(premise).into_iter().zip(depths);
+    found
+        .filter(|(place, _)| open.iter().any(|term| std::ptr::eq(*term, place.subterm)))
+        .map(|(place, depth)| (place.subterm, depth))
+        .collect()
+}
+
+#[derive(Default)]
+struct Shown {
+    nested: bool,
+    hat: bool,
+    open: bool,
+    dead_below: bool,
+    dead_needed: bool,
+    longest: bool,
+}
+
+impl Shown {
+    fn add(&mut self, certificate: &Certificate, rule: &Rule) {
+        let open = open_places(certificate, rule);
+        let hats = sure_hats(certificate, &rule.conclusion);
+        let depths = encryptions_above(&rule.conclusion);
+        self.nested |= depths.iter().any(|depth| *depth >= 2);
+        let mut passes_alive = true;
+        for (place, depth) in places(&rule.conclusion).iter().zip(&depths) {
+            if !is_risky(certificate, place) {
+                continue;
+            }
+            let shown = |(term, _): &&(&Term, usize)| *term == place.subterm;
+            if has_sure_hat(&hats, place) {
+                self.hat |= *depth >= 2;
+            } else if open.iter().any(|o| shown(&o)) {
+                self.open |= open.iter().filter(shown).all(|(_, above)| *above >= 2);
+            } else {
+                passes_alive = false;
+            }
+        }
+        let secret = |term: &Term| is_listed(term, &certificate.secrets);
+        let dead = open.iter().any(|(term, _)| secret(term));
+        self.dead_needed |= dead && !passes_alive;
+        self.dead_below |= dead && !open.iter().any(|(term, above)| *above == 0 && secret(term));
+        let sizes = [rule.premise_entries(), rule.conclusion.size()];
+        self.longest |= sizes.contains(&63);
+    }
+}
+
+/// Whether keeping one bad pattern only, whichever, gives another answer.
+fn several_bads_needed(certificate: &Certificate) -> bool {
+    let right = all_rules_pass(certificate);
+    let with_one = |bad: &Listed| {
+        let mut fewer = certificate.clone();
+        fewer.bads = vec![bad.clone()];
+        all_rules_pass(&fewer)
+    };
+    certificate.bads.len() >= 2 && certificate.bads.iter().any(|bad| with_one(bad) != right)
+}
+
+#[test]
+fn files_reach_deep() {
+    let mut depths = Depths::default();
+    for seed in 0..FILES / 4 {
+        let file = generate::file(seed);
+        if ![0, 12].contains(&number(&file)) {
+            continue;
+        }
+        let certificate = read(&file).unwrap();
+        let mut shown = Shown::default();
+        for rule in &certificate.rules {
+            shown.add(&certificate, rule);
+        }
+        depths.read += 1;
+        depths.nested += u64::from(shown.nested);
+        depths.nested_hat += u64::from(shown.hat);
+        depths.nested_open += u64::from(shown.open);
+        depths.dead_below_encryption += u64::from(shown.dead_below);
+        depths.dead_needed += u64::from(shown.dead_needed);
+        depths.several_bads_needed += u64::from(several_bads_needed(&certificate));
+        depths.longest += u64::from(shown.longest);
+    }
+    println!("{depths:?}");
+    let often = |count: u64, percent: u64| count * 100 > depths.read * percent;
+    assert!(often(depths.nested, 30), "nested");
+    assert!(often(depths.nested_hat, 10), "nested hat");
+    assert!(often(depths.nested_open, 3), "nested open");
+    assert!(often(depths.dead_below_encryption, 3), "dead below");
+    assert!(often(depths.dead_needed, 5), "dead");
+    assert!(often(depths.several_bads_needed, 5), "several bads");
+    assert!(often(depths.longest, 3), "longest");
 }

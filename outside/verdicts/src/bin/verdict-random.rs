@@ -1,0 +1,118 @@
+//! `verdict-random N [SEED]`: N generated files, from this seed on, asked of
+//! the archive and of the outside reference.
+
+use generate::random::Random;
+use literal::Verdict;
+use std::process::ExitCode;
+use std::thread;
+use std::time::Instant;
+use verdicts::{compare, proved};
+
+/// Files that each thread shows in words; of the others it tells the seeds.
+const SHOWN: u64 = 20;
+
+fn main() -> ExitCode {
+    let words: Vec<String> = std::env::args().skip(1).collect();
+    match run(&words) {
+        Ok(true) => ExitCode::SUCCESS,
+        Ok(false) => ExitCode::FAILURE,
+        Err(message) => {
+            eprintln!("{message}");
+            ExitCode::FAILURE
+        }
+    }
+}
+
+fn run(words: &[String]) -> Result<bool, String> {
+    let (count, first) = match words {
+        [count] => (number(count)?, 0),
+        [count, seed] => (number(count)?, number(seed)?),
+        _ => return Err("verdict-random N [SEED]".to_string()),
+    };
+    let start = Instant::now();
+    let tally = compared(count, first);
+    tally.show();
+    let rate = count as f64 / start.elapsed().as_secs_f64();
+    let wrong = tally.wrong;
+    println!("{count} files from seed {first}, {wrong} disagree, {rate:.0} files each second");
+    Ok(wrong == 0)
+}
+
+/// The files are dealt out to as many threads as the machine runs at once.
+fn compared(count: u64, first: u64) -> Tally {
+    let threads = thread::available_parallelism().map_or(1, |n| n.get() as u64);
+    let dealt = |thread: u64| {
+        let mut tally = Tally::default();
+        for i in (thread..count).step_by(threads as usize) {
+            tally.file(first.wrapping_add(i));
+        }
+        tally
+    };
+    thread::scope(|scope| {
+        let running: Vec<_> = (0..threads)
+            .map(|thread| scope.spawn(move || dealt(thread)))
+            .collect();
+        let done = running.into_iter().map(|one| one.join());
+        let tallies = done.map(|tally| tally.expect("a thread ends by itself"));
+        tallies.fold(Tally::default(), Tally::with)
+    })
+}
+
+fn number(word: &str) -> Result<u64, String> {
+    word.parse().map_err(|_| format!("`{word}` is no number"))
+}
+
+#[derive(Default)]
+struct Tally {
+    /// Accepted, then refused with 1 to 12.
+    numbers: [u64; 13],
+    wrong: u64,
+}
+
+impl Tally {
+    fn file(&mut self, seed: u64) {
+        let file = generate::file(seed);
+        let checker = match seed % 2 {
+            0 => proved::CHECKER,
+            _ => proved::WITH_NULL,
+        };
+        let verdict = literal::verdict(&file);
+        self.numbers[number_of(&verdict)] += 1;
+        let found = compare::differences(&checker, &file, &verdict, &mut Random::new(!seed));
+        if found.is_empty() {
+            return;
+        }
+        self.wrong += 1;
+        let mut report = String::new();
+        for difference in &found {
+            report += &format!("seed {seed}: {difference}\n");
+        }
+        if self.wrong <= SHOWN {
+            report += &text::print(&file);
+        }
+        print!("{report}");
+    }
+
+    fn with(mut self, other: Tally) -> Tally {
+        for (number, count) in other.numbers.iter().enumerate() {
+            self.numbers[number] += count;
+        }
+        self.wrong += other.wrong;
+        self
+    }
+
+    fn show(&self) {
+        println!("accepted: {}", self.numbers[0]);
+        for (number, count) in self.numbers.iter().enumerate().skip(1) {
+            println!("refused {number}: {count}");
+        }
+    }
+}
+
+/// 0 for acceptance.
+fn number_of(verdict: &Verdict) -> usize {
+    match verdict {
+        Verdict::Accepted(_) => 0,
+        Verdict::Refused(refusal) => refusal.number as usize,
+    }
+}

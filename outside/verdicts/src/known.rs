@@ -1,0 +1,187 @@
+//! Files with answers that were written down for them.
+
+use crate::compare;
+use crate::lent::Lent;
+use crate::{Checker, Difference, Spot};
+use generate::random::Random;
+use literal::block::BLOCK;
+use std::fs;
+use std::path::{Path, PathBuf};
+
+#[derive(Clone)]
+pub struct Known {
+    pub name: String,
+    pub file: Vec<u8>,
+    /// The verdict line without its newline.
+    pub line: String,
+    /// The answer of the C call.
+    pub packed: u32,
+}
+
+impl Known {
+    /// With the answer that the line's own numbers make.
+    pub fn by_line(name: &str, file: Vec<u8>, line: &str) -> Result<Known, String> {
+        let spot = spot_in(line).ok_or(format!("{name}: `{line}` is no verdict line"))?;
+        Ok(Known {
+            name: name.to_string(),
+            file,
+            line: line.to_string(),
+            packed: spot.packed(),
+        })
+    }
+
+    fn spot(&self) -> Spot {
+        let [_, number, block, place] = self.packed.to_be_bytes();
+        Spot {
+            number: number as u32,
+            block,
+            place,
+        }
+    }
+
+    /// Against what is written down, then against `literal`.
+    pub fn differences(&self, checker: &Checker) -> Vec<Difference> {
+        let mut random = Random::new(self.file.len() as u64);
+        let mut found = Vec::new();
+        let answer = (checker.check)(&self.file);
+        found.extend(Difference::between("check", self.packed, answer));
+        for more in [0, 1, 100] {
+            found.extend(self.line_difference(checker, more, &mut random));
+        }
+        found.extend(self.short_line_difference(checker, &mut random));
+        found.extend(self.part_difference(checker, &mut random));
+        found.extend(self.tally_difference(checker));
+        let verdict = literal::verdict(&self.file);
+        let others = compare::differences(checker, &self.file, &verdict, &mut random);
+        found.extend(others);
+        found
+    }
+
+    /// In a buffer with so many bytes more than the line has.
+    fn line_difference(
+        &self,
+        checker: &Checker,
+        more: usize,
+        r: &mut Random,
+    ) -> Option<Difference> {
+        let line = format!("{}\n", self.line);
+        let mut buffer = Lent::new(line.len() + more, r);
+        let mut right = buffer.clone();
+        right.bytes()[..line.len()].copy_from_slice(line.as_bytes());
+        let answer = (checker.line)(&self.file, buffer.bytes());
+        let found = String::from_utf8_lossy(&buffer.bytes()[..line.len()]).into_owned();
+        Difference::between(
+            &format!("line with {more} bytes more"),
+            format!("{line:?}, {}", line.len()),
+            format!("{found:?}, {answer}{}", buffer.unlike(&right)),
+        )
+    }
+
+    /// In a buffer with one byte less: 14, and the bytes stay.
+    fn short_line_difference(&self, checker: &Checker, r: &mut Random) -> Option<Difference> {
+        let mut buffer = Lent::new(self.line.len(), r);
+        let right = buffer.clone();
+        let answer = (checker.line)(&self.file, buffer.bytes());
+        let found = format!("{answer}{}", buffer.unlike(&right));
+        Difference::between("line with a byte less", (14 * 65_536).to_string(), found)
+    }
+
+    /// The block that is named; empty for acceptance, 1 and 4.
+    fn part_difference(&self, checker: &Checker, r: &mut Random) -> Option<Difference> {
+        let spot = self.spot();
+        let start = BLOCK * spot.block as usize;
+        let part = match spot.number {
+            0 | 1 | 4 => &[],
+            _ => self.file.get(start..start + BLOCK).unwrap_or(&[]),
+        };
+        let mut buffer = Lent::new(BLOCK, r);
+        let mut right = buffer.clone();
+        right.bytes()[..part.len()].copy_from_slice(part);
+        let answer = (checker.part)(&self.file, spot, buffer.bytes());
+        let found = format!("{answer}{}", buffer.unlike(&right));
+        Difference::between("refused part", part.len().to_string(), found)
+    }
+
+    fn tally_difference(&self, checker: &Checker) -> Option<Difference> {
+        let expected = if self.packed == 0 { 1 << 32 } else { 1 };
+        Difference::between(
+            "tally from 0, 0",
+            expected,
+            (checker.tally)(&self.file, 0, 0),
+        )
+    }
+}
+
+/// The numbers in a verdict line.
+pub fn spot_in(line: &str) -> Option<Spot> {
+    let mut words = line.split(' ');
+    let (number, block, place) = match words.next()? {
+        "accepted" => {
+            return Some(Spot {
+                number: 0,
+                block: 0,
+                place: 0,
+            })
+        }
+        "refused" => (words.next()?, words.next()?, words.next()?),
+        _ => return None,
+    };
+    Some(Spot {
+        number: number.parse().ok()?,
+        block: block.strip_prefix("block=")?.parse().ok()?,
+        place: place.strip_prefix("place=")?.parse().ok()?,
+    })
+}
+
+/// The certificates of published protocols, from their bytes.
+pub fn corpus() -> Result<Vec<Known>, String> {
+    texts_in("../corpus")?
+        .into_iter()
+        .map(|path| {
+            let file = fs::read(path.with_extension("cert")).map_err(|e| e.to_string())?;
+            with_line(&path, file, "#: expect 0 ")
+        })
+        .collect()
+}
+
+/// The texts of a folder, each with its own line.
+pub fn texts(folder: &str) -> Result<Vec<Known>, String> {
+    texts_in(folder)?
+        .into_iter()
+        .map(|path| {
+            let text = fs::read_to_string(&path).map_err(|e| e.to_string())?;
+            let file = text::assemble(&text).map_err(|e| format!("{}: {e}", path.display()))?;
+            with_line(&path, file, "# expect: ")
+        })
+        .collect()
+}
+
+/// The check program's own test: what it reads and the line it prints.
+pub fn program() -> Result<Vec<Known>, String> {
+    let folder = Path::new(env!("CARGO_MANIFEST_DIR")).join("../../crates/zepayong");
+    let file = fs::read(folder.join("stdin")).map_err(|e| format!("stdin: {e}"))?;
+    let line = fs::read_to_string(folder.join("stdout")).map_err(|e| format!("stdout: {e}"))?;
+    let line = line.strip_suffix('\n').ok_or("stdout: no newline")?;
+    Ok(vec![Known::by_line("the program's test", file, line)?])
+}
+
+/// The texts of a folder that is named from this crate's.
+fn texts_in(folder: &str) -> Result<Vec<PathBuf>, String> {
+    let folder = Path::new(env!("CARGO_MANIFEST_DIR")).join(folder);
+    let items = fs::read_dir(&folder).map_err(|e| format!("{}: {e}", folder.display()))?;
+    let mut found: Vec<PathBuf> = items.flatten().map(|item| item.path()).collect();
+    found.retain(|path| path.extension().is_some_and(|e| e == "txt"));
+    found.sort();
+    if found.is_empty() {
+        return Err(format!("{}: no texts", folder.display()));
+    }
+    Ok(found)
+}
+
+/// The line that stands in the text after these words.
+fn with_line(path: &Path, file: Vec<u8>, words: &str) -> Result<Known, String> {
+    let name = path.file_stem().unwrap_or_default().to_string_lossy();
+    let text = fs::read_to_string(path).map_err(|e| e.to_string())?;
+    let line = text.lines().find_map(|line| line.strip_prefix(words));
+    Known::by_line(&name, file, line.ok_or(format!("{name}: no `{words}`"))?)
+}
