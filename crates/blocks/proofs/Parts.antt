@@ -22,6 +22,11 @@ pub block-length : (file : List ℕ) (i : ℕ) → HasBlock file i → length (b
 unfolding blockAt
 block-length file i h = length-take-le 512 (drop (512 * i) file) (simp length-drop (omega arith))
 
+-- A block of the file's first m bytes.
+pub block-before : (file : List ℕ) (i m : ℕ) → 512 * i + 512 ≤ m → blockAt (take m file) i ≡ blockAt file i
+unfolding blockAt
+block-before file i m h = rw drop-take (take-take 512 (m - 512 * i) (drop (512 * i) file) (omega arith))
+
 -- The part that the code takes is the block.
 pub block-part : (file : List ℕ) (i : ℕ) → take (512 * i + 512 - 512 * i) (drop (512 * i) file) ≡ blockAt file i
 unfolding blockAt

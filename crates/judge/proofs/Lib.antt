@@ -26,4 +26,5 @@ pub mod Marks
 pub mod Hats
 pub mod Opens
 pub mod Covers
+pub mod Heads
 pub mod JudgingLaws

@@ -3,7 +3,7 @@ ghost use mathlib.Core.Path.{_≡_};
 ghost use Prim.Native.Nat.{_<_};
 ghost use Rattle.judge.specs.File.{blockCount, certificateOf};
 ghost use Rattle.judge.specs.Laid.{Laid};
-ghost use Rattle.judge.specs.Judgement.{judgedOf};
+ghost use Rattle.judge.specs.Judgement.{judgedOf, OnlyRulesFrom, Heads};
 ghost use Rattle.judge.specs.Verdict.{onKind, openRule, ruleFault, certificateFault, faultOf, verdictOf};
 use crate::cover;
 use crate::layout;
@@ -13,16 +13,32 @@ use crate::verdict::Fault;
 use crate::verdict::Verdict;
 use terms::valid::Found;
 
-// Number 12 at block i, if it is a rule: its first place that is risky and not covered.
-fn open_rule(file: &[u8], i: usize) -> Judged
-    requires { ⌜ Laid (now file) × (i < blockCount (now file)) ⌝ }
+// How many blocks stand before the rules at the file's end: they list all secrets and patterns.
+fn leading(file: &[u8]) -> usize
+    requires { ⌜ Laid (now file) ⌝ }
+    ensures { λ r. ⌜ OnlyRulesFrom (now (file .entry)) r ⌝ }
+{
+    let mut n = file.len() / 512;
+    while 1 < n {
+        if blocks::kind(blocks::block(file, n - 1)) != 5 {
+            return n;
+        }
+        n -= 1;
+    }
+    n
+}
+
+// Number 12 at block i, if it is a rule: its first place that is risky and not covered. What the file lists is read from
+// its head.
+fn open_rule(file: &[u8], head: &[u8], i: usize) -> Judged
+    requires { ⌜ Laid (now file) × (i < blockCount (now file)) × Heads (now head) (now file) ⌝ }
     ensures { λ r. ⌜ r ≡ judgedOf (onKind 5 (openRule (certificateOf (now (file .entry)))) (now (file .entry)) i) ⌝ }
 {
     let block = blocks::block(file, i);
     if blocks::kind(block) != 5 {
         return Judged::Fine;
     }
-    match cover::uncovered(file, block) {
+    match cover::uncovered(head, block) {
         Found::At(k) => Judged::Faulty(Fault::Uncovered(
             i as u8,
             (blocks::first_count(block) + k) as u8,
@@ -36,10 +52,12 @@ fn rule_fault(file: &[u8]) -> Judged
     requires { ⌜ Laid (now file) ⌝ }
     ensures { λ r. ⌜ r ≡ judgedOf (ruleFault (certificateOf (now (file .entry))) (now (file .entry))) ⌝ }
 {
+    let n = leading(file);
+    let head = &file[0..512 * n];
     let count = file.len() / 512;
     let mut i = 0;
     while i < count {
-        match open_rule(file, i) {
+        match open_rule(file, head, i) {
             Judged::Faulty(f) => return Judged::Faulty(f),
             Judged::Fine => i += 1,
         }

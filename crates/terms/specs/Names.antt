@@ -127,17 +127,12 @@ module _ (a b : ℕ) (c : List ℕ) (k : ℕ) (inside : k < length c) where
       ∙ sym (append-snoc (map (rename a b) (take k c)) (rename a b (getD c k 0)) (drop (suc k) c))
       ∙ sym (rw (add-one, take-suc c k 0, map-append))
 
--- One turn of the renaming loop: the entry is a and becomes b, or stays.
-pub renamed-hit : (a b : ℕ) (c d : List ℕ) (k : ℕ) → k < length c → d ≡ renamedUpTo a b k c → getD d k 0 ≡ a → set d k b ≡ renamedUpTo a b (k + 1) c
-renamed-hit a b c d k inside is hit =
-    let there : getD c k 0 ≡ a = sym (renamed-read a b c k inside) ∙ ap (λ (l : List ℕ). getD l k 0) (sym is) ∙ hit in
-    ap (λ (l : List ℕ). set l k b) is ∙ ap (λ (n : ℕ). set (renamedUpTo a b k c) k n) (sym (rename-hit there)) ∙ renamed-more a b c k inside
-
-pub renamed-stay : (a b : ℕ) (c d : List ℕ) (k : ℕ) → k < length c → d ≡ renamedUpTo a b k c → (getD d k 0 ≡ a → ⊥) → d ≡ renamedUpTo a b (k + 1) c
-renamed-stay a b c d k inside is miss =
+-- One turn of the renaming loop.
+pub renamed-step : (a b : ℕ) (c d : List ℕ) (k : ℕ) {y : ℕ} → k < length c → d ≡ renamedUpTo a b k c → y ≡ rename a b (getD d k 0)
+    → set d k y ≡ renamedUpTo a b (k + 1) c
+renamed-step a b c d k inside is new =
     let here : getD d k 0 ≡ getD c k 0 = ap (λ (l : List ℕ). getD l k 0) is ∙ renamed-read a b c k inside in
-    let off : (getD c k 0 ≡ a → ⊥) = λ e. miss (here ∙ e) in
-    sym (set-getD d k 0) ∙ ap (λ (n : ℕ). set d k n) (here ∙ sym (rename-miss b off)) ∙ ap (λ (l : List ℕ). set l k (rename a b (getD c k 0))) is ∙ renamed-more a b c k inside
+    ap (λ (n : ℕ). set d k n) (new ∙ ap (rename a b) here) ∙ ap (λ (l : List ℕ). set l k (rename a b (getD c k 0))) is ∙ renamed-more a b c k inside
 
 -- All of it renamed.
 pub renamed-all : (a b : ℕ) (c : List ℕ) (k : ℕ) → length c ≤ k → renamedUpTo a b k c ≡ map (rename a b) c

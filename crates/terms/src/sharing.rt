@@ -36,16 +36,21 @@ fn alone() -> [u8; 256]
     c
 }
 
-// The class named a gets the name b.
+// A name, where a gets the name b.
+fn renamed(x: u8, a: u8, b: u8) -> u8
+    ensures { λ r. ⌜ r ≡ rename a b x ⌝ }
+{
+    if x == a { b } else { x }
+}
+
+// The class named a gets the name b. Every entry is written, so that the loop has no branch.
 fn relabel(c: &mut [u8; 256], a: u8, b: u8)
     requires { ⌜ length (now c) ≡ 256 ⌝ }
     ensures { λ _. ⌜ now (c .exit) ≡ map (rename a b) (now (c .entry)) ⌝ }
 {
     let mut k = 0usize;
     while k < 256 {
-        if c[k] == a {
-            c[k] = b;
-        }
+        c[k] = renamed(c[k], a, b);
         k += 1;
     }
 }

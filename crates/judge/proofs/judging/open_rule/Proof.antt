@@ -1,4 +1,5 @@
 -- `judge::judging::open_rule` meets its contract. Assumes nothing.
+use mathlib.Core.Path.{_∙_}
 use Prim.Native.Nat.{_+_, _<_}
 use native.Mathlib.Omega.{arith}
 use Rattle.judge.proofs.JudgingLaws.{place-small, rule-at, open-other, open-found, open-fine}
@@ -11,7 +12,7 @@ small : (c : tie.After-first-count) → c .first-count .result + c .before .befo
 small c =
     let at = c .before .before .before .before in
     let kind = at .before .before in
-    let pre = kind .before .before .before .pre in
+    let pre = kind .before .before .before .before .pre in
     let rule = rule-at (pre .0) (pre .1) (kind .before .block .ensures .0) (kind .kind .ensures) (at .before .if1 .left) in
     omega (arith, place-small _ rule (at .uncovered .ensures) (c .before .before .k .given .1), c .first-count .ensures .0)
 
@@ -21,21 +22,24 @@ open-rule-spec = tie.close (tie.spec
     (λ c κs. search needs)  -- kind-requires
     (λ c. open-other _ _ _ (c .before .before .block .ensures .0) (c .before .kind .ensures) (c .if1 .taken))  -- returns
     (λ c κs.
-    let pre = c .before .before .before .before .pre in
-    (pre .0, rule-at (pre .0) (pre .1) (c .before .before .block .ensures .0) (c .before .kind .ensures) (c .if1 .left)))  -- uncovered-requires
+    let pre = c .before .before .before .before .before .pre in
+    (pre .2 .laid, rule-at (pre .0) (pre .1) (c .before .before .block .ensures .0) (c .before .kind .ensures) (c .if1 .left)))  -- uncovered-requires
     (λ c. search needs)  -- enum-known-k
-    (λ c. let few = c .before .before .before .before .before .before .before .before .pre .0 .few in search needs)  -- cast-t9
+    (λ c. let few = c .before .before .before .before .before .before .before .before .before .pre .0 .few in search needs)  -- cast-t10
     (λ c κs. search needs)  -- first-count-requires
-    (λ c. let s = small c in search needs)  -- add-t11
-    (λ c. let s = small c in search needs)  -- cast-t12
+    (λ c. let s = small c in search needs)  -- add-t12
+    (λ c. let s = small c in search needs)  -- cast-t13
     (λ c. search needs)  -- enum-told
     (λ c.
     let at = c .before .before .before .before in
     let kind = at .before .before in
-    open-found _ _ _ (kind .before .block .ensures .0) (kind .kind .ensures) (at .before .if1 .left) (at .uncovered .ensures) (c .before .before .k .given .1)
-    (c .first-count .ensures .0))  -- returns-2
+    let heads = kind .before .before .before .before .pre .2 in
+    open-found _ _ _ (kind .before .block .ensures .0) (kind .kind .ensures) (at .before .if1 .left) (at .uncovered .ensures ∙ heads .same _)
+    (c .before .before .k .given .1) (c .first-count .ensures .0))  -- returns-2
     (λ c.
     let at = c .before .before in
     let kind = at .before .before in
-    open-fine _ _ _ (kind .before .block .ensures .0) (kind .kind .ensures) (at .before .if1 .left) (at .uncovered .ensures) (c .enum-told .given .1))  -- returns-3
+    let heads = kind .before .before .before .before .pre .2 in
+    open-fine _ _ _ (kind .before .block .ensures .0) (kind .kind .ensures) (at .before .if1 .left) (at .uncovered .ensures ∙ heads .same _)
+    (c .enum-told .given .1))  -- returns-3
     )

@@ -3,6 +3,7 @@ use mathlib.Core.Path.{_≡_, sym, _∙_}
 use Prim.Native.Nat.{ℕ, _-_, _≤_}
 use Rattle.judge.specs.File.{blockCount, certificateOf}
 use Rattle.judge.specs.Verdict.{firstFault, onKind, openRule, ruleFault}
+use Rattle.judge.proofs.Heads.{heads}
 use Rattle.judge.proofs.LayoutLaws.{fine-none, faulty-some, judged-none, judged-some, first-stop, first-more, first-end}
 use Rattle.judge.proofs.JudgingLaws.{rule-start}
 use borrow.Author.Needs.{needs}
@@ -10,17 +11,25 @@ use Rattle.judge.proofs.judging.rule_fault.Statement.{statement}
 use Rattle.judge.proofs.judging.rule_fault.Tie as tie
 
 abbrev Inv-loop : tie.InvT-loop
-Inv-loop file count i₀ i =
+Inv-loop file n head count i₀ i =
     (i ≤ blockCount file)
     × (firstFault (onKind 5 (openRule (certificateOf file)) file) i (blockCount file - i) ≡ ruleFault (certificateOf file) file)
 
 abbrev μ-loop : tie.MeasureT-loop
-μ-loop file count i₀ i = blockCount file - i
+μ-loop file n head count i₀ i = blockCount file - i
 
 pub rule-fault-spec : {M : Type 1} → statement M
 rule-fault-spec = tie.close (tie.spec Inv-loop μ-loop
+    (λ c κs. search needs)  -- leading-requires
+    (λ c. let laid = c .before .before .pre in let inside = c .leading .ensures .inside in search needs)  -- mul-head
+    (λ c. search needs)  -- sub-head
+    (λ c. search needs)  -- part-head-start
+    (λ c. let laid = c .before .before .pre in let inside = c .leading .ensures .inside in search needs)  -- part-head-end
     (λ c. (search needs, rule-start _ _))  -- loop-holds
-    (λ c κs. (c .before .before .before .pre, c .loop-test .taken))  -- open-rule-requires
+    (λ c κs.
+    let led = c .before .before .before in
+    let laid = led .before .before .pre in
+    (laid, c .loop-test .taken, heads laid (led .leading .ensures)))  -- open-rule-requires
     (λ c. search needs)  -- enum-known-f
     (λ c.
     let at = c .before .before .before in
