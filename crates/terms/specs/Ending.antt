@@ -55,7 +55,7 @@ fewer-zeros (x ∷ d) zero h q = rw q (omega arith)
 fewer-zeros (x ∷ d) (suc i) h q = let ih = fewer-zeros d i (omega arith) q in omega arith
 
 -- Nodes past the entries are free.
-past-free : (s t : List ℕ) (i : ℕ) → 128 ≤ i → nodeOf s t i ≡ free
+pub past-free : (s t : List ℕ) (i : ℕ) → 128 ≤ i → nodeOf s t i ≡ free
 unfolding nodeOf nodeTag nodeBy
 past-free s t i h = simp (le-ltb i 64 (omega arith), le-ltb i 128 h)
 
@@ -129,6 +129,24 @@ stuck-more s t c d k stuck here = record { waits = λ i low high q. go i low hig
         stuck .waits i (omega arith) high q
 
 -- A node's children by its tag.
+module _ (s t : List ℕ) (i : ℕ) where
+  pub childless : (nodeTag s t i ≡ 2 → ⊥) → (nodeTag s t i ≡ 3 → ⊥) → (j : ℕ) → Child j (nodeOf s t i) → ⊥
+  unfolding nodeOf nodeBy
+  childless no-pair no-encryption = go (nodeTag s t i) no-pair no-encryption
+    where
+      go : (n : ℕ) → (n ≡ 2 → ⊥) → (n ≡ 3 → ⊥) → (j : ℕ) → Child j (nodeBy n (nodeValue s t i) (firstChild s t i) (secondChild s t i)) → ⊥
+      go zero p q j child = child
+      go (suc zero) p q j child = child
+      go (suc (suc zero)) p q j child = p refl
+      go (suc (suc (suc zero))) p q j child = q refl
+      go (suc (suc (suc (suc n)))) p q j child = child
+
+  pub childless-ready : (c d : List ℕ) → (nodeTag s t i ≡ 2 → ⊥) → (nodeTag s t i ≡ 3 → ⊥) → Readiness s t c d i true
+  childless-ready c d no-pair no-encryption = record {
+    ready = λ e j child. absurd (childless no-pair no-encryption j child);
+    waits = λ e. absurd (true≢false e);
+  }
+
 module _ (s t c d : List ℕ) (i : ℕ) where
   pub pair-ready : nodeTag s t i ≡ 2 → endedAt c d (firstChild s t i) ≡ true → (r : Bool) → r ≡ endedAt c d (secondChild s t i) → Readiness s t c d i r
   unfolding nodeBy
@@ -157,17 +175,6 @@ module _ (s t c d : List ℕ) (i : ℕ) where
         ready = λ e j child. let q : j ≡ firstChild s t i = subst (Child j) is child in rw q (sym first ∙ e);
         waits = λ e. (firstChild s t i, subst (Child (firstChild s t i)) (sym is) refl, sym first ∙ e);
       }
-
-  pub childless-ready : (nodeTag s t i ≡ 2 → ⊥) → (nodeTag s t i ≡ 3 → ⊥) → Readiness s t c d i true
-  unfolding nodeOf nodeBy
-  childless-ready no-pair no-encryption = record { ready = λ e j child. absurd (go (nodeTag s t i) no-pair no-encryption j child); waits = λ e. absurd (true≢false e) }
-    where
-      go : (n : ℕ) → (n ≡ 2 → ⊥) → (n ≡ 3 → ⊥) → (j : ℕ) → Child j (nodeBy n (nodeValue s t i) (firstChild s t i) (secondChild s t i)) → ⊥
-      go zero p q j child = child
-      go (suc zero) p q j child = child
-      go (suc (suc zero)) p q j child = p refl
-      go (suc (suc (suc zero))) p q j child = q refl
-      go (suc (suc (suc (suc n)))) p q j child = child
 
 -- A mark, by its test.
 pub zero-mark : {n : ℕ} → n ≡ 0 → isMarked n ≡ false

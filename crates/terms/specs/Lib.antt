@@ -45,4 +45,6 @@ pub mod UniteLaws
 pub mod UniteAnswers
 pub mod MeetLaws
 pub mod Ending
+pub mod Flat
 pub mod ShareGraph
+pub mod Roots

@@ -1,18 +1,19 @@
-// Whether every way down over the classes comes to an end: nodes are marked whose children have all ended, sweep by
-// sweep, until nothing changes.
+// Whether every way down over the classes comes to an end: at once, if no variable stands for a pair or an encryption;
+// else nodes are marked whose children have all ended, sweep by sweep, until nothing changes.
 use crate::node::first_child;
 use crate::node::node_tag;
 use crate::node::second_child;
 use crate::node::wide;
 ghost use mathlib.Core.Path.{_≡_};
 ghost use mathlib.Core.Bool.{true, false};
-ghost use Prim.Native.Nat.{ℕ, _≤_, _<_};
+ghost use Prim.Native.Nat.{ℕ, _+_, _≤_, _<_};
 ghost use lib.ListN.{length, getD};
 ghost use Rattle.terms.specs.Term.{Message};
 ghost use Rattle.terms.specs.Graph.{Valid, Respects, Classes, Finite};
 ghost use Rattle.terms.specs.TermGraph.{TwoTerms, nodeOf};
 ghost use Rattle.terms.specs.Names.{nameOf};
 ghost use Rattle.terms.specs.Ending.{isMarked, endedAt, Readiness, Sound, StuckFrom, zeros};
+ghost use Rattle.terms.specs.Flat.{OwnFrom, LeavesFrom};
 
 // The class of node i is known to end.
 fn ended(c: &[u8; 256], done: &[u8; 128], i: usize) -> bool
@@ -80,8 +81,8 @@ fn all_marked(done: &[u8; 128]) -> bool
     true
 }
 
-// Every way down over the classes ends; or no valid valuation respects them.
-pub fn is_finite(s: &[u8], t: &[u8], c: &[u8; 256]) -> bool
+// Every way down over the classes ends, found by sweeps; or no valid valuation respects them.
+fn all_end(s: &[u8], t: &[u8], c: &[u8; 256]) -> bool
     requires { ⌜ TwoTerms (now s) (now t) × (length (now c) ≡ 256) × Classes (nodeOf (now s) (now t)) (nameOf (now c)) ⌝ }
     ensures { λ r. ⌜ (r ≡ true → (i : ℕ) → Finite (nodeOf (now (s .entry)) (now (t .entry))) (nameOf (now (c .entry))) i)
         × (r ≡ false → (v : ℕ → Message) → Valid (nodeOf (now (s .entry)) (now (t .entry))) v → Respects (nameOf (now (c .entry))) v → ⊥) ⌝ }
@@ -92,4 +93,71 @@ pub fn is_finite(s: &[u8], t: &[u8], c: &[u8; 256]) -> bool
         more = sweep(s, t, c, &mut done);
     }
     all_marked(&done)
+}
+
+// 1 where node k is in another node's class.
+fn differs(name: u8, k: usize) -> u8
+    ensures { λ r. ⌜ (r ≤ 1) × (r ≡ 0 → name ≡ k) ⌝ }
+{
+    if wide(name) == k { 0 } else { 1 }
+}
+
+// How many nodes from `low` up to `high` are in another node's class. The loop has no branch.
+fn moved(c: &[u8; 256], low: usize, high: usize) -> u8
+    requires { ⌜ (length (now c) ≡ 256) × (low ≤ high) × (high ≤ 256) × (high ≤ low + 128) ⌝ }
+    ensures { λ r. ⌜ (r ≡ 0 → OwnFrom (now (c .entry)) low high) ⌝ }
+{
+    let mut n = 0u8;
+    let mut k = low;
+    while k < high {
+        n = n + differs(c[k], k);
+        k += 1;
+    }
+    n
+}
+
+// Every variable is free, or stands for a node without children.
+fn are_leaves(s: &[u8], t: &[u8], c: &[u8; 256]) -> bool
+    requires { ⌜ length (now c) ≡ 256 ⌝ }
+    ensures { λ r. ⌜ (r ≡ true → LeavesFrom (now (s .entry)) (now (t .entry)) (now (c .entry)) 128 160) ⌝ }
+{
+    let mut k = 128usize;
+    while k < 160 {
+        let tag = node_tag(s, t, wide(c[k]));
+        if tag == 2 {
+            return false;
+        }
+        if tag == 3 {
+            return false;
+        }
+        k += 1;
+    }
+    true
+}
+
+// Entries are alone in their classes, and variables stand for nodes without children: every way down ends at once.
+fn is_flat(s: &[u8], t: &[u8], c: &[u8; 256]) -> bool
+    requires { ⌜ length (now c) ≡ 256 ⌝ }
+    ensures { λ r. ⌜ (r ≡ true → (i : ℕ) → Finite (nodeOf (now (s .entry)) (now (t .entry))) (nameOf (now (c .entry))) i) ⌝ }
+{
+    if moved(c, 0, 128) != 0 {
+        return false;
+    }
+    if moved(c, 160, 256) != 0 {
+        return false;
+    }
+    are_leaves(s, t, c)
+}
+
+// Every way down over the classes ends; or no valid valuation respects them.
+pub fn is_finite(s: &[u8], t: &[u8], c: &[u8; 256]) -> bool
+    requires { ⌜ TwoTerms (now s) (now t) × (length (now c) ≡ 256) × Classes (nodeOf (now s) (now t)) (nameOf (now c)) ⌝ }
+    ensures { λ r. ⌜ (r ≡ true → (i : ℕ) → Finite (nodeOf (now (s .entry)) (now (t .entry))) (nameOf (now (c .entry))) i)
+        × (r ≡ false → (v : ℕ → Message) → Valid (nodeOf (now (s .entry)) (now (t .entry))) v → Respects (nameOf (now (c .entry))) v → ⊥) ⌝ }
+{
+    if is_flat(s, t, c) {
+        true
+    } else {
+        all_end(s, t, c)
+    }
 }

@@ -1,6 +1,7 @@
 // Shared instances: two terms are walked side by side; where a variable is met, classes of nodes that must get equal
 // messages are united; at the end every way down over the classes must come to an end.
 use crate::ending::is_finite;
+use crate::entry::value;
 use crate::node::byte_at;
 use crate::node::first_child;
 use crate::node::home;
@@ -11,10 +12,12 @@ use crate::node::second_child;
 use crate::node::value_in;
 use crate::node::wide;
 ghost use mathlib.Core.Path.{_≡_};
+ghost use mathlib.Core.Bool.{true};
 ghost use mathlib.Core.List.{map};
 ghost use Prim.Native.Nat.{ℕ, _+_, _*_, _≤_, _<_};
 ghost use lib.ListN.{length, getD};
 ghost use Rattle.terms.specs.Entry.{termOf};
+ghost use Rattle.terms.specs.Instance.{Share};
 ghost use Rattle.terms.specs.Decide.{answer, share?, variable?};
 ghost use Rattle.terms.specs.Graph.{Valid, Classes, Outcome};
 ghost use Rattle.terms.specs.GraphLaws.{rename, Any};
@@ -207,8 +210,25 @@ fn meet_halves(s: &[u8], t: &[u8], c: &mut [u8; 256], i: usize, j: usize) -> boo
     }
 }
 
-// Two terms share an instance: some finite message is an instance of both, each term with variables of its own.
-pub fn shares(s: &[u8], t: &[u8]) -> bool
+// Both terms begin with a symbol, and not with the same one.
+fn roots_differ(s: &[u8], t: &[u8]) -> bool
+    requires { ⌜ TwoTerms (now s) (now t) ⌝ }
+    ensures { λ r. ⌜ (r ≡ true → Share (termOf (now (s .entry))) (termOf (now (t .entry))) → ⊥) ⌝ }
+{
+    if 3 < s[0] {
+        return false;
+    }
+    if 3 < t[0] {
+        return false;
+    }
+    if s[0] != t[0] {
+        return true;
+    }
+    value(s) != value(t)
+}
+
+// The classes of all nodes that must get equal messages, and whether every way down over them ends.
+fn shares_by_classes(s: &[u8], t: &[u8]) -> bool
     requires { ⌜ TwoTerms (now s) (now t) ⌝ }
     ensures { λ r. ⌜ r ≡ answer (share? variable? variable? (termOf (now (s .entry))) (termOf (now (t .entry)))) ⌝ }
 {
@@ -217,5 +237,18 @@ pub fn shares(s: &[u8], t: &[u8]) -> bool
         is_finite(s, t, &c)
     } else {
         false
+    }
+}
+
+// Two terms share an instance: some finite message is an instance of both, each term with variables of its own. Most
+// tests end at the roots.
+pub fn shares(s: &[u8], t: &[u8]) -> bool
+    requires { ⌜ TwoTerms (now s) (now t) ⌝ }
+    ensures { λ r. ⌜ r ≡ answer (share? variable? variable? (termOf (now (s .entry))) (termOf (now (t .entry)))) ⌝ }
+{
+    if roots_differ(s, t) {
+        false
+    } else {
+        shares_by_classes(s, t)
     }
 }

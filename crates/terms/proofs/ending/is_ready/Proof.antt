@@ -23,5 +23,8 @@ is-ready-spec = tie.close (tie.spec
     (λ c. pair-ready (c .before .before .before .before .before .before .before .before .before .args .s .now) (c .before .before .before .before .before .before .before .before .before .args .t .now) (c .before .before .before .before .before .before .before .before .before .args .c .now) (c .before .before .before .before .before .before .before .before .before .args .done .now) (c .before .before .before .before .before .before .before .before .before .args .i) (sym (c .before .before .before .before .before .before .node-tag .ensures .0) ∙ c .before .before .before .before .before .if1 .taken) (ap (endedAt (c .before .before .before .before .before .before .before .before .before .args .c .now) (c .before .before .before .before .before .before .before .before .before .args .done .now)) (sym (c .before .before .before .before .first-child .ensures .0)) ∙ sym (c .before .before .before .ended .ensures) ∙ c .before .before .if2 .taken) (c .ended2 .result) (c .ended2 .ensures ∙ ap (endedAt (c .before .before .before .before .before .before .before .before .before .args .c .now) (c .before .before .before .before .before .before .before .before .before .args .done .now)) (c .before .second-child .ensures .0)))  -- returns
     (λ c. pair-waits (c .before .before .before .before .before .before .before .args .s .now) (c .before .before .before .before .before .before .before .args .t .now) (c .before .before .before .before .before .before .before .args .c .now) (c .before .before .before .before .before .before .before .args .done .now) (c .before .before .before .before .before .before .before .args .i) (sym (c .before .before .before .before .node-tag .ensures .0) ∙ c .before .before .before .if1 .taken) (ap (endedAt (c .before .before .before .before .before .before .before .args .c .now) (c .before .before .before .before .before .before .before .args .done .now)) (sym (c .before .before .first-child .ensures .0)) ∙ sym (c .before .ended .ensures) ∙ c .if2 .left))  -- returns-2
     (λ c. encryption-ready (c .before .before .before .before .before .before .before .args .s .now) (c .before .before .before .before .before .before .before .args .t .now) (c .before .before .before .before .before .before .before .args .c .now) (c .before .before .before .before .before .before .before .args .done .now) (c .before .before .before .before .before .before .before .args .i) (sym (c .before .before .before .before .node-tag .ensures .0) ∙ c .before .before .if3 .taken) (c .ended3 .result) (c .ended3 .ensures ∙ ap (endedAt (c .before .before .before .before .before .before .before .args .c .now) (c .before .before .before .before .before .before .before .args .done .now)) (c .before .first-child2 .ensures .0)))  -- returns-3
-    (λ c. childless-ready (c .before .before .before .before .before .args .s .now) (c .before .before .before .before .before .args .t .now) (c .before .before .before .before .before .args .c .now) (c .before .before .before .before .before .args .done .now) (c .before .before .before .before .before .args .i) (λ e. c .before .if1 .left (c .before .before .node-tag .ensures .0 ∙ e)) (λ e. c .if3 .left (c .before .before .node-tag .ensures .0 ∙ e)))  -- returns-4
+    (λ c.
+    let at = c .before .before .before .before .before .args in
+    childless-ready (at .s .now) (at .t .now) (at .i) (at .c .now) (at .done .now) (λ e. c .before .if1 .left (c .before .before .node-tag .ensures .0 ∙ e))
+    (λ e. c .if3 .left (c .before .before .node-tag .ensures .0 ∙ e)))  -- returns-4
     )
