@@ -1,0 +1,190 @@
+//! The comparison with `literal`, and files made for it in which sharing goes
+//! deep: long terms and chains of repeated variables. The check uses none of
+//! this.
+
+use generate::certificate::{replace, variables_of};
+use generate::pairs::term_pair;
+use generate::random::Random;
+use generate::sketch::Sketch;
+use literal::read::Atom;
+use literal::Term;
+
+const MOST_ENTRIES: usize = 63;
+const KEYS: [u16; 4] = [2, 3, 4, 5];
+const SECRET: u16 = 6;
+
+/// What both answer, in words and with the file as text, if they disagree.
+pub fn disagreement(file: &[u8]) -> Option<String> {
+    let verdict = literal::verdict(file);
+    let (expected, found) = (literal::packed(&verdict), crate::check(file));
+    if expected == found {
+        return None;
+    }
+    Some(format!(
+        "literal answers {}, fast answers {}, on this file of {} bytes:\n{}",
+        in_words(expected),
+        in_words(found),
+        file.len(),
+        text::print(file)
+    ))
+}
+
+fn in_words(packed: u32) -> String {
+    match packed {
+        0 => "accepted".to_string(),
+        _ => format!(
+            "number {} block {} place {}",
+            packed >> 16,
+            packed >> 8 & 255,
+            packed & 255
+        ),
+    }
+}
+
+/// A well-formed file whose patterns and rules come from the generator's pairs
+/// of terms: chains, deep pairs, instances.
+pub fn deep_file(seed: u64) -> Vec<u8> {
+    let random = &mut Random::new(seed);
+    let mut sketch = Sketch {
+        atoms: atoms(),
+        secrets: secrets(random),
+        ..Sketch::default()
+    };
+    for _ in 0..random.between(1, 3) {
+        add_pair(random, &mut sketch);
+    }
+    if random.chance(60) {
+        let key = *random.pick(&KEYS);
+        sketch.goods.push(Term::encryption(Term::Marked(0), key));
+    }
+    sketch.bytes()
+}
+
+/// The document's atoms, but no key is known, so that each may be a root key.
+fn atoms() -> Vec<Atom> {
+    let rows = [
+        (1, 1, 0),
+        (1, 1, 0),
+        (3, 0, 3),
+        (4, 0, 2),
+        (3, 0, 5),
+        (4, 0, 4),
+        (2, 0, 0),
+        (2, 1, 0),
+    ];
+    rows.map(|(kind, known, partner)| Atom {
+        kind,
+        known,
+        partner,
+    })
+    .to_vec()
+}
+
+/// The nonce, the keys, and at times nested ones, all weakly closed.
+fn secrets(random: &mut Random) -> Vec<Term> {
+    let mut secrets = vec![Term::Atom(SECRET)];
+    secrets.extend(KEYS.map(Term::Atom));
+    while random.chance(40) {
+        let (_, term) = term_pair(random.number());
+        let inner = without_variables(random, &term);
+        let nested = match random.below(3) {
+            0 => Term::encryption(inner, *random.pick(&KEYS)),
+            1 => Term::pair(Term::Atom(SECRET), inner),
+            _ => Term::pair(inner, Term::Atom(SECRET)),
+        };
+        if nested.size() <= MOST_ENTRIES {
+            secrets.push(nested);
+        }
+    }
+    secrets
+}
+
+fn without_variables(random: &mut Random, term: &Term) -> Term {
+    let by: Vec<(Term, Term)> = variables_of(term)
+        .into_iter()
+        .map(|variable| (variable, Term::Atom(random.below(8) as u16)))
+        .collect();
+    replace(term, &by)
+}
+
+/// A pair's pattern as a good or a bad one, and rules with its term.
+fn add_pair(random: &mut Random, sketch: &mut Sketch) {
+    let (pattern, term) = term_pair(random.number());
+    let key = *random.pick(&KEYS);
+    let pattern = Term::encryption(pattern, key);
+    let term = Term::encryption(term, key);
+    if pattern.size().max(term.size()) > MOST_ENTRIES {
+        return add_pair(random, sketch);
+    }
+    if random.chance(60) {
+        sketch.goods.push(pattern.clone());
+    }
+    if random.chance(50) {
+        sketch.bads.push(without_marks(&pattern));
+    }
+    for _ in 0..random.between(1, 2) {
+        let rule = rule(random, &term, &without_marks(&pattern), &sketch.secrets);
+        sketch.rules.push(rule);
+    }
+}
+
+fn without_marks(term: &Term) -> Term {
+    let by: Vec<(Term, Term)> = variables_of(term)
+        .into_iter()
+        .filter_map(|variable| match variable {
+            Term::Marked(number) => Some((variable, Term::Plain(number))),
+            _ => None,
+        })
+        .collect();
+    replace(term, &by)
+}
+
+/// A premise that may hold the term, and a conclusion that rests on it.
+fn rule(
+    random: &mut Random,
+    term: &Term,
+    pattern: &Term,
+    secrets: &[Term],
+) -> (Option<Term>, Term) {
+    let premise = match random.below(8) {
+        0 => None,
+        1 => Some(beside(random, term, pattern)),
+        2 => Some(beside(random, term, &Term::Plain(0))),
+        _ => Some(term.clone()),
+    };
+    let conclusion = conclusion(random, term, pattern, secrets);
+    if conclusion.size() <= MOST_ENTRIES {
+        (premise, conclusion)
+    } else {
+        (premise, term.clone())
+    }
+}
+
+fn conclusion(random: &mut Random, term: &Term, pattern: &Term, secrets: &[Term]) -> Term {
+    let secret = random.pick(secrets).clone();
+    let variable = match variables_of(term).as_slice() {
+        [] => Term::Plain(0),
+        variables => random.pick(variables).clone(),
+    };
+    match random.below(9) {
+        0 => term.clone(),
+        1 => pattern.clone(),
+        2 => beside(random, term, &variable),
+        3 => beside(random, &secret, &variable),
+        4 => replace(term, &[(variable, secret)]),
+        _ => variable,
+    }
+}
+
+/// Both terms as a pair in either order, if there is room, else the first.
+fn beside(random: &mut Random, one: &Term, other: &Term) -> Term {
+    let pair = match random.below(2) {
+        0 => Term::pair(one.clone(), other.clone()),
+        _ => Term::pair(other.clone(), one.clone()),
+    };
+    if pair.size() <= MOST_ENTRIES {
+        pair
+    } else {
+        one.clone()
+    }
+}

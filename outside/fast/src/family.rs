@@ -1,0 +1,134 @@
+//! Prepared terms of one kind, sorted, so that equal beginnings are neighbours:
+//! where one clashes, the next ones with the same beginning clash too.
+
+use crate::alphabet::{Symbol, FIRST_VARIABLE, PAIR};
+use crate::term::Term;
+
+const MOST: usize = 64;
+
+pub struct Family {
+    count: usize,
+    members: [u8; MOST],
+    /// Entries that a member has in common with the one before.
+    common: [u8; MOST],
+    linear: u64,
+    /// The entries of the longest member.
+    pub longest: usize,
+    /// For a root, the first member and the one after the last.
+    ranges: [(u8, u8); 128],
+}
+
+impl Family {
+    const EMPTY: Family = Family {
+        count: 0,
+        members: [0; MOST],
+        common: [0; MOST],
+        linear: 0,
+        longest: 0,
+        ranges: [(0, 0); 128],
+    };
+
+    /// The terms of these blocks, two slots a block, that are no atoms.
+    pub fn of(terms: &[Term; 128], blocks: std::ops::Range<usize>) -> Family {
+        let mut family = Family::EMPTY;
+        for block in blocks {
+            if terms[2 * block].length > 1 {
+                family.insert(terms, 2 * block);
+            }
+        }
+        for place in 0..family.count {
+            family.prepare(terms, place);
+        }
+        family
+    }
+
+    fn insert(&mut self, terms: &[Term; 128], slot: usize) {
+        let mut place = self.count;
+        while place > 0 && comes_before(&terms[slot], &terms[self.slot(place - 1)]) {
+            self.members[place] = self.members[place - 1];
+            place -= 1;
+        }
+        self.members[place] = slot as u8;
+        self.count += 1;
+    }
+
+    fn prepare(&mut self, terms: &[Term; 128], place: usize) {
+        let term = &terms[self.slot(place)];
+        let root = root_of(term.symbol(0));
+        if place > 0 {
+            let before = &terms[self.slot(place - 1)];
+            self.common[place] = beginning(before, term) as u8;
+        }
+        self.longest = self.longest.max(term.length);
+        self.linear |= (term.is_linear(0) as u64) << place;
+        if self.common[place] == 0 {
+            self.ranges[root].0 = place as u8;
+        }
+        self.ranges[root].1 = place as u8 + 1;
+    }
+
+    /// The members with this root.
+    #[inline(always)]
+    pub fn with_root(&self, symbol: Symbol) -> std::ops::Range<usize> {
+        let (first, last) = self.ranges[root_of(symbol)];
+        first as usize..last as usize
+    }
+
+    /// Some member with this root passes the test, which tells the member's
+    /// entry of a clash; members equal up to there are left out.
+    #[inline(always)]
+    pub fn any(&self, root: Symbol, mut test: impl FnMut(usize) -> Result<(), usize>) -> bool {
+        let members = self.with_root(root);
+        let mut member = members.start;
+        while member < members.end {
+            match test(member) {
+                Ok(()) => return true,
+                Err(clash) => member = self.after_clash(member, members.end, clash),
+            }
+        }
+        false
+    }
+
+    #[inline(always)]
+    pub fn slot(&self, place: usize) -> usize {
+        self.members[place & 63] as usize & 127
+    }
+
+    pub fn is_linear(&self, place: usize) -> bool {
+        self.linear >> place & 1 == 1
+    }
+
+    /// The next member that has not the same entries up to `clash`.
+    #[inline(always)]
+    fn after_clash(&self, place: usize, end: usize, clash: usize) -> usize {
+        let mut next = place + 1;
+        while next < end && self.common[next & 63] as usize > clash {
+            next += 1;
+        }
+        next
+    }
+}
+
+/// Symbol by symbol. Variables come first, as they answer soonest.
+fn comes_before(one: &Term, other: &Term) -> bool {
+    let rank = |symbol: &Symbol| symbol.wrapping_sub(FIRST_VARIABLE);
+    let ranks = one.subterm(0).iter().map(rank);
+    ranks.lt(other.subterm(0).iter().map(rank))
+}
+
+/// Keys by number, and a place of its own for pairs.
+#[inline(always)]
+fn root_of(symbol: Symbol) -> usize {
+    if symbol == PAIR {
+        127
+    } else {
+        symbol as usize & 127
+    }
+}
+
+/// How many entries are the same from the first on.
+fn beginning(one: &Term, other: &Term) -> usize {
+    (0..one.length)
+        .take_while(|i| one.symbol(*i) == other.symbol(*i))
+        .count()
+}

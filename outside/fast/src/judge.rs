@@ -1,0 +1,76 @@
+//! Numbers 9 to 12, each over all blocks.
+
+use crate::family::Family;
+use crate::fault;
+use crate::read::Certificate;
+use crate::rule::Judge;
+use crate::term::Term;
+
+pub fn judged(file: &[u8]) -> Result<(), u32> {
+    let mut certificate = Certificate::EMPTY;
+    certificate.read(file)?;
+    for block in certificate.blocks_of(2) {
+        if is_known_atom(&certificate, block) {
+            return Err(fault(9, block, 0));
+        }
+    }
+    let secrets = Family::of(&certificate.terms, certificate.blocks_of(2));
+    for block in certificate.blocks_of(2) {
+        if !is_closed(&certificate, &secrets, block) {
+            return Err(fault(10, block, 0));
+        }
+    }
+    for block in certificate.blocks_of(3) {
+        let key = number(certificate.term(block), 0);
+        let inverse = certificate.alphabet.inverse(key);
+        if !certificate.alphabet.is_secret(inverse) {
+            return Err(fault(11, block, 0));
+        }
+    }
+    rules(&certificate, &secrets)
+}
+
+fn rules(certificate: &Certificate, secrets: &Family) -> Result<(), u32> {
+    let mut judge = Judge::new(certificate, secrets);
+    for block in certificate.blocks_of(5) {
+        let premise = certificate.term(block);
+        if let Some(place) = judge.first_uncovered(premise, certificate.conclusion(block)) {
+            return Err(fault(12, block, premise.length + place));
+        }
+    }
+    Ok(())
+}
+
+/// The number of an atom or key.
+fn number(term: &Term, i: usize) -> usize {
+    term.symbol(i) as usize & 127
+}
+
+fn is_known_atom(certificate: &Certificate, block: usize) -> bool {
+    let secret = certificate.term(block);
+    secret.length == 1 && certificate.alphabet.is_known(number(secret, 0))
+}
+
+/// Weakly closed: a half of a pair, or the message or the key, is listed.
+fn is_closed(certificate: &Certificate, secrets: &Family, block: usize) -> bool {
+    let secret = certificate.term(block);
+    if secret.length == 1 {
+        return true;
+    }
+    let listed = |i| is_listed(certificate, secrets, secret, i);
+    let other = if secret.pairs & 1 == 1 {
+        listed(secret.end(1))
+    } else {
+        certificate.alphabet.is_secret(number(secret, 0))
+    };
+    other || listed(1)
+}
+
+fn is_listed(certificate: &Certificate, secrets: &Family, term: &Term, i: usize) -> bool {
+    if term.size(i) == 1 {
+        return term.secret_atoms >> i & 1 == 1 || certificate.alphabet.is_secret(number(term, i));
+    }
+    secrets
+        .with_root(term.symbol(i))
+        .any(|member| certificate.terms[secrets.slot(member)].subterm(0) == term.subterm(i))
+}

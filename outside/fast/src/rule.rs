@@ -1,0 +1,211 @@
+//! Number 12: the places of one rule, as sets of entries. What depends on a
+//! subterm alone is asked at most once for it, and only if a place below it
+//! still counts.
+
+use crate::family::Family;
+use crate::read::Certificate;
+use crate::term::{variable_bit, Bits, Term};
+use crate::unify::{have_solution, Room};
+use crate::walk::{instance, instance_without_variables, same_term, side_by_side, Meetings};
+
+pub struct Judge<'a> {
+    terms: &'a [Term; 128],
+    /// Secrets that are no atoms.
+    secrets: &'a Family,
+    goods: Family,
+    bads: Family,
+    work: Work,
+}
+
+/// Room for sharing tests.
+struct Work {
+    meetings: Meetings,
+    room: Room,
+}
+
+impl<'a> Judge<'a> {
+    pub fn new(certificate: &'a Certificate, secrets: &'a Family) -> Judge<'a> {
+        let terms = &certificate.terms;
+        Judge {
+            terms,
+            secrets,
+            goods: Family::of(terms, certificate.blocks_of(3)),
+            bads: Family::of(terms, certificate.blocks_of(4)),
+            work: Work {
+                meetings: Meetings::NONE,
+                room: Room::EMPTY,
+            },
+        }
+    }
+
+    /// The first risky place that is not covered; none if the rule is dead.
+    pub fn first_uncovered(&mut self, premise: &Term, conclusion: &Term) -> Option<usize> {
+        let nested = self.sharing_with_nested_secret(conclusion);
+        let mut risky = conclusion.variables | conclusion.secret_atoms | nested;
+        if premise.length > 0 && risky != 0 {
+            let secrets = premise.secret_atoms | self.nested_secrets(premise);
+            let same = variables_of_both(premise, conclusion) | twins(conclusion, nested, premise);
+            let open = self.open_places(premise, secrets | same);
+            if open & secrets != 0 {
+                return None;
+            }
+            risky &= !same_as_open(premise, open, conclusion, nested);
+        }
+        let uncovered = self.without_sure_hat(conclusion, risky);
+        (uncovered != 0).then_some(uncovered.trailing_zeros() as usize)
+    }
+
+    /// The places whose subterm shares an instance with a nested secret.
+    fn sharing_with_nested_secret(&self, conclusion: &Term) -> u64 {
+        self.with_nested_secret(conclusion, |i, secret| {
+            instance_without_variables(conclusion, i, secret)
+        })
+    }
+
+    /// The places where a nested secret itself stands.
+    fn nested_secrets(&self, premise: &Term) -> u64 {
+        self.with_nested_secret(premise, |i, secret| same_term(premise, i, secret))
+    }
+
+    /// The places that some nested secret answers for, by a test that tells
+    /// the secret's entry of a clash. No place is longer than its secret.
+    #[inline(always)]
+    fn with_nested_secret(
+        &self,
+        term: &Term,
+        test: impl Fn(usize, &Term) -> Result<(), usize>,
+    ) -> u64 {
+        let mut found = 0;
+        if self.secrets.longest == 0 {
+            return found;
+        }
+        for i in Bits(term.pairs | term.encryptions) {
+            if term.size(i) <= self.secrets.longest {
+                let yes = self.secrets.any(term.symbol(i), |member| {
+                    test(i, &self.terms[self.secrets.slot(member)])
+                });
+                found |= (yes as u64) << i;
+            }
+        }
+        found
+    }
+
+    /// Of these places of the premise, the open ones.
+    fn open_places(&mut self, premise: &Term, mut places: u64) -> u64 {
+        let mut encryptions = premise.encryptions;
+        while encryptions != 0 && places != 0 {
+            let i = encryptions.trailing_zeros() as usize;
+            encryptions &= encryptions - 1;
+            let below = premise.below(i);
+            if places & below != 0 && self.closes(premise, i) {
+                places &= !below;
+                encryptions &= !below;
+            }
+        }
+        places
+    }
+
+    fn closes(&mut self, premise: &Term, i: usize) -> bool {
+        let Judge {
+            terms,
+            goods,
+            bads,
+            work,
+            ..
+        } = self;
+        work.shares(terms, goods, premise, i)
+            && !bads.any(premise.symbol(i), |member| {
+                instance(&terms[bads.slot(member)], premise, i).map(|_| ())
+            })
+    }
+
+    /// Of these places of the conclusion, those without a sure hat.
+    fn without_sure_hat(&mut self, conclusion: &Term, mut places: u64) -> u64 {
+        let mut encryptions = conclusion.encryptions;
+        while encryptions != 0 && places != 0 {
+            let i = encryptions.trailing_zeros() as usize;
+            encryptions &= encryptions - 1;
+            if places & conclusion.below(i) == 0 {
+                continue;
+            }
+            let marked = self.marked_by_goods(conclusion, i);
+            let Judge {
+                terms, bads, work, ..
+            } = self;
+            if places & marked != 0 && !work.shares(terms, bads, conclusion, i) {
+                places &= !marked;
+            }
+        }
+        places
+    }
+
+    /// The places at or below a mark of a good pattern that matches.
+    fn marked_by_goods(&self, conclusion: &Term, i: usize) -> u64 {
+        let mut all = 0;
+        self.goods.any(conclusion.symbol(i), |member| {
+            let marked = instance(&self.terms[self.goods.slot(member)], conclusion, i)?;
+            all |= marked;
+            Err(usize::MAX)
+        });
+        all
+    }
+}
+
+impl Work {
+    /// The subterm at `i` shares an instance with some member.
+    fn shares(&mut self, terms: &[Term; 128], family: &Family, term: &Term, i: usize) -> bool {
+        family.any(term.symbol(i), |member| {
+            let pattern = &terms[family.slot(member)];
+            side_by_side(term, i, pattern, &mut self.meetings)?;
+            let apart = !self.meetings.repeated;
+            if apart && (family.is_linear(member) || term.is_linear(i))
+                || have_solution(term, pattern, &self.meetings, &mut self.room)
+            {
+                Ok(())
+            } else {
+                Err(usize::MAX)
+            }
+        })
+    }
+}
+
+/// The set of the variables at these places.
+fn variables_at(term: &Term, places: u64) -> u32 {
+    Bits(term.variables & places).fold(0, |set, i| set | variable_bit(term.symbol(i)))
+}
+
+/// The places of these variables.
+fn places_of(term: &Term, variables: u32) -> u64 {
+    Bits(term.variables).fold(0, |places, i| {
+        let here = variable_bit(term.symbol(i)) & variables != 0;
+        places | (here as u64) << i
+    })
+}
+
+fn variables_of_both(premise: &Term, conclusion: &Term) -> u64 {
+    places_of(premise, variables_at(conclusion, u64::MAX))
+}
+
+/// The places of `other` with the same subterm as one of these places.
+fn twins(term: &Term, places: u64, other: &Term) -> u64 {
+    let nested = other.pairs | other.encryptions;
+    Bits(places).fold(0, |found, i| found | twins_of(term, i, other, nested))
+}
+
+/// Of these places of `other`, those with the same subterm.
+fn twins_of(term: &Term, i: usize, other: &Term, places: u64) -> u64 {
+    Bits(places)
+        .filter(|j| other.size(*j) == term.size(i) && other.subterm(*j) == term.subterm(i))
+        .fold(0, |found, j| found | 1 << j)
+}
+
+/// The places of the conclusion whose subterm stands at one of these places
+/// of the premise: any variable, and the nested ones asked for.
+fn same_as_open(premise: &Term, open: u64, conclusion: &Term, nested: u64) -> u64 {
+    let mut covered = places_of(conclusion, variables_at(premise, open));
+    for i in Bits(nested) {
+        let stands = twins_of(conclusion, i, premise, open) != 0;
+        covered |= (stands as u64) << i;
+    }
+    covered
+}

@@ -1,0 +1,209 @@
+//! A term as its entries: symbols in order, where each subterm ends, and sets
+//! of entries as bits.
+
+use crate::alphabet::*;
+
+/// Padded, so that four symbols can be read from any entry on.
+const SYMBOLS: usize = 68;
+
+#[derive(Clone, Copy)]
+pub struct Term {
+    symbols: [Symbol; SYMBOLS],
+    ends: [u8; 64],
+    pub length: usize,
+    pub variables: u64,
+    pub encryptions: u64,
+    pub pairs: u64,
+    pub secret_atoms: u64,
+}
+
+/// The entries from `from` up to but not including `to`.
+pub fn span(from: usize, to: usize) -> u64 {
+    (1 << to) - (1 << from)
+}
+
+/// The numbers of the bits that are set, rising.
+pub struct Bits(pub u64);
+
+impl Iterator for Bits {
+    type Item = usize;
+
+    #[inline(always)]
+    fn next(&mut self) -> Option<usize> {
+        if self.0 == 0 {
+            return None;
+        }
+        let lowest = self.0.trailing_zeros() as usize;
+        self.0 &= self.0 - 1;
+        Some(lowest)
+    }
+}
+
+const fn leaf_ends() -> [u8; 64] {
+    let mut ends = [0; 64];
+    let mut i = 0;
+    while i < 64 {
+        ends[i] = i as u8 + 1;
+        i += 1;
+    }
+    ends
+}
+
+/// What each entry is and where it is allowed, a byte for each, in eights.
+struct Marks([u64; 8]);
+
+impl Term {
+    pub const EMPTY: Term = Term {
+        symbols: [0; SYMBOLS],
+        ends: leaf_ends(),
+        length: 0,
+        variables: 0,
+        encryptions: 0,
+        pairs: 0,
+        secret_atoms: 0,
+    };
+
+    /// Reads the first `length` entries, none of which has a bit set that none
+    /// may have: are all allowed at this place? Symbols behind them are never
+    /// looked at.
+    pub fn read(
+        &mut self,
+        room: &[u32; 64],
+        length: usize,
+        alphabet: &Alphabet,
+        place: u32,
+    ) -> bool {
+        if length == 0 {
+            return true;
+        }
+        for (symbol, entry) in self.symbols.iter_mut().zip(room) {
+            *symbol = symbol_of(*entry);
+        }
+        let mut marks = Marks([0; 8]);
+        for (eight, symbols) in marks.0.iter_mut().zip(self.symbols.chunks_exact(8)) {
+            for (i, symbol) in symbols.iter().enumerate() {
+                *eight |= (alphabet.marks(*symbol) as u64) << (8 * i);
+            }
+        }
+        let used = span(0, length);
+        self.length = length;
+        self.variables = used & marks.entries_with(VARIABLE);
+        self.encryptions = used & marks.entries_with(ENCRYPTION);
+        self.pairs = used & marks.entries_with(IS_PAIR);
+        self.secret_atoms = used & marks.entries_with(SECRET_ATOM);
+        self.find_ends();
+        used & !marks.entries_with(place) == 0
+    }
+
+    /// The entries are exactly one term.
+    pub fn is_whole(&self) -> bool {
+        self.length > 0 && self.end(0) == self.length
+    }
+
+    /// Where pairs and encryptions end, from the last to the first. `later`
+    /// holds the starts of the finished terms behind the one that follows, and
+    /// the end: a leaf puts one more before them, a pair takes one away.
+    fn find_ends(&mut self) {
+        let mut later = 0u64;
+        let mut reached = 1u64 << self.length;
+        for from_last in Bits((self.pairs | self.encryptions).reverse_bits()) {
+            let i = 63 - from_last;
+            let bit = 1u64 << i;
+            // All entries from here to the one reached are leaves.
+            later |= (reached << 1).wrapping_sub(bit << 2);
+            later &= later.wrapping_sub(self.pairs >> i & 1);
+            self.ends[i] = later.trailing_zeros() as u8;
+            reached = bit;
+        }
+    }
+
+    /// Its variables become a pattern's, and an end is put behind it.
+    pub fn make_pattern(&mut self) {
+        for i in Bits(self.variables) {
+            self.symbols[i] += PATTERN_VARIABLE;
+        }
+        self.put_end();
+    }
+
+    /// A symbol that no term has, right after the last one.
+    pub fn put_end(&mut self) {
+        self.symbols[self.length] = Symbol::MAX;
+    }
+
+    #[inline(always)]
+    pub fn symbol(&self, i: usize) -> Symbol {
+        self.symbols[i & 63]
+    }
+
+    /// Four symbols from `i` on.
+    #[inline(always)]
+    pub fn four(&self, i: usize) -> u64 {
+        let i = i & 63;
+        let four: &[Symbol; 4] = self.symbols[i..i + 4].try_into().expect("four");
+        let [a, b, c, d] = four.map(u64::from);
+        a | b << 16 | c << 32 | d << 48
+    }
+
+    /// Where the subterm that starts at `i` ends.
+    #[inline(always)]
+    pub fn end(&self, i: usize) -> usize {
+        self.ends[i & 63] as usize
+    }
+
+    /// The entries strictly below `i`.
+    pub fn below(&self, i: usize) -> u64 {
+        span(i + 1, self.end(i))
+    }
+
+    pub fn size(&self, i: usize) -> usize {
+        self.end(i) - i
+    }
+
+    /// The symbols of the subterm at `i`; equal symbols are equal terms.
+    #[inline(always)]
+    pub fn subterm(&self, i: usize) -> &[Symbol] {
+        &self.symbols[i..self.end(i)]
+    }
+
+    /// No variable occurs twice in the subterm at `i`.
+    pub fn is_linear(&self, i: usize) -> bool {
+        let mut seen = 0u32;
+        for at in Bits(self.variables & span(i, self.end(i))) {
+            let bit = variable_bit(self.symbol(at));
+            if seen & bit != 0 {
+                return false;
+            }
+            seen |= bit;
+        }
+        true
+    }
+}
+
+/// Rule variables 0 to 7, then plain and marked ones of a pattern.
+#[inline(always)]
+pub fn variable_number(symbol: Symbol) -> usize {
+    let kind = (symbol - FIRST_VARIABLE) >> 7;
+    (8 * kind + (symbol & 7)) as usize
+}
+
+#[inline(always)]
+pub fn variable_bit(symbol: Symbol) -> u32 {
+    1 << variable_number(symbol)
+}
+
+pub fn is_marked(symbol: Symbol) -> bool {
+    symbol >> 7 == 6
+}
+
+impl Marks {
+    /// Bit `mark` of each byte, gathered.
+    #[inline(always)]
+    fn entries_with(&self, mark: u32) -> u64 {
+        let mut found = 0;
+        for (i, eight) in self.0.iter().enumerate() {
+            let bits = eight >> mark & 0x0101_0101_0101_0101;
+            found |= (bits.wrapping_mul(0x0102_0408_1020_4080) >> 56) << (8 * i);
+        }
+        found
+    }
+}
