@@ -1,5 +1,5 @@
-// Whether every way down over the classes comes to an end: at once, if no variable stands for a pair or an encryption;
-// else nodes are marked whose children have all ended, sweep by sweep, until nothing changes.
+// Whether every way down over the classes comes to an end: at once, if only one side's variables stand for pairs or
+// encryptions, all of the other side; else nodes are marked whose children have all ended, sweep by sweep, until nothing changes.
 use crate::node::first_child;
 use crate::node::node_tag;
 use crate::node::second_child;
@@ -13,7 +13,7 @@ ghost use Rattle.terms.specs.Graph.{Valid, Respects, Classes, Finite};
 ghost use Rattle.terms.specs.TermGraph.{TwoTerms, nodeOf};
 ghost use Rattle.terms.specs.Names.{nameOf};
 ghost use Rattle.terms.specs.Ending.{isMarked, endedAt, Readiness, Sound, StuckFrom, zeros};
-ghost use Rattle.terms.specs.Flat.{OwnFrom, LeavesFrom};
+ghost use Rattle.terms.specs.Flat.{EachFrom, Own, Leaf, BoundTo};
 
 // The class of node i is known to end.
 fn ended(c: &[u8; 256], done: &[u8; 128], i: usize) -> bool
@@ -105,7 +105,7 @@ fn differs(name: u8, k: usize) -> u8
 // How many nodes from `low` up to `high` are in another node's class. The loop has no branch.
 fn moved(c: &[u8; 256], low: usize, high: usize) -> u8
     requires { ⌜ (length (now c) ≡ 256) × (low ≤ high) × (high ≤ 256) × (high ≤ low + 128) ⌝ }
-    ensures { λ r. ⌜ (r ≡ 0 → OwnFrom (now (c .entry)) low high) ⌝ }
+    ensures { λ r. ⌜ (r ≡ 0 → EachFrom (Own (now (c .entry))) low high) ⌝ }
 {
     let mut n = 0u8;
     let mut k = low;
@@ -116,18 +116,26 @@ fn moved(c: &[u8; 256], low: usize, high: usize) -> u8
     n
 }
 
-// Every variable is free, or stands for a node without children.
-fn are_leaves(s: &[u8], t: &[u8], c: &[u8; 256]) -> bool
-    requires { ⌜ length (now c) ≡ 256 ⌝ }
-    ensures { λ r. ⌜ (r ≡ true → LeavesFrom (now (s .entry)) (now (t .entry)) (now (c .entry)) 128 160) ⌝ }
+// The class of node k is named by a node without children.
+fn is_leaf(s: &[u8], t: &[u8], c: &[u8; 256], k: usize) -> bool
+    requires { ⌜ (length (now c) ≡ 256) × (k < 256) ⌝ }
+    ensures { λ r. ⌜ (r ≡ true → Leaf (now (s .entry)) (now (t .entry)) (now (c .entry)) k) ⌝ }
 {
-    let mut k = 128usize;
-    while k < 160 {
-        let tag = node_tag(s, t, wide(c[k]));
-        if tag == 2 {
-            return false;
-        }
-        if tag == 3 {
+    let tag = node_tag(s, t, wide(c[k]));
+    if tag == 2 {
+        return false;
+    }
+    tag != 3
+}
+
+// The 16 variables from node `low` on stand for nodes without children.
+fn are_leaves(s: &[u8], t: &[u8], c: &[u8; 256], low: usize) -> bool
+    requires { ⌜ (length (now c) ≡ 256) × (low ≤ 144) ⌝ }
+    ensures { λ r. ⌜ (r ≡ true → EachFrom (Leaf (now (s .entry)) (now (t .entry)) (now (c .entry))) low (low + 16)) ⌝ }
+{
+    let mut k = low;
+    while k < low + 16 {
+        if !is_leaf(s, t, c, k) {
             return false;
         }
         k += 1;
@@ -135,9 +143,41 @@ fn are_leaves(s: &[u8], t: &[u8], c: &[u8; 256]) -> bool
     true
 }
 
-// Entries are alone in their classes, and variables stand for nodes without children: every way down ends at once.
+// Node k stands for an entry of the side that begins at node `side`, or for a node without children.
+fn is_bound(s: &[u8], t: &[u8], c: &[u8; 256], k: usize, side: usize) -> bool
+    requires { ⌜ (length (now c) ≡ 256) × (k < 256) × (side ≤ 64) ⌝ }
+    ensures { λ r. ⌜ (r ≡ true → BoundTo (now (s .entry)) (now (t .entry)) (now (c .entry)) side k) ⌝ }
+{
+    let name = wide(c[k]);
+    if name < side {
+        return is_leaf(s, t, c, k);
+    }
+    if side + 64 <= name {
+        return is_leaf(s, t, c, k);
+    }
+    true
+}
+
+// The 16 variables from node `low` on stand for entries of the side that begins at node `side`, or for nodes without
+// children.
+fn are_bound(s: &[u8], t: &[u8], c: &[u8; 256], low: usize, side: usize) -> bool
+    requires { ⌜ (length (now c) ≡ 256) × (low ≤ 144) × (side ≤ 64) ⌝ }
+    ensures { λ r. ⌜ (r ≡ true → EachFrom (BoundTo (now (s .entry)) (now (t .entry)) (now (c .entry)) side) low (low + 16)) ⌝ }
+{
+    let mut k = low;
+    while k < low + 16 {
+        if !is_bound(s, t, c, k, side) {
+            return false;
+        }
+        k += 1;
+    }
+    true
+}
+
+// Entries are alone in their classes, and only one side's variables stand for pairs or encryptions, all of the other
+// side: every way down ends.
 fn is_flat(s: &[u8], t: &[u8], c: &[u8; 256]) -> bool
-    requires { ⌜ length (now c) ≡ 256 ⌝ }
+    requires { ⌜ TwoTerms (now s) (now t) × (length (now c) ≡ 256) ⌝ }
     ensures { λ r. ⌜ (r ≡ true → (i : ℕ) → Finite (nodeOf (now (s .entry)) (now (t .entry))) (nameOf (now (c .entry))) i) ⌝ }
 {
     if moved(c, 0, 128) != 0 {
@@ -146,7 +186,13 @@ fn is_flat(s: &[u8], t: &[u8], c: &[u8; 256]) -> bool
     if moved(c, 160, 256) != 0 {
         return false;
     }
-    are_leaves(s, t, c)
+    if are_leaves(s, t, c, 144) {
+        are_bound(s, t, c, 128, 64)
+    } else if are_leaves(s, t, c, 128) {
+        are_bound(s, t, c, 144, 0)
+    } else {
+        false
+    }
 }
 
 // Every way down over the classes ends; or no valid valuation respects them.
