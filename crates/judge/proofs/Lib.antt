@@ -20,6 +20,7 @@ pub mod Printing
 pub mod LayoutLaws
 pub mod ListedLaws
 pub mod Listing
+pub mod Roots
 pub mod Numbers
 pub mod Flags
 pub mod Marks

@@ -3,18 +3,18 @@ use mathlib.Core.Path.{_≡_}
 use mathlib.Core.Bool.{Bool, true, false}
 use mathlib.Core.List.{List, [], map, List·Memᴰ}
 use mathlib.Core.Option.{Option, none, some}
-use Prim.Native.Nat.{ℕ, zero, suc, _<_, _≤_}
-use lib.ListN.{length}
+use Prim.Native.Nat.{ℕ, zero, suc, _%_, _<_, _≤_}
+use lib.ListN.{length, getD}
 use Rattle.blocks.specs.Block.{blockAt, kindOf, firstEntries}
 use Rattle.terms.specs.Term.{Term, Variable, asTerm, replace}
 use Rattle.terms.specs.Instance.{Matches, Share}
-use Rattle.terms.specs.Entry.{Begins}
+use Rattle.terms.specs.Entry.{Begins, tagAt, valueAt}
 use Rattle.terms.specs.Search.{dec-map, any?}
 use Rattle.terms.specs.declared.valid.Found.{Found}
 use Rattle.terms.specs.declared.valid.Found.the-variants.{At, Nothing}
 use Rattle.judge.specs.declared.verdict.Fault.{Fault}
 use Rattle.judge.specs.Certificate.{Certificate}
-use Rattle.judge.specs.File.{patternOf}
+use Rattle.judge.specs.File.{patternOf, blockCount}
 use Rattle.judge.specs.Laid.{Laid}
 use Rattle.judge.specs.Decisions.{same-term?, matches?, shares?}
 
@@ -75,6 +75,26 @@ pub record Searching (file : List ℕ) (kind : ℕ) (e : List ℕ) : Type 0 wher
   pub high : kind ≤ 4
   pub term : Begins e
   pub short : length e ≤ 252
+
+-- The root of e's term is flagged, by the low byte of its value: equal roots have equal flags.
+abbrev pub FlaggedAt : List ℕ → List ℕ → Type 0
+FlaggedAt roots e = getD roots (valueAt e % 256) 0 ≡ 1
+
+-- Flags stay, and the root of block i's term is flagged if it is a secret's.
+pub record FlaggedMore (file : List ℕ) (i : ℕ) (old new : List ℕ) : Type 0 where
+  pub long : length new ≡ 256
+  pub kept : (k : ℕ) → getD old k 0 ≡ 1 → getD new k 0 ≡ 1
+  pub here : kindOf (blockAt file i) ≡ 2 → FlaggedAt new (firstEntries (blockAt file i))
+
+-- The root of every secret is flagged.
+pub record RootsOf (file roots : List ℕ) : Type 0 where
+  pub long : length roots ≡ 256
+  pub flagged : (i : ℕ) → i < blockCount file → kindOf (blockAt file i) ≡ 2 → FlaggedAt roots (firstEntries (blockAt file i))
+
+-- The term that e begins with has a symbol as its root, and no secret has that root.
+pub record NoRoot (roots e : List ℕ) : Type 0 where
+  pub symbol : tagAt e ≤ 3
+  pub absent : getD roots (valueAt e % 256) 0 ≡ 0
 
 -- The entries are those of the term of block i.
 pub record TermPart (file : List ℕ) (i : ℕ) (e : List ℕ) : Type 0 where

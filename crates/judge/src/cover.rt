@@ -10,7 +10,7 @@ ghost use Rattle.judge.specs.File.{blockCount, certificateOf, ruleOf};
 ghost use Rattle.judge.specs.Laid.{Laid, RuleBlock};
 ghost use Rattle.judge.specs.Cover.{NoHat, Risky};
 ghost use Rattle.judge.specs.Verdict as verdicts;
-ghost use Rattle.judge.specs.Listed.{HoldsAt, AnyListed, Searching, IsSecret};
+ghost use Rattle.judge.specs.Listed.{HoldsAt, AnyListed, Searching, IsSecret, RootsOf};
 ghost use Rattle.judge.specs.CoverEntries.{subAt, Painted, Raised, MarkOver, Laying, Standing, HatOver, HatBelow, Flags};
 ghost use Rattle.judge.specs.CoverEntries.{Entries, OpenBelow, OpenEntry, Opened, OpenWith, SomeOpen, ClosedBelow, FineEntry, Judging};
 use crate::listed;
@@ -159,25 +159,30 @@ fn open_places(file: &[u8], e: &[u8]) -> [u8; 64]
 }
 
 // Is entry k open, and a listed secret there?
-fn secret_at(file: &[u8], e: &[u8], opened: &[u8; 64], k: usize) -> bool
-    requires { ⌜ Laid (now file) × Opened (now e) (now opened) × (4 * k < length (now e)) ⌝ }
+fn secret_at(file: &[u8], roots: &[u8; 256], e: &[u8], opened: &[u8; 64], k: usize) -> bool
+    requires { ⌜ Laid (now file) × Opened (now e) (now opened) × (4 * k < length (now e)) × RootsOf (now file) (now roots) ⌝ }
     ensures { λ r. ⌜ Says r (OpenWith (now (e .entry)) (now (opened .entry)) (IsSecret (certificateOf (now (file .entry)))) k) ⌝ }
 {
     if opened[k] == 1 {
-        listed::is_listed_secret(file, &e[4 * k..])
+        let t = &e[4 * k..];
+        if listed::may_be_secret(roots, t) {
+            listed::is_listed_secret(file, t)
+        } else {
+            false
+        }
     } else {
         false
     }
 }
 
 // Does a listed secret stand at an open entry?
-fn is_dead(file: &[u8], e: &[u8], opened: &[u8; 64]) -> bool
-    requires { ⌜ Laid (now file) × Opened (now e) (now opened) ⌝ }
+fn is_dead(file: &[u8], roots: &[u8; 256], e: &[u8], opened: &[u8; 64]) -> bool
+    requires { ⌜ Laid (now file) × Opened (now e) (now opened) × RootsOf (now file) (now roots) ⌝ }
     ensures { λ r. ⌜ Says r (SomeOpen (now (e .entry)) (now (opened .entry)) (IsSecret (certificateOf (now (file .entry))))) ⌝ }
 {
     let mut k = 0;
     while 4 * k < e.len() {
-        if secret_at(file, e, opened, k) {
+        if secret_at(file, roots, e, opened, k) {
             return true;
         }
         k += 1;
@@ -213,34 +218,37 @@ fn stands_open(e: &[u8], opened: &[u8; 64], t: &[u8]) -> bool
 }
 
 // Is the term a variable, or does it share an instance with a secret?
-fn is_risky(file: &[u8], t: &[u8]) -> bool
-    requires { ⌜ Searching (now file) 2 (now t) ⌝ }
+fn is_risky(file: &[u8], roots: &[u8; 256], t: &[u8]) -> bool
+    requires { ⌜ Searching (now file) 2 (now t) × RootsOf (now file) (now roots) ⌝ }
     ensures { λ r. ⌜ Says r (Risky (certificateOf (now (file .entry))) (termOf (now (t .entry)))) ⌝ }
 {
     if t[0] > 3 {
         true
-    } else {
+    } else if listed::may_be_secret(roots, t) {
         listed::shares_listed(file, 2, t)
+    } else {
+        false
     }
 }
 
 // Is entry k of the conclusion covered if it is risky?
 fn is_fine(
     file: &[u8],
+    roots: &[u8; 256],
     premise: &[u8],
     opened: &[u8; 64],
     conclusion: &[u8],
     cover: &[u8; 64],
     k: usize,
 ) -> bool
-    requires { ⌜ Judging (now file) (now premise) (now opened) (now conclusion) (now cover) × (4 * k < length (now conclusion)) ⌝ }
+    requires { ⌜ Judging (now file) (now premise) (now opened) (now conclusion) (now cover) × (4 * k < length (now conclusion)) × RootsOf (now file) (now roots) ⌝ }
     ensures { λ r. ⌜ Says r (FineEntry (certificateOf (now (file .entry))) (now (premise .entry)) (now (opened .entry)) (now (conclusion .entry)) (now (cover .entry)) k) ⌝ }
 {
     if cover[k] == 1 {
         return true;
     }
     let t = &conclusion[4 * k..];
-    if is_risky(file, t) {
+    if is_risky(file, roots, t) {
         stands_open(premise, opened, t)
     } else {
         true
@@ -250,19 +258,20 @@ fn is_fine(
 // The first entry of the conclusion that is risky and not covered.
 fn first_uncovered(
     file: &[u8],
+    roots: &[u8; 256],
     premise: &[u8],
     opened: &[u8; 64],
     conclusion: &[u8],
     cover: &[u8; 64],
 ) -> Found
-    requires { ⌜ Judging (now file) (now premise) (now opened) (now conclusion) (now cover) ⌝ }
+    requires { ⌜ Judging (now file) (now premise) (now opened) (now conclusion) (now cover) × RootsOf (now file) (now roots) ⌝ }
     ensures { λ r. ⌜ FirstNot (FineEntry (certificateOf (now (file .entry))) (now (premise .entry)) (now (opened .entry)) (now (conclusion .entry)) (now (cover .entry)))
         (size (termOf (now (conclusion .entry)))) r ⌝ }
 {
     let count = entry::term_size(conclusion);
     let mut k = 0;
     while k < count {
-        if !is_fine(file, premise, opened, conclusion, cover, k) {
+        if !is_fine(file, roots, premise, opened, conclusion, cover, k) {
             return Found::At(k);
         }
         k += 1;
@@ -270,17 +279,18 @@ fn first_uncovered(
     Found::Nothing
 }
 
-// The first place of a rule's conclusion that is risky and not covered; nothing where the rule is dead.
-pub fn uncovered(file: &[u8], block: &[u8]) -> Found
-    requires { ⌜ Laid (now file) × RuleBlock (now block) ⌝ }
+// The first place of a rule's conclusion that is risky and not covered; nothing where the rule is dead. The roots of the
+// secrets are flagged once for all rules.
+pub fn uncovered(file: &[u8], roots: &[u8; 256], block: &[u8]) -> Found
+    requires { ⌜ Laid (now file) × RuleBlock (now block) × RootsOf (now file) (now roots) ⌝ }
     ensures { λ r. ⌜ r ≡ verdicts.uncovered (certificateOf (now (file .entry))) (ruleOf (now (block .entry))) ⌝ }
 {
     let premise = blocks::first_entries(block);
     let opened = open_places(file, premise);
-    if is_dead(file, premise, &opened) {
+    if is_dead(file, roots, premise, &opened) {
         return Found::Nothing;
     }
     let conclusion = blocks::second_entries(block);
     let cover = sure_hats(file, conclusion);
-    first_uncovered(file, premise, &opened, conclusion, &cover)
+    first_uncovered(file, roots, premise, &opened, conclusion, &cover)
 }

@@ -4,6 +4,7 @@ ghost use Prim.Native.Nat.{_<_};
 ghost use Rattle.judge.specs.File.{blockCount, certificateOf};
 ghost use Rattle.judge.specs.Laid.{Laid};
 ghost use Rattle.judge.specs.Judgement.{judgedOf, OnlyRulesFrom, Heads};
+ghost use Rattle.judge.specs.Listed.{RootsOf};
 ghost use Rattle.judge.specs.Verdict.{onKind, openRule, ruleFault, certificateFault, faultOf, verdictOf};
 use crate::cover;
 use crate::layout;
@@ -30,15 +31,15 @@ fn leading(file: &[u8]) -> usize
 
 // Number 12 at block i, if it is a rule: its first place that is risky and not covered. What the file lists is read from
 // its head.
-fn open_rule(file: &[u8], head: &[u8], i: usize) -> Judged
-    requires { ⌜ Laid (now file) × (i < blockCount (now file)) × Heads (now head) (now file) ⌝ }
+fn open_rule(file: &[u8], head: &[u8], roots: &[u8; 256], i: usize) -> Judged
+    requires { ⌜ Laid (now file) × (i < blockCount (now file)) × Heads (now head) (now file) × RootsOf (now head) (now roots) ⌝ }
     ensures { λ r. ⌜ r ≡ judgedOf (onKind 5 (openRule (certificateOf (now (file .entry)))) (now (file .entry)) i) ⌝ }
 {
     let block = blocks::block(file, i);
     if blocks::kind(block) != 5 {
         return Judged::Fine;
     }
-    match cover::uncovered(head, block) {
+    match cover::uncovered(head, roots, block) {
         Found::At(k) => Judged::Faulty(Fault::Uncovered(
             i as u8,
             (blocks::first_count(block) + k) as u8,
@@ -54,10 +55,11 @@ fn rule_fault(file: &[u8]) -> Judged
 {
     let n = leading(file);
     let head = &file[0..512 * n];
+    let roots = listed::secret_roots(head);
     let count = file.len() / 512;
     let mut i = 0;
     while i < count {
-        match open_rule(file, head, i) {
+        match open_rule(file, head, &roots, i) {
             Judged::Faulty(f) => return Judged::Faulty(f),
             Judged::Fine => i += 1,
         }

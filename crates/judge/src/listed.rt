@@ -1,10 +1,12 @@
 // Searches through the blocks of one kind, each a part of the file, and numbers 9, 10 and 11.
 ghost use mathlib.Core.Path.{_≡_};
+ghost use mathlib.Core.Bool.{false};
 ghost use Prim.Native.Nat.{_*_, _<_, _≤_};
+ghost use lib.ListN.{length};
 ghost use Rattle.blocks.specs.Block.{blockAt, kindOf, firstEntries};
 ghost use Rattle.terms.specs.Term.{Message, atom, asTerm};
 ghost use Rattle.terms.specs.Instance.{Matches, Share};
-ghost use Rattle.terms.specs.Entry.{termOf};
+ghost use Rattle.terms.specs.Entry.{Begins, termOf};
 ghost use Rattle.terms.specs.OneTerm.{IsEncryption};
 ghost use Rattle.terms.specs.Solve.{Says};
 ghost use Rattle.terms.specs.Decide.{answer};
@@ -14,6 +16,7 @@ ghost use Rattle.judge.specs.Laid.{Laid, TermBlock};
 ghost use Rattle.judge.specs.Conditions.{KnownAtom, WeaklyClosed, KeptKey};
 ghost use Rattle.judge.specs.Verdict.{onKind, knownSecret, openSecret, looseKey, knownFault, closedFault, keyFault};
 ghost use Rattle.judge.specs.Listed.{HoldsAt, Searching, TermPart, matches-listed?, shares-listed?, is-secret?, faultIf, faultFound, Inside};
+ghost use Rattle.judge.specs.Listed.{FlaggedMore, RootsOf, NoRoot};
 ghost use Rattle.judge.specs.declared.verdict.Fault.the-variants.{KnownSecret, NotClosed, KeyNotKept};
 use terms::entry;
 use terms::matching;
@@ -121,6 +124,43 @@ pub fn is_listed_secret(file: &[u8], e: &[u8]) -> bool
         i += 1;
     }
     false
+}
+
+// Flags the root of block i's term, if it is a secret's.
+fn flag_root(file: &[u8], i: usize, roots: &mut [u8; 256])
+    requires { ⌜ Laid (now file) × (i < blockCount (now file)) × (length (now roots) ≡ 256) ⌝ }
+    ensures { λ _. ⌜ FlaggedMore (now (file .entry)) i (now (roots .entry)) (now (roots .exit)) ⌝ }
+{
+    if is_kind(file, i, 2) {
+        let n = entry::value(term_at(file, i)) % 256;
+        roots[n] = 1;
+    }
+}
+
+// The roots of all secrets, flagged.
+pub fn secret_roots(file: &[u8]) -> [u8; 256]
+    requires { ⌜ Laid (now file) ⌝ }
+    ensures { λ r. ⌜ RootsOf (now (file .entry)) r ⌝ }
+{
+    let mut roots = [0u8; 256];
+    let count = file.len() / 512;
+    let mut i = 0;
+    while i < count {
+        flag_root(file, i, &mut roots);
+        i += 1;
+    }
+    roots
+}
+
+// Might a secret have the root of the term that e begins with? If not, it is no secret and shares an instance with none.
+pub fn may_be_secret(roots: &[u8; 256], e: &[u8]) -> bool
+    requires { ⌜ (length (now roots) ≡ 256) × Begins (now e) ⌝ }
+    ensures { λ r. ⌜ (r ≡ false → NoRoot (now (roots .entry)) (now (e .entry))) ⌝ }
+{
+    if 3 < e[0] {
+        return true;
+    }
+    roots[entry::value(e) % 256] != 0
 }
 
 // Is this atom a listed secret?

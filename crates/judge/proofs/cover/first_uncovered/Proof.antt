@@ -14,16 +14,16 @@ use Rattle.judge.proofs.cover.first_uncovered.Statement.{statement}
 use Rattle.judge.proofs.cover.first_uncovered.Tie as tie
 
 abbrev Inv-loop : tie.InvT-loop
-Inv-loop file premise opened conclusion cover count k₀ k = (k ≤ size (termOf conclusion)) × ((j : ℕ) → j < k → FineEntry (certificateOf file) premise opened conclusion cover j)
+Inv-loop file roots premise opened conclusion cover count k₀ k = (k ≤ size (termOf conclusion)) × ((j : ℕ) → j < k → FineEntry (certificateOf file) premise opened conclusion cover j)
 
 abbrev μ-loop : tie.MeasureT-loop
-μ-loop file premise opened conclusion cover count k₀ k = size (termOf conclusion) - k
+μ-loop file roots premise opened conclusion cover count k₀ k = size (termOf conclusion) - k
 
 pub first-uncovered-spec : {M : Type 1} → statement M
 first-uncovered-spec = tie.close (tie.spec Inv-loop μ-loop
     (λ c κs. search needs)  -- term-size-requires
     (λ c. (search needs, below-none _))  -- loop-holds
-    (λ c κs. (c .before .before .before .before .before .before .pre, conclusion-inside (c .before .before .before .before .before .before .pre .term) (search needs)))  -- is-fine-requires
+    (λ c κs. let pre = c .before .before .before .before .before .before .pre in (pre .0, conclusion-inside (pre .0 .term) (search needs), pre .1))  -- is-fine-requires
     (λ c. (let b = c .before .is-fine in fails refl (search needs) (says-no (b .result) (b .ensures) (not-true (b .result) (c .if1 .taken))) (c .before .before .before .loop .inv .1)))  -- returns
     (λ c. search needs)  -- add-k
     (λ c. search needs)  -- loop-less

@@ -11,10 +11,10 @@ use Rattle.judge.proofs.cover.is_dead.Statement.{statement}
 use Rattle.judge.proofs.cover.is_dead.Tie as tie
 
 abbrev Inv-loop : tie.InvT-loop
-Inv-loop file e opened k₀ k = (k ≤ 63) × ((j : ℕ) → j < k → ¬ OpenWith e opened (IsSecret (certificateOf file)) j)
+Inv-loop file roots e opened k₀ k = (k ≤ 63) × ((j : ℕ) → j < k → ¬ OpenWith e opened (IsSecret (certificateOf file)) j)
 
 abbrev μ-loop : tie.MeasureT-loop
-μ-loop file e opened k₀ k = length e - k
+μ-loop file roots e opened k₀ k = length e - k
 
 pub is-dead-spec : {M : Type 1} → statement M
 is-dead-spec = tie.close (tie.spec Inv-loop μ-loop

@@ -1,14 +1,24 @@
-use borrow.Author.Needs.{needs}
+-- `judge::cover::is_risky` meets its contract. Assumes nothing.
+use mathlib.Core.Bool.{false}
 use Rattle.judge.specs.Listed.{shares-listed?}
 use Rattle.judge.proofs.ListedLaws.{answer-says}
 use Rattle.judge.proofs.Covers.{risky-variable, risky-secret}
+use Rattle.judge.proofs.Roots.{no-root-shares}
+use borrow.Author.Needs.{needs}
 use Rattle.judge.proofs.cover.is_risky.Statement.{statement}
 use Rattle.judge.proofs.cover.is_risky.Tie as tie
 
 pub is-risky-spec : {M : Type 1} → statement M
 is-risky-spec = tie.close (tie.spec
     (λ c. search needs)  -- shared-slice-read-if1
+    (λ c κs. let pre = c .before .before .before .before .pre in (pre .1 .long, pre .0 .term))  -- may-be-secret-requires
     (λ c κs. search needs)  -- shares-listed-requires
-    (λ c. risky-variable _ (c .before .before .before .before .pre .term) (c .if1 .taken))  -- returns
-    (λ c. risky-secret _ (c .before .before .before .before .before .pre .term) (c .before .if1 .left) (c .shares-listed .result) (answer-says (c .shares-listed .result) (shares-listed? _ _ _) (c .shares-listed .ensures)))  -- returns-2
+    (λ c. risky-variable _ (c .before .before .before .before .pre .0 .term) (c .if1 .taken))  -- returns
+    (λ c.
+    risky-secret _ (c .before .before .before .before .before .before .before .pre .0 .term) (c .before .before .before .if1 .left) (c .shares-listed .result)
+    (answer-says (c .shares-listed .result) (shares-listed? _ _ _) (c .shares-listed .ensures)))  -- returns-2
+    (λ c.
+    let pre = c .before .before .before .before .before .before .pre in
+    risky-secret _ (pre .0 .term) (c .before .before .if1 .left) false
+    (no-root-shares (pre .0 .laid) (pre .1) (pre .0 .term) (c .before .may-be-secret .ensures (c .if2 .left))))  -- returns-3
     )

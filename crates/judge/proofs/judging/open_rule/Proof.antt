@@ -23,7 +23,7 @@ open-rule-spec = tie.close (tie.spec
     (λ c. open-other _ _ _ (c .before .before .block .ensures .0) (c .before .kind .ensures) (c .if1 .taken))  -- returns
     (λ c κs.
     let pre = c .before .before .before .before .before .pre in
-    (pre .2 .laid, rule-at (pre .0) (pre .1) (c .before .before .block .ensures .0) (c .before .kind .ensures) (c .if1 .left)))  -- uncovered-requires
+    (pre .2 .laid, rule-at (pre .0) (pre .1) (c .before .before .block .ensures .0) (c .before .kind .ensures) (c .if1 .left), pre .3))  -- uncovered-requires
     (λ c. search needs)  -- enum-known-k
     (λ c. let few = c .before .before .before .before .before .before .before .before .before .pre .0 .few in search needs)  -- cast-t10
     (λ c κs. search needs)  -- first-count-requires

@@ -11,12 +11,12 @@ use Rattle.judge.proofs.judging.rule_fault.Statement.{statement}
 use Rattle.judge.proofs.judging.rule_fault.Tie as tie
 
 abbrev Inv-loop : tie.InvT-loop
-Inv-loop file n head count i₀ i =
+Inv-loop file n head roots count i₀ i =
     (i ≤ blockCount file)
     × (firstFault (onKind 5 (openRule (certificateOf file)) file) i (blockCount file - i) ≡ ruleFault (certificateOf file) file)
 
 abbrev μ-loop : tie.MeasureT-loop
-μ-loop file n head count i₀ i = blockCount file - i
+μ-loop file n head roots count i₀ i = blockCount file - i
 
 pub rule-fault-spec : {M : Type 1} → statement M
 rule-fault-spec = tie.close (tie.spec Inv-loop μ-loop
@@ -25,15 +25,17 @@ rule-fault-spec = tie.close (tie.spec Inv-loop μ-loop
     (λ c. search needs)  -- sub-head
     (λ c. search needs)  -- part-head-start
     (λ c. let laid = c .before .before .pre in let inside = c .leading .ensures .inside in search needs)  -- part-head-end
+    (λ c κs. heads (c .before .before .before .pre) (c .before .leading .ensures) .laid)  -- secret-roots-requires
     (λ c. (search needs, rule-start _ _))  -- loop-holds
     (λ c κs.
-    let led = c .before .before .before in
+    let flagged = c .before .before .before in
+    let led = flagged .before .before in
     let laid = led .before .before .pre in
-    (laid, c .loop-test .taken, heads laid (led .leading .ensures)))  -- open-rule-requires
+    (laid, c .before .loop-test .taken, heads laid (led .leading .ensures), flagged .secret-roots .ensures))  -- open-rule-requires
     (λ c. search needs)  -- enum-known-f
     (λ c.
     let at = c .before .before .before in
-    judged-some (sym (at .before .before .loop .inv .1) ∙ first-stop _ _ _ (at .before .loop-test .taken)
+    judged-some (sym (at .before .before .before .loop .inv .1) ∙ first-stop _ _ _ (at .before .before .loop-test .taken)
     (faulty-some _ (at .open-rule .ensures) (c .before .f .given .1))))  -- returns
     (λ c. search needs)  -- enum-told
     (λ c. search needs)  -- add-i
@@ -41,6 +43,6 @@ rule-fault-spec = tie.close (tie.spec Inv-loop μ-loop
     (λ c.
     let at = c .before .before in
     let fine = fine-none _ (at .open-rule .ensures) (c .enum-told .given .1) in
-    (search needs, first-more _ _ _ (at .before .loop-test .taken) fine ∙ at .before .before .loop .inv .1))  -- loop-again
+    (search needs, first-more _ _ _ (at .before .before .loop-test .taken) fine ∙ at .before .before .before .loop .inv .1))  -- loop-again
     (λ c. judged-none (sym (c .before .loop .inv .1) ∙ first-end _ _ _ (c .loop-test .left)))  -- returns-2
     )
