@@ -21,8 +21,8 @@ pub data CountsRight (kind first second : ℕ) : Type 0 where
 abbrev pub unusedFrom : List ℕ → ℕ
 unusedFrom b = 4 + 4 * (firstCount b + secondCount b)
 
--- The layout of a block is right: 512 bytes, counts that its kind allows, "byte 3 zero", and of the entries in bytes 4 to
--- 507 "unused ones are zero".
+-- The layout of a block is right: 512 bytes, counts that its kind allows, "byte 3 zero", and of the entries in bytes 4
+-- to 507 "unused ones are zero".
 pub record LayoutRight (b : List ℕ) : Type 0 where
   pub size : length b ≡ 512
   pub counts : CountsRight (kindOf b) (firstCount b) (secondCount b)

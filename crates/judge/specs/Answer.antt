@@ -1,5 +1,5 @@
--- What is made of a verdict: its number, block and place, the packed answer, the refused part and the tally (document 01,
--- "Verdicts").
+-- What is made of a verdict: its number, block and place, the packed answer, the refused part and the tally (document
+-- 01, "Verdicts").
 use mathlib.Core.Bool.{cond}
 use mathlib.Core.List.{List, []}
 use Prim.Native.Nat.{ℕ, _+_, _*_}

@@ -1,4 +1,4 @@
--- Certificates, as the file's blocks are read (document 01, "Blocks of 512 bytes").
+-- Certificates: what a file lists (document 01, "Messages, intruder, runs" and "Blocks of 512 bytes").
 use mathlib.Core.Path.{_≡_}
 use mathlib.Core.List.{List, List·Memᴰ}
 use mathlib.Core.Option.{Option}
@@ -7,7 +7,7 @@ use Prim.Native.Nat.{ℕ, _<_}
 use Rattle.terms.specs.Term.{Term, Message, Variable}
 use Rattle.terms.specs.Atom.{Atom, knownOf, partnerOf}
 
--- A rule: from the premise, if it has one, to the conclusion.
+-- A rule: from the premise, if it has one, to the conclusion. Both speak of the same variables.
 pub record Rule : Type 0 where
   pub premise : Option (Term Variable)
   pub conclusion : Term Variable
@@ -19,7 +19,8 @@ pub record Certificate : Type 0 where
   pub bads : List (Term Variable)
   pub rules : List Rule
 
--- A listed secret, good pattern, bad pattern, rule.
+-- A listed secret, good pattern, bad pattern, rule. That "a good pattern is an encryption with plain and marked
+-- variables; a bad pattern is one with plain variables only" is what numbers 7 and 8 ask of their blocks.
 abbrev pub Secret : Certificate → Message → Type 0
 Secret certificate m = List·Memᴰ m (certificate .secrets)
 

@@ -6,6 +6,6 @@ use Rattle.judge.specs.declared.checking.Checked.{Checked}
 use Rattle.judge.specs.Verdict.{verdictOf}
 use Rattle.judge.specs.Answer.{talliedOf}
 
--- "Each check takes a tally by value and returns it with one of the two raised by 1."
+-- "Each check takes a tally (accepted, refused, 32 bits each) by value and returns it with one of the two raised by 1."
 abbrev pub checkedOf : List ℕ → Tally → Checked
 checkedOf file t = record { verdict = verdictOf file; tally = talliedOf t (verdictOf file) }

@@ -12,7 +12,7 @@ pub record KnownAtom (certificate : Certificate) (secret : Message) : Type 0 whe
   pub same : secret ≡ atom number
   pub known : Known certificate number
 
--- 10: a secret is weakly closed. With a pair, one half is listed; with {m}k, m or k is.
+-- 10: a secret is weakly closed. "With a pair, one half is listed; with {m}k, m or k is": the key itself, no inverse.
 pub record WeaklyClosed (certificate : Certificate) (secret : Message) : Type 0 where
   pub ofPair : (m n : Message) → secret ≡ pair m n → Secret certificate m ⊎ Secret certificate n
   pub ofEncrypted : (m : Message) (k : ℕ) → secret ≡ encrypted k m → Secret certificate m ⊎ Secret certificate (atom k)

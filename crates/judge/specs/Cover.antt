@@ -27,7 +27,8 @@ pub data NoHat (certificate : Certificate) (t : Term Variable) : Type 0 where
   sharesNoGood : ((good : Term Variable) → Good certificate good → Share good t → ⊥) → NoHat certificate t
   isBad : {bad : Term Variable} → Bad certificate bad → Matches bad t → NoHat certificate t
 
--- Open place of a premise: every encryption strictly above it is such a one.
+-- Open place of a premise: every encryption strictly above it either shares an instance with no good pattern, or is a
+-- bad pattern with its variables replaced by terms. (`AtOpenPlace` says that the premise has the place.)
 pub record Open (certificate : Certificate) (premise : Term Variable) (p : Place) : Type 0 where
   pub every : (q : Place) → StrictlyAbove q p → (k : ℕ) (t : Term Variable) →
       subtermAt q premise ≡ some (encrypted k t) → NoHat certificate (encrypted k t)
@@ -40,13 +41,13 @@ pub record AtOpenPlace (certificate : Certificate) (rule : Rule) (t : Term Varia
   pub stands : subtermAt place premise ≡ some t
   pub isOpen : Open certificate premise place
 
--- Risky place of a conclusion: a variable, or a subterm that shares an instance with a secret.
+-- Risky place of a conclusion: a variable, or a subterm that shares an instance with a secret; t is what stands there.
 pub data Risky (certificate : Certificate) (t : Term Variable) : Type 0 where
   isVariable : {x : Variable} → t ≡ variable x → Risky certificate t
   sharesSecret : {secret : Message} → Secret certificate secret → Share t secret → Risky certificate t
 
 -- Covered: there is a sure hat for the place, or the same subterm, symbol for symbol, stands at an open place of the
--- premise.
+-- premise. The place is p, and t is the subterm that stands there in the conclusion.
 pub data Covered (certificate : Certificate) (rule : Rule) (p : Place) (t : Term Variable) : Type 0 where
   sureHat : SureHat certificate (rule .conclusion) p → Covered certificate rule p t
   inPremise : AtOpenPlace certificate rule t → Covered certificate rule p t

@@ -33,12 +33,13 @@ ofKind kind (b ∷ l) = elim (eqb (kindOf b) kind) [ true ↦ b ∷ ofKind kind 
 unfoldable pub patternOf : List ℕ → Term Variable
 patternOf b = termOf (firstEntries b)
 
--- The secret of a block of kind 2. Secrets have no variables, so it is the only instance of its term.
+-- The secret of a block of kind 2. Secrets have no variables, so it is the only instance of its term, and the same term
+-- (`secret-term` of proofs/Listing.antt); what the variables would be replaced by does not matter.
 unfoldable pub secretOf : List ℕ → Message
 unfolding patternOf
 secretOf b = instance (λ x. atom 0) (patternOf b)
 
--- The rule of a block of kind 5: from its premise, if it has one, to its conclusion.
+-- The rule of a block of kind 5: from its premise to its conclusion. A premise of no entries is none.
 abbrev premiseBy : Bool → Term Variable → Option (Term Variable)
 premiseBy true t = none
 premiseBy false t = some t

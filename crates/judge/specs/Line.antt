@@ -39,8 +39,8 @@ unfoldable pub readFrom : ℕ → List ℕ → ℕ
 readFrom v [] = v
 readFrom v (d ∷ l) = readFrom (v * 10 + (d - 48)) l
 
--- A text is n in decimal: bytes "0" to "9" that read as n, "without leading zeros". (`decimal` of proofs/Digits.antt says
--- it of `digitsOf`.)
+-- A text is n in decimal: bytes "0" to "9" that read as n, "without leading zeros". (`decimal` of proofs/Digits.antt
+-- says it of `digitsOf`.)
 pub record Decimal (n : ℕ) (l : List ℕ) : Type 0 where
   pub digits : (i : ℕ) → i < length l → (48 ≤ getD l i 0) × (getD l i 0 ≤ 57)
   pub reads : readFrom 0 l ≡ n
@@ -94,8 +94,8 @@ pub record Put (buffer : List ℕ) (at : ℕ) (t : List ℕ) (after : List ℕ) 
 abbrev pub holdsLine : Verdict → List ℕ → Bool
 holdsLine v buffer = leb (length (lineOf v)) (length buffer)
 
--- "A printing call that succeeds answers so, with the count of bytes written: the line's length"; else number 14, "line
--- buffer shorter than the line".
+-- "A sealing or printing call that succeeds answers so, with the count of bytes written: 4, or the line's length"; else
+-- number 14, "line buffer shorter than the line".
 unfoldable pub printing : Verdict → List ℕ → Writing
 printing v buffer = cond (holdsLine v buffer) (Wrote (length (lineOf v))) ShortBuffer
 

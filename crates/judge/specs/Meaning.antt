@@ -114,7 +114,8 @@ Before n kind file P = (i : ℕ) → i < n → kindOf (blockAt file i) ≡ kind 
 abbrev pub Every : ℕ → List ℕ → (List ℕ → Type 0) → Type 0
 Every kind file P = Before (blockCount file) kind file P
 
--- 9, 10, 11, 12 of a block.
+-- What 9, 10, 11 and 12 ask of a block: its secret is no known atom, and is weakly closed; of its good pattern, the
+-- inverse of the root key is a listed secret; its rule passes.
 abbrev pub Unknown : Certificate → List ℕ → Type 0
 Unknown certificate b = ¬ KnownAtom certificate (secretOf b)
 
@@ -127,7 +128,8 @@ Kept certificate b = KeptKey certificate (patternOf b)
 abbrev pub Passing : Certificate → List ℕ → Type 0
 Passing certificate b = Passes certificate (ruleOf b)
 
--- The first uncovered place of a rule that is not dead: place k of the conclusion, in the order of the entries.
+-- The first uncovered place of a rule that is not dead: place k of the conclusion, in the order of the entries. (It is
+-- where entry k stands: `spot-entry` of proofs/Spots.antt.)
 pub record FirstUncovered (certificate : Certificate) (rule : Rule) (k : ℕ) : Type 0 where
   pub alive : ¬ Dead certificate rule
   pub inside : k < size (rule .conclusion)

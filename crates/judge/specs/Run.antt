@@ -35,13 +35,14 @@ pub data Enabled {certificate : Certificate} (has : Message → Type 0) (step : 
   derivable : {premise : Term Variable} → step .rule .premise ≡ some premise →
       Derives certificate has (instance (step .by) premise) → Enabled has step
 
--- What the intruder has after a step: what it had, and the conclusion's instance if the step is enabled.
+-- What the intruder has after a step: what it had, and the conclusion's instance if the step is enabled; otherwise it
+-- stays as it was. Nothing but the steps adds to it.
 pub data AfterStep {certificate : Certificate} (has : Message → Type 0) (step : Step certificate) (m : Message)
     : Type 0 where
   kept : has m → AfterStep has step m
   added : Enabled has step → m ≡ instance (step .by) (step .rule .conclusion) → AfterStep has step m
 
--- A run is a list of steps, in order: each finds what the one before left.
+-- A run is a list of steps, empty or of any length, in order: each finds what the one before left.
 unfoldable pub afterFrom : {certificate : Certificate} → (Message → Type 0) → List (Step certificate) → Message → Type 0
 afterFrom has [] = has
 afterFrom has (step ∷ steps) = afterFrom (AfterStep has step) steps

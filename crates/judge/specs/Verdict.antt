@@ -1,5 +1,6 @@
--- The verdict of a file (document 01, "Verdicts"), in the order "1; per block in file order 2, 3, 5, 6 or 7, 8; then 4;
--- then 9, 10, 11, 12, each over all blocks in file order". `none` is: no fault here.
+-- The verdict of a file (document 01, "Verdicts"), in the order "1; per block in file order 2, 3, 5, 6 or 7, 8 (entries
+-- rising, premise before conclusion); then 4; then 9, 10, 11, 12, each over all blocks in file order". `none` is: no
+-- fault here.
 use mathlib.Core.Bool.{Bool, true, false, _&&_}
 use mathlib.Core.List.{List, []}
 use mathlib.Core.Option.{Option, none, some}
@@ -51,7 +52,7 @@ kindRight file (suc i) =
 unfoldable pub fileAtoms : List ℕ → List Atom
 fileAtoms file = atomsOf (firstEntries (blockAt file 0))
 
--- The entries in use.
+-- The entries in use; in a rule, the premise's and then the conclusion's.
 unfoldable pub usedEntries : List ℕ → List ℕ
 usedEntries b = take (4 * (firstCount b + secondCount b)) (entriesOf b)
 

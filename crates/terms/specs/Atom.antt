@@ -86,12 +86,12 @@ pub data PartnerRight (atoms : List Atom) (n : ℕ) : Type 0 where
   privateKey : kindOf atoms n ≡ 4 → NamedBack atoms n 3 → PartnerRight atoms n
   symmetricKey : kindOf atoms n ≡ 5 → partnerOf atoms n ≡ n → PartnerRight atoms n
 
--- Number 6: the atom entry is right; known is 0 or 1.
+-- Number 6: the atom entry is right: known is 0 or 1, and the kind, one of 1 to 5, has the partner that it asks for.
 pub record AtomRight (atoms : List Atom) (n : ℕ) : Type 0 where
   pub known : knownOf atoms n ≤ 1
   pub partner : PartnerRight atoms n
 
--- Decided by the kind.
+-- The same, decided by the kind.
 module _ (atoms : List Atom) (n : ℕ) where
   -- What an entry of this kind has to have.
   unfoldable pub Wanted : ℕ → Type 0

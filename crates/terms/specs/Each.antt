@@ -15,7 +15,7 @@ pub data Each (P : ℕ → ℕ → ℕ → Type 0) : List ℕ → Type 0 where
   one-more : {tag zeroByte low high : ℕ} {rest : List ℕ} → P tag zeroByte (low + 256 * high) → Each P rest
       → Each P (tag ∷ zeroByte ∷ low ∷ high ∷ rest)
 
--- P of entry n.
+-- P holds of entry n: of its tag, its second byte and its value.
 abbrev pub EntryIs : (ℕ → ℕ → ℕ → Type 0) → List ℕ → ℕ → Type 0
 EntryIs P e n = P (tagAt (drop (4 * n) e)) (getD (drop (4 * n) e) 1 0) (valueAt (drop (4 * n) e))
 

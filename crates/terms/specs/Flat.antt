@@ -1,5 +1,5 @@
--- Classes in which only one side's variables stand for pairs or encryptions, all of the other side: every way down goes to
--- later entries, at most once over to the other side, and ends.
+-- Classes in which only one side's variables stand for pairs or encryptions, all of the other side: every way down goes
+-- to later entries, at most once over to the other side, and ends.
 use mathlib.Core.Path.{_≡_, refl, sym, ap, _∙_, subst}
 use mathlib.Core.Bool.{true, not}
 use mathlib.Core.List.{List}

@@ -1,9 +1,9 @@
--- Instances, patterns with their variables replaced, and shared instances.
+-- Patterns with their variables replaced by terms, instances, and shared instances (document 01, "Hats and cover").
 use mathlib.Core.Path.{_≡_}
 use Rattle.terms.specs.Term.{Term, Message, replace}
 
 -- The term is the pattern with its variables replaced by terms. Where the term is a message, it is an instance of the
--- pattern.
+-- pattern. "Pattern and rule variables are always different variables": the term's own are not replaced.
 pub record Matches {X Y : Type 0} (pattern : Term X) (term : Term Y) : Type 0 where
   pub by : X → Term Y
   pub same : replace by pattern ≡ term

@@ -19,7 +19,7 @@ Numbered (atom a) = Unit {0}
 Numbered (pair t u) = Numbered t × Numbered u
 Numbered (encrypted k t) = Numbered t
 
--- The entries are exactly one term: parents before children, left before right.
+-- Number 8: the entries are exactly one term, "parents before children, left before right".
 pub record OneTerm (e : List ℕ) : Type 0 where
   pub term : Term Variable
   pub numbers : Numbered term
@@ -149,7 +149,7 @@ unfoldable pub oneTerm? : (e : List ℕ) → Dec (OneTerm e)
 unfolding oneOf termsOf beforeAll before withZero symbolOf
 oneTerm? e = oneOf e (termsOf e) refl
 
--- The root is an encryption.
+-- Number 8: a pattern's root is an encryption.
 pub record IsEncryption {X : Type 0} (t : Term X) : Type 0 where
   pub key : ℕ
   pub content : Term X

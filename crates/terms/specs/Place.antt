@@ -1,4 +1,5 @@
--- Places (document 01: "A place is a subterm's spot. The key of an encryption is no place").
+-- Places (document 01, "Messages, intruder, runs"): "A place is a subterm's spot. The key of an encryption is no place"
+-- (the paper's non-critical position).
 use mathlib.Core.Path.{_≡_}
 use mathlib.Core.List.{List, [], _∷_, _++_}
 use mathlib.Core.Option.{Option, none, some}

@@ -3,7 +3,8 @@ use mathlib.Core.Path.{_≡_}
 use Prim.Native.Nat.{ℕ, _≤_}
 
 -- A term over the variables X: a variable, an atom by its number, a pair (t, u), or {t}k, t encrypted under the key
--- atom k. A wider key (any number may stand there) only makes what is proved of runs stronger.
+-- atom k. Any number may stand as an atom or as a key: that only makes what is proved of runs stronger, and changes no
+-- answer on shared instances (`built-answer` of Proper.antt).
 pub data Term (X : Type 0) : Type 0 where
   variable : X → Term X
   atom : ℕ → Term X
@@ -11,7 +12,7 @@ pub data Term (X : Type 0) : Type 0 where
   encrypted : ℕ → Term X → Term X
   deriving Discrete as Term-discrete
 
--- A message is a term that holds no variable.
+-- A message is an atom, a pair (m, n), or {m}k: a term that holds no variable. Terms and messages are finite.
 abbrev pub Message : Type 0
 Message = Term ⊥
 
@@ -32,7 +33,7 @@ replace by (atom a) = atom a
 replace by (pair t u) = pair (replace by t) (replace by u)
 replace by (encrypted k t) = encrypted k (replace by t)
 
--- An instance replaces each variable by a finite message.
+-- An instance replaces each variable by a finite message, the same one at all its occurrences.
 abbrev pub instance : {X : Type 0} → (X → Message) → Term X → Message
 instance by t = replace by t
 

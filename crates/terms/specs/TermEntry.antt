@@ -25,7 +25,7 @@ pub record EntryRight (atoms : List Atom) (kind tag zeroByte value : ℕ) : Type
   pub blank : zeroByte ≡ 0
   pub tagged : TagRight atoms kind tag value
 
--- Decided by the tag.
+-- The same, decided by the tag.
 module _ (atoms : List Atom) (kind value : ℕ) where
   -- What an entry of this tag has to have.
   unfoldable pub Asked : ℕ → Type 0

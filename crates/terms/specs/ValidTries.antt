@@ -20,7 +20,8 @@ atoms-are-right : wrongAtom (atomsOf atoms) ≡ Nothing
 unfolding wrongAtom atomsOf atoms entry
 atoms-are-right = refl
 
--- Not named back: a fault of its own entry. A partner's wrong known byte is the partner's fault. A symmetric key names itself.
+-- Not named back: a fault of its own entry. A partner's wrong known byte is the partner's fault. A symmetric key names
+-- itself.
 not-back : wrongAtom (atomsOf (entry 3 1 1 ++ (entry 4 0 2 ++ entry 3 0 1))) ≡ At 0
 unfolding wrongAtom atomsOf entry
 not-back = refl
