@@ -32,7 +32,7 @@ use Rattle.judge.specs.Verdict.{uncovered, openRule, knownFault, closedF
 use Rattle.judge.specs.Verdict.{lengthFault, layoutFrom, layoutFault, faultOf, countsOf, verdictOf, blockFault}
 use Rattle.judge.specs.Meaning.{LengthRight, BlockRight, BlockFaulty, HasKind, Formed, Every, Unknown, Closed, Kept, Passing}
 use Rattle.judge.specs.Meaning.{FirstUncovered, Accepts, FirstAt, Faulty, lengthFails, blockFails, missing, secretKnown}
-use Rattle.judge.specs.Meaning.{secretOpen, keyOpen, placeOpen}
+use Rattle.judge.specs.Meaning.{secretNotClosed, keyNotKept, placeUncovered}
 use Rattle.judge.proofs.Exact.{Exact, found-none, found-some, reworded, tested, either, then, FirstPlace, at, first-place}
 use Rattle.judge.proofs.Exact.{FirstBlock, at-block, first-block, says-decided, says-le, says-both}
 use Rattle.judge.proofs.Judged.{length-judged, block-judged}
@@ -229,9 +229,9 @@ module _ (file : List ℕ) where
 
       judged-to : (g : Fault) → Formed file → JudgedWrong (certificateOf file) file g → Faulty file g
       judged-to g f (inl (kind-wrong a w)) = secretKnown (w .0) f a (w .1)
-      judged-to g f (inr (u, inl (kind-wrong a w))) = secretOpen (w .0) f u a
-      judged-to g f (inr (u, inr (c, inl (kind-wrong a w)))) = keyOpen (w .0) f u c a
-      judged-to g f (inr (u, inr (c, inr (k, kind-wrong a w)))) = placeOpen (w .1) f u c k a (w .2)
+      judged-to g f (inr (u, inl (kind-wrong a w))) = secretNotClosed (w .0) f u a
+      judged-to g f (inr (u, inr (c, inl (kind-wrong a w)))) = keyNotKept (w .0) f u c a
+      judged-to g f (inr (u, inr (c, inr (k, kind-wrong a w)))) = placeUncovered (w .1) f u c k a (w .2)
 
       wrong-to : (g : Fault) → Wrong g → Faulty file g
       wrong-to g (inl w) = lengthFails (w .0) (w .1)
@@ -247,9 +247,9 @@ module _ (file : List ℕ) where
       wrong-back g (blockFails {i} l h all w) = inr (l, inl (at-block {i = i} (omega arith) (omega arith) (λ j a p. all j p) w))
       wrong-back g (missing e l b n) = inr (l, inr (b, inl (e, n)))
       wrong-back g (secretKnown e f a k) = later-on g f (inl (kind-wrong a (e, k)))
-      wrong-back g (secretOpen e f u a) = later-on g f (inr (u, inl (kind-wrong a (e, a .fails))))
-      wrong-back g (keyOpen e f u c a) = later-on g f (inr (u, inr (c, inl (kind-wrong a (e, a .fails)))))
-      wrong-back g (placeOpen {k = n} e f u c k a w) = later-on g f (inr (u, inr (c, inr (k, kind-wrong a (n, e, w)))))
+      wrong-back g (secretNotClosed e f u a) = later-on g f (inr (u, inl (kind-wrong a (e, a .fails))))
+      wrong-back g (keyNotKept e f u c a) = later-on g f (inr (u, inr (c, inl (kind-wrong a (e, a .fails)))))
+      wrong-back g (placeUncovered {k = n} e f u c k a w) = later-on g f (inr (u, inr (c, inr (k, kind-wrong a (n, e, w)))))
 
   -- Accepted, with the file's own counts, if and only if every condition holds.
   pub accepted-iff : (counts : Counts) → (verdictOf file ≡ Accepted counts) ↔ (Accepts file × (counts ≡ countsOf file))

@@ -166,13 +166,13 @@ pub data Faulty (file : List ℕ) (fault : Fault) : Type 0 where
   secretKnown : {i : ℕ} → fault ≡ KnownSecret i → Formed file → FirstAt i 2 file (Unknown (certificateOf file))
       → KnownAtom (certificateOf file) (secretOf (blockAt file i)) → Faulty file fault
   -- 10
-  secretOpen : {i : ℕ} → fault ≡ NotClosed i → Formed file → Every 2 file (Unknown (certificateOf file))
+  secretNotClosed : {i : ℕ} → fault ≡ NotClosed i → Formed file → Every 2 file (Unknown (certificateOf file))
       → FirstAt i 2 file (Closed (certificateOf file)) → Faulty file fault
   -- 11
-  keyOpen : {i : ℕ} → fault ≡ KeyNotKept i → Formed file → Every 2 file (Unknown (certificateOf file))
+  keyNotKept : {i : ℕ} → fault ≡ KeyNotKept i → Formed file → Every 2 file (Unknown (certificateOf file))
       → Every 2 file (Closed (certificateOf file)) → FirstAt i 3 file (Kept (certificateOf file)) → Faulty file fault
   -- 12: the place is the entry's number in the block.
-  placeOpen : {i k : ℕ} → fault ≡ Uncovered i (firstCount (blockAt file i) + k) → Formed file
+  placeUncovered : {i k : ℕ} → fault ≡ Uncovered i (firstCount (blockAt file i) + k) → Formed file
       → Every 2 file (Unknown (certificateOf file)) → Every 2 file (Closed (certificateOf file))
       → Every 3 file (Kept (certificateOf file)) → FirstAt i 5 file (Passing (certificateOf file))
       → FirstUncovered (certificateOf file) (ruleOf (blockAt file i)) k → Faulty file fault
