@@ -1,22 +1,24 @@
 -- What is known of a block's term after numbers 7 and 8.
 use mathlib.Core.Path.{_≡_, refl, sym, ap, ap₂, _∙_}
 use mathlib.Core.Bool.{Bool, true, false}
-use mathlib.Core.Logic.{_↔_, ⊎-elim}
+use mathlib.Core.Logic.{_↔_, _⊎_, inl, inr, ⊎-elim}
 use mathlib.Core.List.{List, [], _∷_, _++_, append-assoc, append-nil}
 use mathlib.Core.Option.{some}
 use Prim.Native.Nat.{ℕ, _+_, _*_, _/_, _%_, _<_}
 use native.Mathlib.Omega.{arith}
+use native.Mathlib.Decide.{decLt, decLe}
 use lib.Dec.{ltb}
 use borrow.Author.Tests.{lt-ltb, ltb-true}
 use lib.ListN.{length, getD}
 use Rattle.terms.specs.declared.valid.Found.the-variants.{Nothing}
-use Rattle.terms.specs.Term.{Term, Variable, Message, variable, atom, pair, encrypted, plain, marked, replace, asTerm}
+use Rattle.terms.specs.Term.{Term, Variable, Message, Foreign, variable, atom, pair, encrypted, plain, marked, replace, asTerm}
 use Rattle.terms.specs.Occurs.{Occurs}
-use Rattle.terms.specs.Proper.{Built}
+use Rattle.terms.specs.Instance.{Share}
+use Rattle.terms.specs.Proper.{Built, BuiltShare, built-share}
 use Rattle.terms.specs.Entry.{Symbol, atomSymbol, pairSymbol, encryptionSymbol, variableSymbol, tagOf, valueOf, symbolOf, numbered, withZero, entryOf, entriesOf, termsOf, termOf, Reads, Begins}
 use Rattle.terms.specs.EntryLaws.{First, first-atom, first-pair, first-encrypted, first-plain, first-marked, first, none≢some, begins, termOf-reads}
 use Rattle.terms.specs.First.{first-none}
-use Rattle.terms.specs.Atom.{Atom, IsKey}
+use Rattle.terms.specs.Atom.{Atom, IsKey, isKey?}
 use Rattle.terms.specs.TermEntry.{TagRight, atomEntry, pairEntry, encryptionEntry, plainEntry, markedEntry, EntryRight, Asked, asked, rightAt?, wrongEntry}
 use Rattle.terms.specs.Each.{Each, none-left, one-more, each-of, each-map}
 use Rattle.terms.specs.OneTerm.{Numbered, OneTerm, HasSymbol, AllOf, never-empty, one-reads, reads-one}
@@ -137,11 +139,26 @@ no-mark not-good (encryptedRight i w) x o = no-mark not-good w x o
 no-mark not-good (plainRight l k) x o = let z : _≡_ {A = ℕ} 0 1 = cc in omega arith
 no-mark not-good (markedRight l k) x o = not-good k
 
--- Its atoms are listed, and its keys are keys.
-pub right-built : {atoms : List Atom} {kind : ℕ} {t : Term Variable} → TermRight atoms kind t → Built (λ a. a < length atoms) (IsKey atoms) t
+-- Messages over the listed and the foreign atoms alone, with listed keys alone: two right terms share an instance if and
+-- only if they share such a one, by such replacements.
+abbrev pub MessageAtom : List Atom → ℕ → Type 0
+MessageAtom atoms a = (a < length atoms) ⊎ Foreign a
+
+message-atom? : (atoms : List Atom) (a : ℕ) → Dec (MessageAtom atoms a)
+message-atom? atoms a = elim (decLt a (length atoms)) [
+  | yes l ↦ yes (inl l)
+  | no n ↦ elim (decLe 1000 a) [ yes h ↦ yes (inr h) | no m ↦ no (λ w. ⊎-elim n m w) ]
+]
+
+message-built : {atoms : List Atom} {kind : ℕ} {t : Term Variable} → TermRight atoms kind t → Built (MessageAtom atoms) (IsKey atoms) t
 unfolding Built
-right-built (atomRight l) = l
-right-built (pairRight w v) = (right-built w, right-built v)
-right-built (encryptedRight i w) = (i, right-built w)
-right-built (plainRight l k) = tt
-right-built (markedRight l k) = tt
+message-built (atomRight l) = inl l
+message-built (pairRight w v) = (message-built w, message-built v)
+message-built (encryptedRight i w) = (i, message-built w)
+message-built (plainRight l k) = tt
+message-built (markedRight l k) = tt
+
+pub message-share : {atoms : List Atom} {i j : ℕ} {s t : Term Variable} → TermRight atoms i s → TermRight atoms j t
+    → Share s t ↔ BuiltShare (MessageAtom atoms) (IsKey atoms) s t
+message-share {atoms} w v =
+    (built-share (message-atom? atoms) (isKey? atoms) 1000 (inr (omega arith)) (message-built w) (message-built v), λ b. b .share)
