@@ -207,8 +207,8 @@ rest-reads {e} {t} {l} r = go (first r)
     go (first-plain {m} g n q k) = (m, k)
     go (first-marked {m} g n q k) = (m, k)
 
--- Entries that are no terms at all are no entries.
-never-empty : (s : Option Symbol) (o : Option (List (Term Variable))) → beforeAll s o ≡ some [] → ⊥
+-- An entry makes at least one term.
+pub never-empty : (s : Option Symbol) (o : Option (List (Term Variable))) → beforeAll s o ≡ some [] → ⊥
 unfolding beforeAll before
 never-empty none o r = none≢some _ r
 never-empty (some s) none r = none≢some _ r
@@ -220,6 +220,7 @@ never-empty (some pairSymbol) (some (t ∷ u ∷ l)) r = let z : _≡_ {A = ℕ}
 never-empty (some (encryptionSymbol k)) (some []) r = none≢some _ r
 never-empty (some (encryptionSymbol k)) (some (t ∷ l)) r = let z : _≡_ {A = ℕ} 0 1 = cc in omega arith
 
+-- Entries that are no terms at all are no entries.
 no-terms : (e : List ℕ) → Reads e [] → 0 < length e → ⊥
 unfolding termsOf
 no-terms [] r h = omega arith

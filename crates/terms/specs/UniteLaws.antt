@@ -41,14 +41,14 @@ module _ (s t : List ℕ) where
   unfolding nodeOf
   is-symbol i f = symbol-node (nodeTag s t i) (nodeValue s t i) (firstChild s t i) (secondChild s t i) f
 
--- The form of a message, and the number in it.
-pub form : Message → ℕ
+-- The form of a message and the number in it: its root's tag and value as an entry.
+unfoldable pub form : Message → ℕ
 form (variable x) = 0
 form (atom a) = 1
 form (pair m n) = 2
 form (encrypted k m) = 3
 
-pub number : Message → ℕ
+unfoldable pub number : Message → ℕ
 number (variable x) = 0
 number (atom a) = a
 number (pair m n) = 0
