@@ -25,7 +25,7 @@ use Rattle.judge.specs.Cover.{SureHat, NoHat, sharesNoGood, isBad, Open,
 use Rattle.judge.specs.Decisions.{dead?}
 use Rattle.judge.specs.Verdict.{FineAt, fine?, uncovered}
 use Rattle.judge.specs.Judgement.{OnlyRulesFrom, Heads}
-use Rattle.judge.proofs.Listing.{BlockOf, block-listed, listed-block}
+use Rattle.judge.proofs.Members.{block-listed, listed-block}
 
 -- ---- what the judging of a rule asks of a certificate
 

@@ -9,7 +9,7 @@ use borrow.Rule.Slice.PartAt.{part-to-end}
 use lib.ListN.{length, drop, length-drop}
 use lib.Seq.{drop-drop}
 use Rattle.terms.specs.Term.{Term, Variable, variable, atom, pair, encrypted, plain, marked, replace}
-use Rattle.terms.specs.Place.{Place, left, right, inside, subtermAt, AtOrAbove}
+use Rattle.terms.specs.Place.{Turn, Place, left, right, inside, subtermAt, AtOrAbove}
 use Rattle.terms.specs.Instance.{Matches}
 use Rattle.terms.specs.Entry.{size, termOf, tagAt, valueAt, Reads, Begins}
 use Rattle.terms.specs.EntryLaws.{First, first-atom, first-pair, first-encrypted, first-plain, first-marked, first, termOf-reads, begins, fits}
@@ -68,19 +68,25 @@ module _ {h k : ℕ} where
       go (right ∷ p) e = Option·none-ne-some _ e
       go (inside ∷ p) e = Option·none-ne-some _ e
 
+  -- A mark one turn further down.
+  turned : (a : Turn) {at : ℕ} {good u below over : Term Variable} → ((p : Place) → subtermAt (a ∷ p) good ≡ subtermAt p below)
+      → ((p : Place) → subtermAt (a ∷ p) u ≡ subtermAt p over) → ((p : Place) → at + entryAt p over ≡ h + entryAt (a ∷ p) u)
+      → MarkOver below over at k → MarkOver good u h k
+  turned a {at} {good} {u} {below} {over} stands under number m = record {
+    number = m .number;
+    place = a ∷ m .place;
+    subterm = m .subterm;
+    stands = stands (m .place) ∙ m .stands;
+    under = under (m .place) ∙ m .under;
+    low = omega (arith, m .low, number (m .place));
+    high = omega (arith, m .high, number (m .place));
+  }
+
   pub mark-encrypted : (i j : ℕ) (a c : Term Variable) → MarkOver (encrypted i a) (encrypted j c) h k ↔ MarkOver a c (h + 1) k
   unfolding subtermAt entryAt
   mark-encrypted i j a c = (
     λ m. to (m .place) (m .stands) (m .under) (m .low) (m .high),
-    λ m. record {
-      number = m .number;
-      place = inside ∷ m .place;
-      subterm = m .subterm;
-      stands = m .stands;
-      under = m .under;
-      low = let l = m .low in omega arith;
-      high = let g = m .high in omega arith;
-    },
+    turned inside (λ p. refl) (λ p. refl) (λ p. omega arith),
   )
     where
       to : (p : Place) {n : ℕ} {s : Term Variable} → subtermAt p (encrypted i a) ≡ some (variable (marked n)) → subtermAt p (encrypted j c) ≡ some s
@@ -102,24 +108,8 @@ module _ {h k : ℕ} where
       to (right ∷ p) e f l g = inr (record { number = _; place = p; subterm = _; stands = e; under = f; low = omega arith; high = omega arith })
 
       back : MarkOver a c (h + 1) k ⊎ MarkOver b d (h + 1 + size c) k → MarkOver (pair a b) (pair c d) h k
-      back (inl m) = record {
-        number = m .number;
-        place = left ∷ m .place;
-        subterm = m .subterm;
-        stands = m .stands;
-        under = m .under;
-        low = let l = m .low in omega arith;
-        high = let g = m .high in omega arith;
-      }
-      back (inr m) = record {
-        number = m .number;
-        place = right ∷ m .place;
-        subterm = m .subterm;
-        stands = m .stands;
-        under = m .under;
-        low = let l = m .low in omega arith;
-        high = let g = m .high in omega arith;
-      }
+      back (inl m) = turned left (λ p. refl) (λ p. refl) (λ p. omega arith) m
+      back (inr m) = turned right (λ p. refl) (λ p. refl) (λ p. omega arith) m
 
 -- On the entries this is document 01's mark at or above the place.
 pub mark-place : {t u s good : Term Variable} {h k : ℕ} {q p : Place} → Placed t h q u → Placed t k p s → Matches good u → Mark good q p ↔ MarkOver good u h k

@@ -2,7 +2,7 @@ use borrow.Author.Needs.{needs}
 use Rattle.terms.specs.Decisions.{says-yes, says-no}
 use Rattle.judge.specs.File.{certificateOf}
 use Rattle.judge.specs.Verdict.{looseKey}
-use Rattle.judge.proofs.Listing.{term-block}
+use Rattle.judge.proofs.Listing.{block-there}
 use Rattle.judge.proofs.Numbers.{good-root, loose-fault, other-fault}
 use Rattle.judge.proofs.listed.loose_at.Statement.{statement}
 use Rattle.judge.proofs.listed.loose_at.Tie as tie
@@ -11,7 +11,7 @@ pub loose-at-spec : {M : Type 1} → statement M
 loose-at-spec = tie.close (tie.spec
     (λ c κs. search needs)  -- is-kind-requires
     (λ c κs. let s = c .before .before .before in let k = c .before .is-kind in
-    (s .pre .1, term-block (s .pre .0) (search needs) (search needs) (s .pre .1) (says-yes (k .result) (k .ensures) (c .if1 .taken))))  -- term-at-requires
+    block-there (s .pre .0) (search needs) (search needs) (s .pre .1) (k .result) (k .ensures) (c .if1 .taken))  -- term-at-requires
     (λ c κs. let s = c .before .before .before .before in let k = c .before .before .is-kind in let kind = says-yes (k .result) (k .ensures) (c .before .if1 .taken) in
     (search needs, good-root (c .term-at .ensures) (s .pre .0 .goods (s .args .i) (s .pre .1) kind)))  -- is-kept-requires
     (λ c. let s = c .before .before .before .before .before in let k = c .before .before .before .is-kind in let kind = says-yes (k .result) (k .ensures) (c .before .before .if1 .taken) in
