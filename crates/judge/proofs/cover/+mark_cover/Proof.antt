@@ -31,38 +31,62 @@ pub +mark-cover-spec : {M : Type 1} → statement M
     (λ c. search needs)  -- mark-cover-part-mark-cover-start
     (λ c. search needs)  -- mark-cover-part-mark-cover-end
     (λ c. search needs)  -- mark-cover-add-mark-cover
-    (λ c κs. let v = c .before .before in let l = v .before .before .before .before .pre .1 in let w = pair-laid (l .0) (v .if1 .taken) in (search needs, (left-laying (l .0) w, l .1)))  -- mark-cover-mark-cover-requires
+    (λ c κs. let v = c .before .before in let l = v .before .before .before .before .pre .1 in let w = pair-laid (l .0) (v .if1 .taken) in
+    (search needs, (left-laying (l .0) w, l .1)))  -- mark-cover-mark-cover-requires
     (λ c. search needs)  -- mark-cover-sub-term-size
     (λ c. search needs)  -- mark-cover-part-term-size-start
     (λ c. search needs)  -- mark-cover-part-term-size-end
-    (λ c κs. let v = c .before .before .before .before in let l = v .before .before .before .before .pre .1 in let w = pair-laid (l .0) (v .if1 .taken) in left-pattern (l .0) w)  -- mark-cover-term-size-requires
+    (λ c κs. let v = c .before .before .before .before in let l = v .before .before .before .before .pre .1 in
+    let w = pair-laid (l .0) (v .if1 .taken) in
+    left-pattern (l .0) w)  -- mark-cover-term-size-requires
     (λ c. search needs)  -- mark-cover-add-past
     (λ c. search needs)  -- mark-cover-add-right
     (λ c. search needs)  -- mark-cover-add-term-size
     (λ c. search needs)  -- mark-cover-mul-term-size
-    (λ c. let v = c .before .before .before .before .before in let l = v .before .before .before .before .pre .1 in let w = pair-laid (l .0) (v .if1 .taken) in left-within (l .0) w)  -- mark-cover-sub-term-size-2
-    (λ c. let v = c .before .before .before .before .before in let l = v .before .before .before .before .pre .1 in let w = pair-laid (l .0) (v .if1 .taken) in left-within (l .0) w)  -- mark-cover-part-term-size-start-2
+    (λ c. let v = c .before .before .before .before .before in let l = v .before .before .before .before .pre .1 in
+    let w = pair-laid (l .0) (v .if1 .taken) in
+    left-within (l .0) w)  -- mark-cover-sub-term-size-2
+    (λ c. let v = c .before .before .before .before .before in let l = v .before .before .before .before .pre .1 in
+    let w = pair-laid (l .0) (v .if1 .taken) in
+    left-within (l .0) w)  -- mark-cover-part-term-size-start-2
     (λ c. search needs)  -- mark-cover-part-term-size-end-2
-    (λ c κs. let v = c .before .before .before .before .before .before in let l = v .before .before .before .before .pre .1 in let w = pair-laid (l .0) (v .if1 .taken) in left-begins (l .0) w)  -- mark-cover-term-size-requires-2
+    (λ c κs. let v = c .before .before .before .before .before .before in let l = v .before .before .before .before .pre .1 in
+    let w = pair-laid (l .0) (v .if1 .taken) in
+    left-begins (l .0) w)  -- mark-cover-term-size-requires-2
     (λ c. search needs)  -- mark-cover-add-right-2
     (λ c. search needs)  -- mark-cover-mul-mark-cover
     (λ c. search needs)  -- mark-cover-sub-mark-cover-2
     (λ c. search needs)  -- mark-cover-part-mark-cover-start-2
     (λ c. search needs)  -- mark-cover-part-mark-cover-end-2
-    (λ c κs. let v = c .before .before .before .before .before .before .before .before .before in let l = v .before .before .before .before .pre .1 in let w = pair-laid (l .0) (v .if1 .taken) in (search needs, (right-laying (l .0) w (c .before .before .before .before .term-size .ensures .0) (c .before .before .term-size2 .ensures .0), c .before .before .before .before .before .before .mark-cover .ensures .long)))  -- mark-cover-mark-cover-requires-2
+    (λ c κs. let the-mark-cover = c .before .before .before .before .before .before .mark-cover in
+    let term-size = c .before .before .before .before .term-size in
+    let v = c .before .before .before .before .before .before .before .before .before in let l = v .before .before .before .before .pre .1 in
+    let w = pair-laid (l .0) (v .if1 .taken) in
+    (search needs, (right-laying (l .0) w (term-size .ensures .0) (c .before .before .term-size2 .ensures .0), the-mark-cover .ensures .long)))  -- mark-cover-mark-cover-requires-2
     (λ c. search needs)  -- mark-cover-sub-mark-cover-3
     (λ c. search needs)  -- mark-cover-part-mark-cover-start-3
     (λ c. search needs)  -- mark-cover-part-mark-cover-end-3
     (λ c. search needs)  -- mark-cover-add-mark-cover-2
-    (λ c κs. let v = c .before .before in let l = v .before .before .before .before .before .pre .1 in let w = encryption-laid (l .0) (v .if2 .taken) in (search needs, (content-laying (l .0) w, l .1)))  -- mark-cover-mark-cover-requires-3
+    (λ c κs. let v = c .before .before in let l = v .before .before .before .before .before .pre .1 in
+    let w = encryption-laid (l .0) (v .if2 .taken) in
+    (search needs, (content-laying (l .0) w, l .1)))  -- mark-cover-mark-cover-requires-3
     (λ c. search needs)  -- mark-cover-mul-term-size-2
     (λ c. search needs)  -- mark-cover-sub-term-size-3
     (λ c. search needs)  -- mark-cover-part-term-size-start-3
     (λ c. search needs)  -- mark-cover-part-term-size-end-3
     (λ c κs. let v = c .before .before in let l = v .before .before .before .before .before .before .pre .1 in l .0 .term)  -- mark-cover-term-size-requires-3
     (λ c. search needs)  -- mark-cover-add-paint
-    (λ c κs. let v = c .before .before .before in let l = v .before .before .before .before .before .before .pre .1 in (l .1, search needs, omega (arith, laid-end (l .0) (c .term-size3 .ensures .0), l .0 .short)))  -- mark-cover-paint-requires
-    (λ c. let v = c .before .before .before .before .before .before .before .before .before .before in let l = v .before .before .before .before .pre .1 in let w = pair-laid (l .0) (v .if1 .taken) in pair-raised (l .0) w (c .before .before .before .before .before .term-size .ensures .0) (c .before .before .before .term-size2 .ensures .0) (c .before .before .before .before .before .before .before .mark-cover .ensures) (c .mark-cover2 .ensures))  -- mark-cover-returns
-    (λ c. let v = c .before .before .before in let l = v .before .before .before .before .before .pre .1 in let w = encryption-laid (l .0) (v .if2 .taken) in encryption-raised (l .0) w (c .mark-cover3 .ensures))  -- mark-cover-returns-2
-    (λ c. let v = c .before .before .before .before in let l = v .before .before .before .before .before .before .pre .1 in mark-raised (l .0) (v .if3 .taken) (c .before .term-size3 .ensures .0) (c .paint .ensures))  -- mark-cover-returns-3
-    (λ c. let v = c in let l = v .before .before .before .before .before .before .pre .1 in no-mark (l .0) (c .before .before .if1 .left) (c .before .if2 .left) (c .if3 .left) (l .1))  -- mark-cover-returns-4
+    (λ c κs. let v = c .before .before .before in let l = v .before .before .before .before .before .before .pre .1 in
+    (l .1, search needs, omega (arith, laid-end (l .0) (c .term-size3 .ensures .0), l .0 .short)))  -- mark-cover-paint-requires
+    (λ c. let the-mark-cover = c .before .before .before .before .before .before .before .mark-cover in
+    let term-size = c .before .before .before .before .before .term-size in let term-size2 = c .before .before .before .term-size2 in
+    let v = c .before .before .before .before .before .before .before .before .before .before in let l = v .before .before .before .before .pre .1 in
+    let w = pair-laid (l .0) (v .if1 .taken) in
+    pair-raised (l .0) w (term-size .ensures .0) (term-size2 .ensures .0) (the-mark-cover .ensures) (c .mark-cover2 .ensures))  -- mark-cover-returns
+    (λ c. let v = c .before .before .before in let l = v .before .before .before .before .before .pre .1 in
+    let w = encryption-laid (l .0) (v .if2 .taken) in
+    encryption-raised (l .0) w (c .mark-cover3 .ensures))  -- mark-cover-returns-2
+    (λ c. let v = c .before .before .before .before in let l = v .before .before .before .before .before .before .pre .1 in
+    mark-raised (l .0) (v .if3 .taken) (c .before .term-size3 .ensures .0) (c .paint .ensures))  -- mark-cover-returns-3
+    (λ c. let v = c in let l = v .before .before .before .before .before .before .pre .1 in
+    no-mark (l .0) (c .before .before .if1 .left) (c .before .if2 .left) (c .if3 .left) (l .1))  -- mark-cover-returns-4

@@ -23,10 +23,18 @@ pub first-uncovered-spec : {M : Type 1} → statement M
 first-uncovered-spec = tie.close (tie.spec Inv-loop μ-loop
     (λ c κs. search needs)  -- term-size-requires
     (λ c. (search needs, below-none _))  -- loop-holds
-    (λ c κs. (c .before .before .before .before .before .before .pre, conclusion-inside (c .before .before .before .before .before .before .pre .term) (search needs)))  -- is-fine-requires
-    (λ c. (let b = c .before .is-fine in fails refl (search needs) (says-no (b .result) (b .ensures) (not-true (b .result) (c .if1 .taken))) (c .before .before .before .loop .inv .1)))  -- returns
+    (λ c κs. let pre = c .before .before .before .before .before .before .pre in
+    (pre, conclusion-inside (pre .term) (search needs)))  -- is-fine-requires
+    (λ c. let loop = c .before .before .before .loop in
+    (let b = c .before .is-fine in fails refl (search needs) (says-no (b .result) (b .ensures) (not-true (b .result) (c .if1 .taken)))
+    (loop .inv .1)))  -- returns
     (λ c. search needs)  -- add-k
     (λ c. search needs)  -- loop-less
-    (λ c. (let b = c .before .is-fine in (search needs, below-more _ _ (c .before .before .before .loop .inv .1) (says-yes (b .result) (b .ensures) (not-false (b .result) (c .if1 .left))))))  -- loop-again
+    (λ c. let loop = c .before .before .before .loop in
+    (let b = c .before .is-fine in (
+      search needs,
+      below-more _ _ (loop .inv .1)
+          (says-yes (b .result) (b .ensures) (not-false (b .result) (c .if1 .left))),
+    )))  -- loop-again
     (λ c. holds refl (λ j l. c .before .loop .inv .1 j (omega arith)))  -- returns-2
     )

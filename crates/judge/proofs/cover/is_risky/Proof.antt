@@ -10,5 +10,7 @@ is-risky-spec = tie.close (tie.spec
     (λ c. search needs)  -- shared-slice-read-if1
     (λ c κs. search needs)  -- shares-listed-requires
     (λ c. risky-variable _ (c .before .before .before .before .pre .term) (c .if1 .taken))  -- returns
-    (λ c. risky-secret _ (c .before .before .before .before .before .pre .term) (c .before .if1 .left) (c .shares-listed .result) (answer-says (c .shares-listed .result) (shares-listed? _ _ _) (c .shares-listed .ensures)))  -- returns-2
+    (λ c. let pre = c .before .before .before .before .before .pre in
+    risky-secret _ (pre .term) (c .before .if1 .left) (c .shares-listed .result)
+    (answer-says (c .shares-listed .result) (shares-listed? _ _ _) (c .shares-listed .ensures)))  -- returns-2
     )

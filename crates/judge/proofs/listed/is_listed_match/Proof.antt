@@ -23,7 +23,8 @@ is-listed-match-spec = tie.close (tie.spec Inv-loop μ-loop
     (λ c. search needs)  -- sub-matches-at
     (λ c κs. search needs)  -- matches-at-requires
     (λ c. let s = c .before .before .before .before .before .before in let at = c .before .matches-at in
-    found-answer (s .pre) (λ p. Matches p (termOf (s .args .e .now))) (search needs) (at .result) (at .ensures) (c .if1 .taken) (matches-listed? _ _ _))  -- returns
+    found-answer (s .pre) (λ p. Matches p (termOf (s .args .e .now))) (search needs) (at .result) (at .ensures) (c .if1 .taken)
+    (matches-listed? _ _ _))  -- returns
     (λ c. search needs)  -- sub-left
     (λ c. search needs)  -- loop-less
     (λ c. let at = c .before .matches-at in

@@ -22,7 +22,8 @@ is-listed-secret-spec = tie.close (tie.spec Inv-loop μ-loop
     (λ c. (search needs, below-none _))  -- loop-holds
     (λ c κs. search needs)  -- same-at-requires
     (λ c. let s = c .before .before .before .before .before .before in let at = c .before .same-at in
-    found-answer (s .pre) (λ p. p ≡ termOf (s .args .e .now)) (c .before .before .loop-test .taken) (at .result) (at .ensures) (c .if1 .taken) (is-secret? _ _))  -- returns
+    found-answer (s .pre) (λ p. p ≡ termOf (s .args .e .now)) (c .before .before .loop-test .taken) (at .result) (at .ensures) (c .if1 .taken)
+    (is-secret? _ _))  -- returns
     (λ c. search needs)  -- add-i
     (λ c. search needs)  -- loop-less
     (λ c. let at = c .before .same-at in

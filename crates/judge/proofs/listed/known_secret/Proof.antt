@@ -22,7 +22,7 @@ known-secret-spec = tie.close (tie.spec Inv-loop μ-loop
     first-fault (c .before .before .loop-test .taken) (c .before .before .before .loop .inv) (at .result) (at .ensures) (c .if1 .taken))  -- returns
     (λ c. search needs)  -- add-i
     (λ c. search needs)  -- loop-less
-    (λ c. let at = c .before .known-at in
-    one-on (KnownSecret _) (c .before .before .loop-test .taken) (c .before .before .before .loop .inv) (at .result) (at .ensures) (c .if1 .left))  -- loop-again
+    (λ c. let loop = c .before .before .before .loop in let at = c .before .known-at in
+    one-on (KnownSecret _) (c .before .before .loop-test .taken) (loop .inv) (at .result) (at .ensures) (c .if1 .left))  -- loop-again
     (λ c. (no-fault (c .loop-test .left) (c .before .loop .inv), tt))  -- returns-2
     )

@@ -12,9 +12,11 @@ loose-at-spec = tie.close (tie.spec
     (λ c κs. search needs)  -- is-kind-requires
     (λ c κs. let s = c .before .before .before in let k = c .before .is-kind in
     block-there (s .pre .0) (search needs) (search needs) (s .pre .1) (k .result) (k .ensures) (c .if1 .taken))  -- term-at-requires
-    (λ c κs. let s = c .before .before .before .before in let k = c .before .before .is-kind in let kind = says-yes (k .result) (k .ensures) (c .before .if1 .taken) in
+    (λ c κs. let s = c .before .before .before .before in let k = c .before .before .is-kind in
+    let kind = says-yes (k .result) (k .ensures) (c .before .if1 .taken) in
     (search needs, good-root (c .term-at .ensures) (s .pre .0 .goods (s .args .i) (s .pre .1) kind)))  -- is-kept-requires
-    (λ c. let s = c .before .before .before .before .before in let k = c .before .before .before .is-kind in let kind = says-yes (k .result) (k .ensures) (c .before .before .if1 .taken) in
+    (λ c. let is-kind = c .before .before .before .is-kind in let s = c .before .before .before .before .before in let k = is-kind in
+    let kind = says-yes (k .result) (k .ensures) (c .before .before .if1 .taken) in
     loose-fault (c .before .term-at .ensures) (certificateOf (s .args .file .now)) (c .is-kept .result) kind (c .is-kept .ensures))  -- returns
     (λ c. let s = c .before .before .before in let k = c .before .is-kind in
     other-fault (s .args .file .now) 3 (s .args .i) (looseKey (certificateOf (s .args .file .now))) (says-no (k .result) (k .ensures) (c .if1 .left)))  -- returns-2

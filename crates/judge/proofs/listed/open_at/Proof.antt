@@ -13,8 +13,11 @@ open-at-spec = tie.close (tie.spec
     (λ c κs. let s = c .before .before .before in let k = c .before .is-kind in
     block-there (s .pre .0) (search needs) (search needs) (s .pre .1) (k .result) (k .ensures) (c .if1 .taken))  -- term-at-requires
     (λ c κs. search needs)  -- is-closed-requires
-    (λ c. let s = c .before .before .before .before .before in let k = c .before .before .before .is-kind in let kind = says-yes (k .result) (k .ensures) (c .before .before .if1 .taken) in
-    open-fault (c .before .term-at .ensures) (certificateOf (s .args .file .now)) (c .is-closed .result) kind (s .pre .0 .secrets (s .args .i) (s .pre .1) kind) (c .is-closed .ensures))  -- returns
+    (λ c. let is-kind = c .before .before .before .is-kind in let s = c .before .before .before .before .before in let k = is-kind in
+    let kind = says-yes (k .result) (k .ensures) (c .before .before .if1 .taken) in
+    open-fault (c .before .term-at .ensures) (certificateOf (s .args .file .now)) (c .is-closed .result) kind
+    (s .pre .0 .secrets (s .args .i) (s .pre .1) kind) (c .is-closed .ensures))  -- returns
     (λ c. let s = c .before .before .before in let k = c .before .is-kind in
-    other-fault (s .args .file .now) 2 (s .args .i) (openSecret (certificateOf (s .args .file .now))) (says-no (k .result) (k .ensures) (c .if1 .left)))  -- returns-2
+    other-fault (s .args .file .now) 2 (s .args .i) (openSecret (certificateOf (s .args .file .now)))
+    (says-no (k .result) (k .ensures) (c .if1 .left)))  -- returns-2
     )

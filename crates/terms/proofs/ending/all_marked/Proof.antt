@@ -25,6 +25,7 @@ all-marked-spec = tie.close (tie.spec Inv-loop μ-loop
     (λ c. (λ e. absurd (false≢true e), λ e. (c .before .before .before .loop .i, search needs, zero-mark (c .if1 .taken))))  -- returns
     (λ c. search needs)  -- add-i
     (λ c. search needs)  -- loop-less
-    (λ c. (search needs, search needs, marked-more (c .before .before .before .before .args .done .now) (c .before .before .before .loop .i) (c .before .before .before .loop .inv .2) (c .if1 .left)))  -- loop-again
+    (λ c. let args = c .before .before .before .before .args in let loop = c .before .before .before .loop in
+    (search needs, search needs, marked-more (args .done .now) (loop .i) (loop .inv .2) (c .if1 .left)))  -- loop-again
     (λ c. (λ e i h. c .before .loop .inv .2 i (search needs), λ e. absurd (true≢false e)))  -- returns-2
     )

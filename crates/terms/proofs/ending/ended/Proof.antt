@@ -12,6 +12,8 @@ ended-spec = tie.close (tie.spec
     (λ c. search needs)  -- element-copy-out-wide
     (λ c κs. search needs)  -- wide-requires
     (λ c. search needs)  -- element-copy-out-result
-    (λ c. ended-marked (c .before .before .before .before .args .c .now) (c .before .before .before .before .args .done .now) (c .before .before .before .before .args .i) (search needs) (c .before .before .wide .ensures .0) (c .before .if1 .taken))  -- returns
-    (λ c. ended-past (c .before .before .before .args .c .now) (c .before .before .before .args .done .now) (c .before .before .before .args .i) (search needs) (c .before .wide .ensures .0) (c .if1 .left))  -- returns-2
+    (λ c. let args = c .before .before .before .before .args in
+    ended-marked (args .c .now) (args .done .now) (args .i) (search needs) (c .before .before .wide .ensures .0) (c .before .if1 .taken))  -- returns
+    (λ c. let args = c .before .before .before .args in
+    ended-past (args .c .now) (args .done .now) (args .i) (search needs) (c .before .wide .ensures .0) (c .if1 .left))  -- returns-2
     )

@@ -36,7 +36,15 @@ pub +same-front-spec : {M : Type 1} → statement M
     (λ c. search needs)  -- same-front-shared-slice-read-children
     (λ c κs. search needs)  -- same-front-children-requires
     (λ c. search needs)  -- same-front-add-same-front
-    (λ c κs. (search needs, same-below (c .before .before .before .before .before .before .before .before .before .pre .1) (c .before .before .before .before .before .before .if1 .left) (said (c .before .before .before .before .if2 .taken) (c .before .before .before .before .before .same-entry .ensures)) (c .children .ensures .0)))  -- same-front-same-front-requires
+    (λ c κs. let pre = c .before .before .before .before .before .before .before .before .before .pre in
+    let if1 = c .before .before .before .before .before .before .if1 in let same-entry = c .before .before .before .before .before .same-entry in
+    let if2 = c .before .before .before .before .if2 in
+    (search needs, same-below (pre .1) (if1 .left) (said (if2 .taken) (same-entry .ensures)) (c .children .ensures .0)))  -- same-front-same-front-requires
     (λ c. none-left _ _ _ (c .if1 .taken))  -- same-front-returns
-    (λ c. same-step (c .before .before .before .before .before .before .before .before .before .before .pre .1) (c .before .before .before .before .before .before .before .if1 .left) (said (c .before .before .before .before .before .if2 .taken) (c .before .before .before .before .before .before .same-entry .ensures)) (c .before .children .ensures .0) (c .same-front .result) (c .same-front .ensures))  -- same-front-returns-2
-    (λ c. same-clash (c .before .before .before .before .before .pre .1) (c .before .before .if1 .left) (denied (c .if2 .left) (c .before .same-entry .ensures)))  -- same-front-returns-3
+    (λ c. let pre = c .before .before .before .before .before .before .before .before .before .before .pre in
+    let if1 = c .before .before .before .before .before .before .before .if1 in
+    let same-entry = c .before .before .before .before .before .before .same-entry in let if2 = c .before .before .before .before .before .if2 in
+    same-step (pre .1) (if1 .left) (said (if2 .taken) (same-entry .ensures)) (c .before .children .ensures .0) (c .same-front .result)
+    (c .same-front .ensures))  -- same-front-returns-2
+    (λ c. let pre = c .before .before .before .before .before .pre in
+    same-clash (pre .1) (c .before .before .if1 .left) (denied (c .if2 .left) (c .before .same-entry .ensures)))  -- same-front-returns-3

@@ -16,6 +16,9 @@ right-in-spec = tie.close (tie.spec
     (λ c. let p = pair-there (c .before .args .k) (c .before .pre .0) (c .before .pre .2) in omega (arith, p .is .left-fits))  -- part-term-size-start
     (λ c. search needs)  -- part-term-size-end
     (λ c κs. right-part (pair-there (c .before .before .args .k) (c .before .before .pre .0) (c .before .before .pre .2)))  -- term-size-requires
-    (λ c. let p = pair-there (c .before .before .before .args .k) (c .before .before .before .pre .0) (c .before .before .before .pre .2) in omega (arith, right-found p (c .term-size .ensures .0), p .is .right-fits))  -- add-result-2
-    (λ c. let p = pair-there (c .before .before .before .args .k) (c .before .before .before .pre .0) (c .before .before .before .pre .2) in let found = right-found p (c .term-size .ensures .0) in (found, omega (arith, p .is .right-fits), omega (arith, p .is .after)))  -- returns
+    (λ c. let start = c .before .before .before in let args = start .args in let pre = start .pre in let p = pair-there (args .k) (pre .0) (pre .2) in
+    omega (arith, right-found p (c .term-size .ensures .0), p .is .right-fits))  -- add-result-2
+    (λ c. let start = c .before .before .before in let args = start .args in let pre = start .pre in let p = pair-there (args .k) (pre .0) (pre .2) in
+    let found = right-found p (c .term-size .ensures .0) in
+    (found, omega (arith, p .is .right-fits), omega (arith, p .is .after)))  -- returns
     )

@@ -23,6 +23,7 @@ alone-spec = tie.close (tie.spec Inv-loop μ-loop
     (λ c. search needs)  -- array-write-c
     (λ c. search needs)  -- add-k
     (λ c. search needs)  -- loop-less
-    (λ c. (search needs, simp length-set (search needs), stored (c .before .loop .c) (c .before .loop .k) (search needs) (c .before .loop .inv .2)))  -- loop-again
+    (λ c. let loop = c .before .loop in
+    (search needs, simp length-set (search needs), stored (loop .c) (loop .k) (search needs) (loop .inv .2)))  -- loop-again
     (λ c. λ i h. c .before .loop .inv .2 i (search needs))  -- returns
     )

@@ -33,5 +33,6 @@ relabel-spec = tie.close (tie.spec Inv-loop μ-loop
     (λ c. search needs)  -- add-k
     (λ c. search needs)  -- loop-less
     again
-    (λ c. c .before .loop .inv .3 ∙ renamed-all (c .before .before .args .a) (c .before .before .args .b) (c .before .before .args .c .now) (c .before .loop .k) (search needs))  -- returns
+    (λ c. let args = c .before .before .args in let loop = c .before .loop in
+    loop .inv .3 ∙ renamed-all (args .a) (args .b) (args .c .now) (loop .k) (search needs))  -- returns
     )
