@@ -1,23 +1,20 @@
 -- Laws of sure hats on the entries: what laying a good pattern, all of them, and those of every entry covers. Assumes nothing.
 use mathlib.Core.Path.{_≡_, refl, sym, ap, subst, _∙_}
-use mathlib.Core.Bool.{Bool, true, false}
-use mathlib.Core.List.{List, []}
+use mathlib.Core.List.{List}
 use mathlib.Core.Logic.{_⊎_, inl, inr, _↔_}
-use mathlib.Core.Option.{Option, some}
 use Prim.Native.Nat.{ℕ, _+_, _*_, _<_, _≤_}
 use native.Mathlib.Omega.{arith}
 use native.Mathlib.Decide.{ℕ-discrete}
 use borrow.Rule.Slice.PartAt.{part-to-end}
-use lib.ListN.{length, getD, replicate, getD-replicate, length-replicate, drop}
+use lib.ListN.{length, getD, replicate}
 use Rattle.blocks.specs.Block.{blockAt, kindOf, firstEntries}
-use Rattle.terms.specs.Term.{Term, Variable, encrypted, replace}
-use Rattle.terms.specs.Place.{Place, subtermAt, StrictlyAbove}
+use Rattle.terms.specs.Term.{Term, Variable, replace}
+use Rattle.terms.specs.Place.{Place}
 use Rattle.terms.specs.Instance.{Matches}
 use Rattle.terms.specs.Entry.{size, termOf, tagAt, Begins}
 use Rattle.terms.specs.EntryLaws.{reads-encrypted, termOf-reads, size-positive, fits, suffix}
 use Rattle.terms.specs.OneTerm.{IsEncryption, encryption?}
 use Rattle.terms.specs.TermGraphLaws.{tag-in}
-use Rattle.terms.specs.Decide.{answer, yes-of, no-of, variable?, match?}
 use Rattle.terms.specs.WalkLaws.{from, encryption-first}
 use Rattle.terms.specs.FrontLaws.{from-length}
 use Rattle.terms.specs.PlaceLaws.{entryAt, Placed, placed, within, spotted, subterm-at, strictly-above-entry}
@@ -25,7 +22,6 @@ use Rattle.judge.specs.Certificate.{Certificate, Good}
 use Rattle.judge.specs.File.{blockCount, patternOf, certificateOf}
 use Rattle.judge.specs.Laid.{Laid, TermBlock}
 use Rattle.judge.specs.Cover.{SureHat}
-use Rattle.judge.specs.Decisions.{NotBad}
 use Rattle.judge.specs.Listed.{listedOf, AnyListed, HoldsAt, Searching, MatchesListed, SharesListed}
 use Rattle.judge.specs.CoverEntries.{subAt, On, Raised, Flags, MarkOver, Laying, Standing, HatOver, HatBelow}
 use Rattle.judge.proofs.Flags.{raised-none, raised-as, raised-twice, zero-off}

@@ -1,15 +1,12 @@
 -- Laws of specs/Listed.antt: a search over the blocks of a file finds what the certificate lists. Assumes nothing.
-use mathlib.Core.Path.{_≡_, refl, sym, ap, subst, _∙_}
+use mathlib.Core.Path.{_≡_, sym, ap, subst, _∙_}
 use mathlib.Core.Bool.{Bool, true, false}
-use mathlib.Core.Logic.{_⊎_, inl, inr}
-use mathlib.Core.List.{List, [], _∷_, map, List·Memᴰ, List·Memᴰ·head, List·Memᴰ·tail, List·Memᴰ·not-nil, List·Memᴰ·cases-cons}
+use mathlib.Core.List.{List, map, List·Memᴰ, List·Memᴰ·not-nil}
 use mathlib.Core.List.{Memᴰ·cast, Memᴰ·map, Memᴰ·of-map}
-use Prim.Native.Nat.{ℕ, zero, suc, _+_, _-_, _*_, _<_, _≤_}
+use Prim.Native.Nat.{ℕ, zero, suc, _-_, _*_, _<_, _≤_}
 use lib.ListN.{length}
 use native.Mathlib.Omega.{arith}
 use native.Mathlib.Decide.{ℕ-discrete}
-use lib.Dec.{eqb}
-use borrow.Author.Tests.{eq-eqb, eqb-true}
 use Rattle.blocks.specs.Block.{blockAt, kindOf, firstCount, firstEntries}
 use Rattle.terms.specs.Term.{Term, Variable, atom, replace, asTerm}
 use Rattle.terms.specs.Laws.{replace-asTerm}
@@ -19,7 +16,7 @@ use Rattle.terms.specs.FrontLaws.{from-length}
 use Rattle.terms.specs.Solve.{Says, says-same}
 use Rattle.terms.specs.Decisions.{says-yes}
 use Rattle.terms.specs.Decide.{answer, answer-yes, answer-no}
-use Rattle.judge.specs.File.{blocksFrom, blockCount, blocksOf, ofKind, patternOf, secretOf, certificateOf}
+use Rattle.judge.specs.File.{blockCount, blocksOf, ofKind, patternOf, secretOf, certificateOf}
 use Rattle.judge.specs.Laid.{Laid, TermBlock, SecretBlock}
 use Rattle.judge.proofs.ListedLaws.{answer-says}
 use Rattle.judge.proofs.Members.{BlockOf, block-listed, listed-block}

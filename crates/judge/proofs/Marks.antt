@@ -1,22 +1,21 @@
 -- Laws of marks: what a pattern laid on a term covers, by the pattern's symbol. Assumes nothing.
-use mathlib.Core.Path.{_≡_, refl, sym, ap, subst, _∙_}
-use mathlib.Core.List.{List, [], _∷_, _++_}
+use mathlib.Core.Path.{_≡_, refl, sym, ap, _∙_}
+use mathlib.Core.List.{List, [], _∷_}
 use mathlib.Core.Logic.{_⊎_, inl, inr, _↔_}
-use mathlib.Core.Option.{Option, none, some, Option·none-ne-some}
+use mathlib.Core.Option.{some, Option·none-ne-some}
 use Prim.Native.Nat.{ℕ, _+_, _*_, _<_, _≤_}
 use native.Mathlib.Omega.{arith}
 use borrow.Rule.Slice.PartAt.{part-to-end}
 use lib.ListN.{length, drop, length-drop}
-use lib.Seq.{drop-drop}
 use Rattle.terms.specs.Term.{Term, Variable, variable, atom, pair, encrypted, plain, marked, replace}
-use Rattle.terms.specs.Place.{Turn, Place, left, right, inside, subtermAt, AtOrAbove}
+use Rattle.terms.specs.Place.{Turn, Place, left, right, inside, subtermAt}
 use Rattle.terms.specs.Instance.{Matches}
 use Rattle.terms.specs.Entry.{size, termOf, tagAt, valueAt, Reads, Begins}
 use Rattle.terms.specs.EntryLaws.{First, first-atom, first-pair, first-encrypted, first-plain, first-marked, first, termOf-reads, begins, fits}
 use Rattle.terms.specs.WalkLaws.{from, PairFirst, pair-first, right-begins, EncryptionFirst, encryption-first}
 use Rattle.terms.specs.OneTerm.{IsEncryption}
 use Rattle.terms.specs.TermGraph.{rightIn}
-use Rattle.terms.specs.TermGraphLaws.{pair-in, encryption-in, right-in}
+use Rattle.terms.specs.TermGraphLaws.{pair-in, encryption-in}
 use Rattle.terms.specs.FrontLaws.{from-length}
 use Rattle.terms.specs.Laws.{subtermAt-replace}
 use Rattle.terms.specs.PlaceLaws.{entryAt, Placed, placed, within, placed-below, at-or-above-entry}

@@ -6,13 +6,13 @@ use mathlib.Core.Logic.{_⊎_, inl, inr}
 use Prim.Native.Nat.{ℕ, zero, suc, _+_, _*_, _-_, _<_, _≤_}
 use native.Mathlib.Omega.{arith}
 use lib.Dec.{eqb, ltb}
-use borrow.Author.Tests.{eqb-true, eqb-false, eq-eqb, ne-eqb, ltb-true, ltb-false, lt-ltb, le-ltb}
-use lib.ListN.{length, getD, set, length-set}
-use lib.Seq.{getD-set-same, getD-set-other}
+use borrow.Author.Tests.{eqb-true, eqb-false, ne-eqb, ltb-true, ltb-false, lt-ltb, le-ltb}
+use lib.ListN.{length, getD, set}
+use lib.Seq.{getD-set-other}
 use Rattle.terms.specs.Term.{Message}
-use Rattle.terms.specs.Graph.{Node, free, pairNode, encryptionNode, Child, Valid, Respects, Classes, Finite, finite}
+use Rattle.terms.specs.Graph.{free, pairNode, encryptionNode, Child, Valid, Respects, Classes, Finite, finite}
 use Rattle.terms.specs.GraphLaws.{endless}
-use Rattle.terms.specs.TermGraph.{third, region, nodeTag, nodeBy, nodeOf, firstChild, secondChild, nodeValue}
+use Rattle.terms.specs.TermGraph.{third, nodeTag, nodeBy, nodeOf, firstChild, secondChild, nodeValue}
 use Rattle.terms.specs.UniteLaws.{node-by}
 use Rattle.terms.specs.Names.{nameOf, name-read}
 

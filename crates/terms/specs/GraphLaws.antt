@@ -1,13 +1,12 @@
 -- Laws of the graph: uniting two classes, and the valuation that closed and finite classes give.
 use mathlib.Core.Path.{_≡_, refl, sym, ap, ap₂, _∙_, subst, subst₂}
-use mathlib.Core.List.{List, [], _∷_}
-use mathlib.Core.Logic.{_⊎_, inl, inr}
+use mathlib.Core.Logic.{inl, inr}
 use mathlib.Core.Bool.{Bool, true, false, true≢false, false≢true}
-use Prim.Native.Nat.{ℕ, zero, suc, _+_, _<_, _≤_}
+use Prim.Native.Nat.{ℕ, zero, suc, _<_}
 use native.Mathlib.Omega.{arith}
 use lib.Dec.{eqb}
 use borrow.Author.Tests.{eqb-true, eqb-false, eq-eqb, ne-eqb}
-use Rattle.terms.specs.Term.{Term, Message, variable, atom, pair, encrypted}
+use Rattle.terms.specs.Term.{Message, atom, pair, encrypted}
 use Rattle.terms.specs.Entry.{size}
 use Rattle.terms.specs.Graph.{Node, free, atomNode, pairNode, encryptionNode, IsSymbol, made, Child, Valid, Respects, Closed, Classes, Step, Clash, Outcome, Finite, finite}
 

@@ -1,18 +1,18 @@
 -- Laws of the walk over two terms side by side: entry i of s against entry j of t.
-use mathlib.Core.Path.{_≡_, refl, sym, ap, ap₂, _∙_, subst, subst₂}
-use mathlib.Core.Bool.{Bool, true, false, true≢false}
-use mathlib.Core.List.{List, _∷_}
+use mathlib.Core.Path.{_≡_, refl, sym, ap, ap₂, _∙_, subst}
+use mathlib.Core.Bool.{Bool, false, true≢false}
+use mathlib.Core.List.{List}
 use Prim.Native.Nat.{ℕ, zero, suc, _+_, _*_, _<_, _≤_}
 use native.Mathlib.Omega.{arith}
 use lib.ListN.{length, drop}
-use Rattle.terms.specs.Term.{Term, Variable, Message, variable, atom, pair, encrypted}
-use Rattle.terms.specs.Entry.{Reads, Begins, tagAt, valueAt}
+use Rattle.terms.specs.Term.{Term, Variable, Message, atom, pair, encrypted}
+use Rattle.terms.specs.Entry.{Begins, tagAt, valueAt}
 use Rattle.terms.specs.EntryLaws.{First, first, first-atom, first-pair, first-encrypted, first-plain, first-marked, suffix}
-use Rattle.terms.specs.Graph.{Node, free, atomNode, pairNode, encryptionNode, IsSymbol, made, Valid, Respects, Classes, Step, Clash, Outcome}
-use Rattle.terms.specs.GraphLaws.{Any, done, failed, stay, restate, restate-clash, moved}
+use Rattle.terms.specs.Graph.{Node, IsSymbol, made, Valid, Classes, Step, Clash, Outcome}
+use Rattle.terms.specs.GraphLaws.{Any, stay, restate, restate-clash}
 use Rattle.terms.specs.TermGraph.{TwoTerms, tagIn, valueIn, home, rightIn, nodeBy, nodeOf, freeTag}
 use Rattle.terms.specs.TermGraphLaws.{tag-in, home-own, left-side, right-side}
-use Rattle.terms.specs.UniteLaws.{form, number, made-form, made-number, only-atom}
+use Rattle.terms.specs.UniteLaws.{form, number, made-form, made-number}
 
 -- A step that supposes nothing, as one that supposes a valid valuation.
 pub supposing : {node : ℕ → Node} {name next : ℕ → ℕ} {P : (ℕ → Message) → Type 0} {r : Bool} → Outcome node Any name next P r → Outcome node (Valid node) name next P r

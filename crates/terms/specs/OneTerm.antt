@@ -8,7 +8,7 @@ use native.Mathlib.Decide.{ℕ-discrete}
 use borrow.Author.Tests.{lt-ltb}
 use lib.ListN.{getD}
 use Rattle.terms.specs.Term.{Term, Variable, variable, atom, pair, encrypted, plain, marked}
-use Rattle.terms.specs.Entry.{Symbol, atomSymbol, pairSymbol, encryptionSymbol, variableSymbol, tagOf, valueOf, symbolOf, numbered, before, beforeAll, withZero, entryOf, entriesOf, termsOf, Reads}
+use Rattle.terms.specs.Entry.{Symbol, pairSymbol, tagOf, valueOf, symbolOf, before, beforeAll, withZero, entryOf, entriesOf, termsOf, Reads}
 use Rattle.terms.specs.EntryLaws.{First, first-atom, first-pair, first-encrypted, first-plain, first-marked, first, none≢some, never-empty}
 
 -- The variables of a file's terms are numbered 0 to 7.

@@ -1,20 +1,20 @@
 -- Two terms share an instance if and only if their graph has a valid valuation that gives both roots one message.
 use mathlib.Core.Path.{_≡_, refl, sym, ap, _∙_, subst}
 use mathlib.Core.Bool.{Bool, true, false}
-use mathlib.Core.List.{List, _∷_}
+use mathlib.Core.List.{List}
 use Prim.Native.Nat.{ℕ, _+_, _*_, _-_, _<_, _≤_}
 use native.Mathlib.Omega.{arith}
 use native.Mathlib.Nat.{zero-add}
 use lib.Dec.{ltb}
 use borrow.Author.Tests.{lt-ltb, le-ltb, ltb-true, ltb-false}
 use lib.ListN.{length, getD, drop}
-use Rattle.terms.specs.Term.{Term, Message, Variable, plain, marked, replace}
-use Rattle.terms.specs.Instance.{Matches, Share}
-use Rattle.terms.specs.Entry.{termOf, Reads, Begins}
+use Rattle.terms.specs.Term.{Message, Variable, plain, marked, replace}
+use Rattle.terms.specs.Instance.{Share}
+use Rattle.terms.specs.Entry.{termOf, Begins}
 use Rattle.terms.specs.EntryLaws.{termOf-reads}
-use Rattle.terms.specs.Graph.{Node, free, IsSymbol, made, Valid, Respects, Closed, Classes, Step, Clash, Outcome, Finite}
-use Rattle.terms.specs.GraphLaws.{alone, Valued, valued}
-use Rattle.terms.specs.TermGraph.{home, nodeBy, third, region, nodeTag, nodeValue, firstChild, secondChild, nodeOf, TwoTerms}
+use Rattle.terms.specs.Graph.{free, IsSymbol, made, Valid, Respects, Classes, Step, Clash, Outcome, Finite}
+use Rattle.terms.specs.GraphLaws.{alone, valued}
+use Rattle.terms.specs.TermGraph.{home, nodeBy, third, region, nodeTag, nodeOf, TwoTerms}
 use Rattle.terms.specs.TermGraphLaws.{values, home-value, side-makes, left-side, right-side}
 use Rattle.terms.specs.Solve.{Says}
 use Rattle.terms.specs.Decide.{answer, share?, variable?, says-answer}

@@ -2,7 +2,7 @@
 -- instance.
 use mathlib.Core.Path.{_≡_, refl, sym, ap, ap₂, _∙_, subst}
 use mathlib.Core.Bool.{Bool, true, false}
-use mathlib.Core.List.{List, [], _∷_}
+use mathlib.Core.List.{List, _∷_}
 use Prim.Native.Nat.{ℕ, zero, suc, _+_, _*_, _-_, _%_, _<_, _≤_}
 use native.Mathlib.Omega.{arith}
 use native.Mathlib.Nat.{zero-add}
@@ -11,13 +11,12 @@ use borrow.Author.Tests.{lt-ltb, le-ltb, ltb-true, ltb-false, eq-eqb}
 use lib.ListN.{length, getD, drop, length-drop, List·getD-eq-default}
 use lib.Seq.{drop-drop, getD-drop}
 use Rattle.terms.specs.Term.{Term, Message, Variable, variable, atom, pair, encrypted, plain, marked, replace}
-use Rattle.terms.specs.Instance.{Matches, Share}
-use Rattle.terms.specs.Entry.{termsOf, termOf, tagAt, valueAt, size, Reads, Begins}
-use Rattle.terms.specs.EntryLaws.{termOf-reads, past, fits, begins, four, suffix, reads-atom, reads-pair, reads-encrypted, reads-plain, reads-marked, size-positive}
+use Rattle.terms.specs.Entry.{termOf, tagAt, valueAt, size, Reads, Begins}
+use Rattle.terms.specs.EntryLaws.{termOf-reads, past, begins, four, suffix, reads-atom, reads-pair, reads-encrypted, reads-plain, reads-marked}
 use Rattle.terms.specs.WalkLaws.{from, pair-first, encryption-first}
 use borrow.Rule.Slice.PartAt.{part-to-end}
-use Rattle.terms.specs.Graph.{Node, free, atomNode, pairNode, encryptionNode, IsSymbol, made, Valid}
-use Rattle.terms.specs.TermGraph.{tagIn, valueIn, homeBy, home, rightIn, nodeBy, third, region, nodeTag, nodeValue, firstChild, secondChild, nodeOf, freeTag}
+use Rattle.terms.specs.Graph.{Node, atomNode, pairNode, encryptionNode, IsSymbol, made, Valid}
+use Rattle.terms.specs.TermGraph.{tagIn, valueIn, homeBy, home, rightIn, nodeBy, nodeTag, nodeValue, firstChild, secondChild, nodeOf, freeTag}
 
 -- The first entry of what is left from entry k on is entry k.
 pub tag-in : (e : List ℕ) (k : ℕ) → tagIn e k ≡ tagAt (drop (4 * k) e)

@@ -1,20 +1,19 @@
 -- What the step that unites two classes answers, branch by branch, said of the array of names.
-use mathlib.Core.Path.{_≡_, refl, sym, ap, ap₂, _∙_, subst, subst₂}
+use mathlib.Core.Path.{_≡_, refl, sym, ap, _∙_, subst, subst₂}
 use mathlib.Core.Bool.{Bool, true, false}
 use mathlib.Core.List.{List, map}
 use mathlib.Core.Logic.{⊎-elim}
-use Prim.Native.Nat.{ℕ, _<_, _≤_}
+use Prim.Native.Nat.{ℕ, _<_}
 use native.Mathlib.Omega.{arith}
 use lib.ListN.{length, getD, length-map}
-use Rattle.terms.specs.Term.{Message}
 use Rattle.terms.specs.declared.sharing.How.{How}
 use Rattle.terms.specs.declared.sharing.How.the-variants.{LeftFree, RightFree, Differ, Atoms, Encryptions, Pairs}
-use Rattle.terms.specs.Graph.{Valid, Classes, Step, Clash, Outcome}
+use Rattle.terms.specs.Graph.{Classes, Outcome}
 use Rattle.terms.specs.GraphLaws.{rename, merge, Any, done, failed, restate}
-use Rattle.terms.specs.TermGraph.{nodeOf, nodeTag, firstChild, secondChild}
+use Rattle.terms.specs.TermGraph.{nodeOf, firstChild, secondChild}
 use Rattle.terms.specs.Meeting.{Meets, Symbols}
 use Rattle.terms.specs.Names.{nameOf, name-read, names-merge, classCount, fewer}
-use Rattle.terms.specs.UniteLaws.{merged-names, one-class, free-class, symbols-merge, tags-clash, values-clash, equal-atoms, equal-encryptions, equal-pairs}
+use Rattle.terms.specs.UniteLaws.{one-class, free-class, symbols-merge, tags-clash, values-clash, equal-atoms, equal-encryptions, equal-pairs}
 
 -- The answer of the meeting, at the names themselves.
 pub met-at : (s t : List ℕ) {x y a b : ℕ} {met h : How} → Meets s t x y met → met ≡ h → x ≡ a → y ≡ b → Meets s t a b h

@@ -1,15 +1,12 @@
 -- Laws of uniting two classes, branch by branch: i's class is named a, j's class b.
 use mathlib.Core.Path.{_≡_, refl, sym, ap, ap₂, _∙_, subst}
 use mathlib.Core.Bool.{Bool, true, false, true≢false, false≢true}
-use mathlib.Core.List.{List, map}
-use Prim.Native.Nat.{ℕ, zero, suc, _<_, _≤_}
-use native.Mathlib.Omega.{arith}
-use lib.ListN.{length}
-use Rattle.terms.specs.Term.{Term, Message, variable, atom, pair, encrypted}
-use Rattle.terms.specs.Graph.{Node, free, atomNode, pairNode, encryptionNode, IsSymbol, made, Valid, Respects, Closed, Classes, Step, Clash, Outcome}
-use Rattle.terms.specs.GraphLaws.{rename, merge, Any, done, stay, restate, restate-clash, already, united, united-clash, apart-clash, united-classes}
+use mathlib.Core.List.{List}
+use Prim.Native.Nat.{ℕ, zero, suc}
+use Rattle.terms.specs.Term.{Message, variable, atom, pair, encrypted}
+use Rattle.terms.specs.Graph.{atomNode, pairNode, encryptionNode, IsSymbol, made, Valid, Classes, Step, Clash, Outcome}
+use Rattle.terms.specs.GraphLaws.{merge, Any, done, stay, already, united, united-clash, apart-clash, united-classes}
 use Rattle.terms.specs.TermGraph.{nodeTag, nodeValue, firstChild, secondChild, nodeBy, nodeOf, freeTag}
-use Rattle.terms.specs.Names.{nameOf, names-merge}
 
 module _ (s t : List ℕ) where
   -- What stands at a node, by its tag.

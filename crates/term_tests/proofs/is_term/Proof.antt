@@ -3,14 +3,9 @@ use mathlib.Core.Bool.{false}
 use Rattle.terms.specs.OneTerm.{oneTerm?}
 use Rattle.terms.specs.Decide.{answer}
 use Rattle.term_tests.specs.Asked.{keys, then, nothingFound, too-long, not-whole, by-entries, found-symbols}
-use native.Mathlib.Omega.{arith}
 use borrow.Author.Needs.{needs}
 use Rattle.term_tests.proofs.is_term.Statement.{statement}
 use Rattle.term_tests.proofs.is_term.Tie as tie
-use Rattle.term_tests.proofs.is_term.Reads as reads
-use Rattle.term_tests.proofs.is_term.Lts as lts
-use Rattle.terms.proofs.valid.is_one_term.Reads as is-one-term-reads
-use Rattle.terms.proofs.valid.wrong_entry.Reads as wrong-entry-reads
 
 pub is-term-spec : {M : Type 1} → statement M
 unfolding keys

@@ -1,14 +1,8 @@
 use mathlib.Core.Path.{sym, ap, _∙_}
 use Rattle.term_tests.specs.Asked.{matchNumber, yesNumber, term-is, asked, first-none, second-none}
-use native.Mathlib.Omega.{arith}
 use borrow.Author.Needs.{needs}
 use Rattle.term_tests.proofs.zepayong_matches.Statement.{statement}
 use Rattle.term_tests.proofs.zepayong_matches.Tie as tie
-use Rattle.term_tests.proofs.zepayong_matches.Reads as reads
-use Rattle.term_tests.proofs.zepayong_matches.Lts as lts
-use Rattle.term_tests.proofs.is_term.Reads as is-term-reads
-use Rattle.term_tests.proofs.number.Reads as number-reads
-use Rattle.terms.proofs.matching.matches.Reads as matches-reads
 
 pub zepayong-matches-spec : {M : Type 1} → statement M
 unfolding matchNumber

@@ -1,14 +1,8 @@
 use mathlib.Core.Path.{sym, ap, _∙_}
 use Rattle.term_tests.specs.Asked.{shareNumber, yesNumber, term-is, asked, first-none, second-none}
-use native.Mathlib.Omega.{arith}
 use borrow.Author.Needs.{needs}
 use Rattle.term_tests.proofs.zepayong_shares.Statement.{statement}
 use Rattle.term_tests.proofs.zepayong_shares.Tie as tie
-use Rattle.term_tests.proofs.zepayong_shares.Reads as reads
-use Rattle.term_tests.proofs.zepayong_shares.Lts as lts
-use Rattle.term_tests.proofs.is_term.Reads as is-term-reads
-use Rattle.term_tests.proofs.number.Reads as number-reads
-use Rattle.terms.proofs.sharing.shares.Reads as shares-reads
 
 pub zepayong-shares-spec : {M : Type 1} → statement M
 unfolding shareNumber

@@ -3,18 +3,12 @@ use mathlib.Core.Bool.{true≢false}
 use lib.ListN.{replicate, getD-replicate}
 use Rattle.terms.specs.Ending.{none-marked, sweep-falls, all-finite, stuck-never}
 use mathlib.Core.Path.{_≡_}
-use mathlib.Core.Bool.{true, false}
-use Prim.Native.Nat.{ℕ, _*_, _+_}
+use mathlib.Core.Bool.{false}
+use Prim.Native.Nat.{_*_, _+_}
 use lib.ListN.{length}
 use Rattle.terms.specs.Ending.{Sound, StuckFrom, zeros, weigh}
-use borrow.Author.Needs.{needs}
-use native.Mathlib.Omega.{arith}
 use Rattle.terms.proofs.ending.all_end.Statement.{statement}
 use Rattle.terms.proofs.ending.all_end.Tie as tie
-use Rattle.terms.proofs.ending.all_end.Reads as reads
-use Rattle.terms.proofs.ending.all_end.Lts as lts
-use Rattle.terms.proofs.ending.all_marked.Reads as all-marked-reads
-use Rattle.terms.proofs.ending.sweep.Reads as sweep-reads
 
 abbrev Inv-loop : tie.InvT-loop
 Inv-loop s t c done₀ more₀ done more = (length done ≡ 128) × Sound s t c done × (more ≡ false → StuckFrom s t c done 0)

@@ -1,7 +1,7 @@
 use mathlib.Core.Bool.{true≢false, false≢true}
 use Rattle.terms.specs.Ending.{zero-mark, marked-more}
 use mathlib.Core.Path.{_≡_}
-use mathlib.Core.Bool.{true, false}
+use mathlib.Core.Bool.{true}
 use Prim.Native.Nat.{ℕ, _≤_, _<_, _-_}
 use lib.ListN.{length, getD}
 use Rattle.terms.specs.Ending.{isMarked}
@@ -9,8 +9,6 @@ use borrow.Author.Needs.{needs}
 use native.Mathlib.Omega.{arith}
 use Rattle.terms.proofs.ending.all_marked.Statement.{statement}
 use Rattle.terms.proofs.ending.all_marked.Tie as tie
-use Rattle.terms.proofs.ending.all_marked.Reads as reads
-use Rattle.terms.proofs.ending.all_marked.Lts as lts
 
 abbrev Inv-loop : tie.InvT-loop
 Inv-loop done i₀ i = (i ≤ 128) × (length done ≡ 128) × ((k : ℕ) → k < i → isMarked (getD done k 0) ≡ true)

@@ -1,11 +1,7 @@
 use Rattle.terms.specs.Ending.{ended-marked, ended-past}
-use native.Mathlib.Omega.{arith}
 use borrow.Author.Needs.{needs}
 use Rattle.terms.proofs.ending.ended.Statement.{statement}
 use Rattle.terms.proofs.ending.ended.Tie as tie
-use Rattle.terms.proofs.ending.ended.Reads as reads
-use Rattle.terms.proofs.ending.ended.Lts as lts
-use Rattle.terms.proofs.node.wide.Reads as wide-reads
 
 pub ended-spec : {M : Type 1} → statement M
 ended-spec = tie.close (tie.spec

@@ -1,15 +1,8 @@
 use mathlib.Core.Path.{sym, ap, _∙_}
 use Rattle.terms.specs.Ending.{endedAt, pair-ready, pair-waits, encryption-ready, childless-ready}
-use native.Mathlib.Omega.{arith}
 use borrow.Author.Needs.{needs}
 use Rattle.terms.proofs.ending.is_ready.Statement.{statement}
 use Rattle.terms.proofs.ending.is_ready.Tie as tie
-use Rattle.terms.proofs.ending.is_ready.Reads as reads
-use Rattle.terms.proofs.ending.is_ready.Lts as lts
-use Rattle.terms.proofs.ending.ended.Reads as ended-reads
-use Rattle.terms.proofs.node.first_child.Reads as first-child-reads
-use Rattle.terms.proofs.node.node_tag.Reads as node-tag-reads
-use Rattle.terms.proofs.node.second_child.Reads as second-child-reads
 
 pub is-ready-spec : {M : Type 1} → statement M
 is-ready-spec = tie.close (tie.spec

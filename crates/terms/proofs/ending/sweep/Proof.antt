@@ -1,19 +1,16 @@
-use mathlib.Core.Path.{refl, sym, ap, _∙_, subst}
+use mathlib.Core.Path.{refl, sym, _∙_, subst}
 use mathlib.Core.Bool.{true≢false, false≢true}
 use lib.ListN.{length-set}
 use Rattle.terms.specs.Ending.{Readiness, zero-mark, some-mark, mark-sound, fewer-zeros, no-more-zeros, stuck-none, stuck-down}
 use mathlib.Core.Path.{_≡_}
 use mathlib.Core.Bool.{true, false}
-use Prim.Native.Nat.{ℕ, _≤_, _<_, _-_}
-use lib.ListN.{length, getD}
-use Rattle.terms.specs.Ending.{isMarked, Sound, StuckFrom, zeros}
+use Prim.Native.Nat.{_≤_, _<_, _-_}
+use lib.ListN.{length}
+use Rattle.terms.specs.Ending.{Sound, StuckFrom, zeros}
 use borrow.Author.Needs.{needs}
 use native.Mathlib.Omega.{arith}
 use Rattle.terms.proofs.ending.sweep.Statement.{statement}
 use Rattle.terms.proofs.ending.sweep.Tie as tie
-use Rattle.terms.proofs.ending.sweep.Reads as reads
-use Rattle.terms.proofs.ending.sweep.Lts as lts
-use Rattle.terms.proofs.ending.is_ready.Reads as is-ready-reads
 
 abbrev Inv-loop : tie.InvT-loop
 Inv-loop s t c done₀ changed₀ left₀ done changed left = (left ≤ 128) × (length done ≡ 128) × Sound s t c done × (changed ≡ true → zeros done < zeros done₀) × (changed ≡ false → (zeros done ≡ zeros done₀) × StuckFrom s t c done left)

@@ -1,5 +1,4 @@
 use borrow.Author.Needs.{needs}
-use native.Mathlib.Omega.{arith}
 use lib.ListN.{length}
 use Rattle.terms.specs.EntryLaws.{begins}
 use Rattle.terms.specs.WalkLaws.{pair-first, encryption-first, leaf-first, right-begins, pair-size, encryption-size}

@@ -1,13 +1,8 @@
 use mathlib.Core.Path.{sym, _∙_}
 use Rattle.terms.specs.TermGraphLaws.{home-plain, home-marked, home-own}
-use native.Mathlib.Omega.{arith}
 use borrow.Author.Needs.{needs}
 use Rattle.terms.proofs.node.home.Statement.{statement}
 use Rattle.terms.proofs.node.home.Tie as tie
-use Rattle.terms.proofs.node.home.Reads as reads
-use Rattle.terms.proofs.node.home.Lts as lts
-use Rattle.terms.proofs.node.byte_at.Reads as byte-at-reads
-use Rattle.terms.proofs.node.value_in.Reads as value-in-reads
 
 pub home-spec : {M : Type 1} → statement M
 home-spec = tie.close (tie.spec

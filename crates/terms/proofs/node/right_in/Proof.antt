@@ -1,11 +1,8 @@
-use Rattle.terms.specs.TermGraphLaws.{PairThere, pair-there, right-part, right-found}
+use Rattle.terms.specs.TermGraphLaws.{pair-there, right-part, right-found}
 use native.Mathlib.Omega.{arith}
 use borrow.Author.Needs.{needs}
 use Rattle.terms.proofs.node.right_in.Statement.{statement}
 use Rattle.terms.proofs.node.right_in.Tie as tie
-use Rattle.terms.proofs.node.right_in.Reads as reads
-use Rattle.terms.proofs.node.right_in.Lts as lts
-use Rattle.terms.proofs.entry.term_size.Reads as term-size-reads
 
 pub right-in-spec : {M : Type 1} → statement M
 right-in-spec = tie.close (tie.spec

@@ -2,14 +2,9 @@ use borrow.Author.Tests.{lt-ltb, le-ltb}
 use Rattle.terms.specs.TermGraph as graph
 use mathlib.Core.Path.{sym, _∙_}
 use Rattle.terms.specs.TermGraphLaws.{left-tag, right-tag}
-use native.Mathlib.Omega.{arith}
 use borrow.Author.Needs.{needs}
 use Rattle.terms.proofs.node.second_child.Statement.{statement}
 use Rattle.terms.proofs.node.second_child.Tie as tie
-use Rattle.terms.proofs.node.second_child.Reads as reads
-use Rattle.terms.proofs.node.second_child.Lts as lts
-use Rattle.terms.proofs.node.home.Reads as home-reads
-use Rattle.terms.proofs.node.right_in.Reads as right-in-reads
 
 pub second-child-spec : {M : Type 1} → statement M
 unfolding graph.secondChild

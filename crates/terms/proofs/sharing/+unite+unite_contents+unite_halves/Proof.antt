@@ -1,7 +1,6 @@
 use mathlib.Core.Path.{sym, ap, _∙_}
 use Rattle.terms.specs.TermGraph.{nodeTag}
 use Rattle.terms.specs.GraphLaws.{moved, both-answer, failed, first-clash}
-use lib.ListN.{getD}
 use Rattle.terms.specs.UniteAnswers.{met-at, same-answer, differ-answer, renamed-length, renamed-fewer, left-answer, atoms-answer, right-answer, renamed-classes, contents-answer, halves-answer}
 use borrow.Author.Needs.{needs}
 use native.Mathlib.Omega.{arith}

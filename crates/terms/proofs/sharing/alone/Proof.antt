@@ -4,11 +4,8 @@ use mathlib.Core.Path.{_≡_}
 use Prim.Native.Nat.{ℕ, _≤_, _<_, _-_}
 use lib.ListN.{length, getD}
 use borrow.Author.Needs.{needs}
-use native.Mathlib.Omega.{arith}
 use Rattle.terms.proofs.sharing.alone.Statement.{statement}
 use Rattle.terms.proofs.sharing.alone.Tie as tie
-use Rattle.terms.proofs.sharing.alone.Reads as reads
-use Rattle.terms.proofs.sharing.alone.Lts as lts
 
 abbrev Inv-loop : tie.InvT-loop
 Inv-loop c₀ k₀ c k = (k ≤ 256) × (length c ≡ 256) × ((i : ℕ) → i < k → getD c i 0 ≡ i)

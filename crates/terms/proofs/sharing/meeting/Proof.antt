@@ -1,15 +1,9 @@
 use mathlib.Core.Path.{sym, ap, _∙_}
 use mathlib.Core.Logic.{inl, inr}
 use Rattle.terms.specs.TermGraph.{freeTag}
-use native.Mathlib.Omega.{arith}
 use borrow.Author.Needs.{needs}
 use Rattle.terms.proofs.sharing.meeting.Statement.{statement}
 use Rattle.terms.proofs.sharing.meeting.Tie as tie
-use Rattle.terms.proofs.sharing.meeting.Reads as reads
-use Rattle.terms.proofs.sharing.meeting.Lts as lts
-use Rattle.terms.proofs.node.node_tag.Reads as node-tag-reads
-use Rattle.terms.proofs.node.node_value.Reads as node-value-reads
-use Rattle.terms.proofs.sharing.is_free.Reads as is-free-reads
 
 pub meeting-spec : {M : Type 1} → statement M
 meeting-spec = tie.close (tie.spec

@@ -1,7 +1,6 @@
 -- `terms::sharing::relabel` meets its contract: after k turns the first k entries are renamed. Assumes nothing.
-use mathlib.Core.Path.{_≡_, refl, ap, _∙_}
+use mathlib.Core.Path.{_≡_, refl, _∙_}
 use Prim.Native.Nat.{_≤_, _-_}
-use native.Mathlib.Omega.{arith}
 use lib.ListN.{length, length-set}
 use borrow.Author.Needs.{needs}
 use Rattle.terms.specs.Names.{renamedUpTo, renamed-step, renamed-all}

@@ -3,11 +3,6 @@ use native.Mathlib.Omega.{arith}
 use borrow.Author.Needs.{needs}
 use Rattle.terms.proofs.sharing.shares_by_classes.Statement.{statement}
 use Rattle.terms.proofs.sharing.shares_by_classes.Tie as tie
-use Rattle.terms.proofs.sharing.shares_by_classes.Reads as reads
-use Rattle.terms.proofs.sharing.shares_by_classes.Lts as lts
-use Rattle.terms.proofs.ending.is_finite.Reads as is-finite-reads
-use Rattle.terms.proofs.sharing.alone.Reads as alone-reads
-use Rattle.terms.proofs.sharing.meet.Reads as meet-reads
 
 pub shares-by-classes-spec : {M : Type 1} → statement M
 shares-by-classes-spec = tie.close (tie.spec
