@@ -1,3 +1,4 @@
+-- `term_tests::is_term` meets its contract. Assumes nothing.
 use mathlib.Core.Path.{sym, ap, _∙_}
 use mathlib.Core.Bool.{false}
 use Rattle.terms.specs.OneTerm.{oneTerm?}

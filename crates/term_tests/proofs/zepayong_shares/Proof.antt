@@ -1,3 +1,4 @@
+-- `term_tests::zepayong_shares` meets its contract. Assumes nothing.
 use mathlib.Core.Path.{sym, ap, _∙_}
 use Rattle.term_tests.specs.Asked.{shareNumber, yesNumber, term-is, asked, first-none, second-none}
 use borrow.Author.Needs.{needs}

@@ -1,3 +1,4 @@
+-- `judge::cover::mark_cover` meets its contract; the measure is the length of the pattern. Assumes nothing.
 use borrow.Author.Needs.{needs}
 use native.Mathlib.Omega.{arith}
 use lib.ListN.{length}

@@ -1,3 +1,4 @@
+-- `judge::cover::close_below` meets its contract. Assumes nothing.
 use borrow.Author.Needs.{needs}
 use borrow.Author.Tests.{not-true, not-false}
 use Rattle.terms.specs.Decisions.{says-yes, says-no}

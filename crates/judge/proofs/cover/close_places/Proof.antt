@@ -1,3 +1,4 @@
+-- `judge::cover::close_places` meets its contract: before entry h the flags are on where an entry is open as far as the first h entries go. Assumes nothing.
 use borrow.Author.Needs.{needs}
 use Prim.Native.Nat.{_≤_, _-_}
 use Rattle.terms.specs.Entry.{termOf, size}

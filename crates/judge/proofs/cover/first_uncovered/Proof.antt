@@ -1,3 +1,4 @@
+-- `judge::cover::first_uncovered` meets its contract: the entries before entry k are covered where they are risky. Assumes nothing.
 use borrow.Author.Needs.{needs}
 use native.Mathlib.Omega.{arith}
 use mathlib.Core.Path.{refl}

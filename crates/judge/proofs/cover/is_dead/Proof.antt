@@ -1,3 +1,4 @@
+-- `judge::cover::is_dead` meets its contract: no open entry before entry k is a secret. Assumes nothing.
 use borrow.Author.Needs.{needs}
 use Prim.Native.Nat.{ℕ, _≤_, _<_, _-_}
 use borrow.Author.Count.{below-none, below-more}

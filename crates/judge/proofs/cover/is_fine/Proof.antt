@@ -1,3 +1,4 @@
+-- `judge::cover::is_fine` meets its contract. Assumes nothing.
 use borrow.Author.Needs.{needs}
 use Rattle.terms.specs.Decisions.{says-yes, says-no}
 use Rattle.judge.proofs.Hats.{searching-at}

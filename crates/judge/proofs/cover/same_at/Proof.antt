@@ -1,3 +1,4 @@
+-- `judge::cover::same_at` meets its contract. Assumes nothing.
 use borrow.Author.Needs.{needs}
 use native.Mathlib.Omega.{arith}
 use Rattle.terms.specs.Decide.{variable?, term?}

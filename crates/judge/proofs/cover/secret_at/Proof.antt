@@ -1,3 +1,4 @@
+-- `judge::cover::secret_at` meets its contract. Assumes nothing.
 use borrow.Author.Needs.{needs}
 use Rattle.judge.specs.Listed.{is-secret?}
 use Rattle.judge.proofs.ListedLaws.{answer-says}

@@ -1,3 +1,4 @@
+-- `judge::cover::stands_open` meets its contract: no open entry before entry k is the term. Assumes nothing.
 use borrow.Author.Needs.{needs}
 use Prim.Native.Nat.{ℕ, _≤_, _<_, _-_}
 use borrow.Author.Count.{below-none, below-more}

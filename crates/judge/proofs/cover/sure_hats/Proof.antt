@@ -1,3 +1,4 @@
+-- `judge::cover::sure_hats` meets its contract: before entry h the flags are on where a hat among the first h entries covers an entry. Assumes nothing.
 use borrow.Author.Needs.{needs}
 use Prim.Native.Nat.{_≤_, _-_}
 use Rattle.terms.specs.Entry.{termOf, size}

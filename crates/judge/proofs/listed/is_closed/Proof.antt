@@ -1,3 +1,4 @@
+-- `judge::listed::is_closed` meets its contract. Assumes nothing.
 use borrow.Author.Needs.{needs}
 use Rattle.terms.specs.EntryLaws.{begins}
 use Rattle.terms.specs.WalkLaws.{pair-first, encryption-first, right-begins}

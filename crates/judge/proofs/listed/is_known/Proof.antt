@@ -1,3 +1,4 @@
+-- `judge::listed::is_known` meets its contract. Assumes nothing.
 use borrow.Author.Needs.{needs}
 use Rattle.judge.specs.File.{certificateOf}
 use Rattle.judge.proofs.Numbers.{known-other, known-away, known-says}

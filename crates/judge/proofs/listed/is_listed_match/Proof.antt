@@ -1,3 +1,4 @@
+-- `judge::listed::is_listed_match` meets its contract: no block from `left` on holds one. Assumes nothing.
 use Prim.Native.Nat.{ℕ, _≤_, _<_}
 use native.Mathlib.Omega.{arith}
 use borrow.Author.Needs.{needs}

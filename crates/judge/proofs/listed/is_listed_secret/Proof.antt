@@ -1,3 +1,4 @@
+-- `judge::listed::is_listed_secret` meets its contract: no block before block i holds it. Assumes nothing.
 use Prim.Native.Nat.{ℕ, _≤_, _<_, _-_}
 use native.Mathlib.Omega.{arith}
 use borrow.Author.Needs.{needs}

@@ -1,3 +1,4 @@
+-- `judge::listed::known_at` meets its contract. Assumes nothing.
 use borrow.Author.Needs.{needs}
 use Rattle.terms.specs.Decisions.{says-yes, says-no}
 use Rattle.judge.specs.File.{certificateOf}

@@ -1,3 +1,4 @@
+-- `judge::listed::known_secret` meets its contract: no block before block i has the fault. Assumes nothing.
 use Prim.Native.Nat.{_-_}
 use borrow.Author.Needs.{needs}
 use Rattle.judge.specs.declared.verdict.Fault.the-variants.{KnownSecret}

@@ -1,3 +1,4 @@
+-- `judge::listed::matches_at` meets its contract. Assumes nothing.
 use borrow.Author.Needs.{needs}
 use Rattle.terms.specs.Instance.{Matches}
 use Rattle.terms.specs.Entry.{termOf}

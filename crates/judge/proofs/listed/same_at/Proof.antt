@@ -1,3 +1,4 @@
+-- `judge::listed::same_at` meets its contract. Assumes nothing.
 use borrow.Author.Needs.{needs}
 use mathlib.Core.Path.{_≡_}
 use Rattle.terms.specs.Entry.{termOf}

@@ -1,3 +1,4 @@
+-- `judge::listed::shares_at` meets its contract. Assumes nothing.
 use borrow.Author.Needs.{needs}
 use Rattle.terms.specs.Instance.{Share}
 use Rattle.terms.specs.Entry.{termOf}

@@ -1,3 +1,4 @@
+-- `terms::ending::all_end` meets its contract: the marks are sound, and once a sweep changes nothing no node is left that could be marked. Assumes nothing.
 use mathlib.Core.Path.{refl}
 use mathlib.Core.Bool.{true≢false}
 use lib.ListN.{replicate, getD-replicate}

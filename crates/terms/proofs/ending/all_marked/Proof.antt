@@ -1,3 +1,4 @@
+-- `terms::ending::all_marked` meets its contract: the nodes before node i are marked. Assumes nothing.
 use mathlib.Core.Bool.{true≢false, false≢true}
 use Rattle.terms.specs.Ending.{zero-mark, marked-more}
 use mathlib.Core.Path.{_≡_}

@@ -1,3 +1,4 @@
+-- `terms::ending::ended` meets its contract. Assumes nothing.
 use Rattle.terms.specs.Ending.{ended-marked, ended-past}
 use borrow.Author.Needs.{needs}
 use Rattle.terms.proofs.ending.ended.Statement.{statement}

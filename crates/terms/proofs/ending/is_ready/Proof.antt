@@ -1,3 +1,4 @@
+-- `terms::ending::is_ready` meets its contract. Assumes nothing.
 use mathlib.Core.Path.{sym, ap, _∙_}
 use Rattle.terms.specs.Ending.{endedAt, pair-ready, pair-waits, encryption-ready, childless-ready}
 use borrow.Author.Needs.{needs}

@@ -1,3 +1,4 @@
+-- `terms::ending::sweep` meets its contract: the marks stay sound; either there are more of them, or no node from `left` on could be marked. Assumes nothing.
 use mathlib.Core.Path.{refl, sym, _∙_, subst}
 use mathlib.Core.Bool.{true≢false, false≢true}
 use lib.ListN.{length-set}

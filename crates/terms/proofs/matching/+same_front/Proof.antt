@@ -1,3 +1,4 @@
+-- `terms::matching::same_front` meets its contract; the measure is the length. Assumes nothing.
 use borrow.Author.Needs.{needs}
 use lib.ListN.{length}
 use Rattle.terms.specs.FrontLaws.{none-left, same-below, same-step, same-clash, said, denied}

@@ -1,3 +1,4 @@
+-- `terms::matching::bindable` meets its contract. Assumes nothing.
 use native.Mathlib.Omega.{arith}
 use borrow.Author.Needs.{needs}
 use Rattle.terms.specs.Decide.{term?, variable?}

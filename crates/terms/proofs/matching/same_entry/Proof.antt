@@ -1,3 +1,4 @@
+-- `terms::matching::same_entry` meets its contract. Assumes nothing.
 use borrow.Author.Needs.{needs}
 use Rattle.terms.specs.FrontLaws.{same-value}
 use Rattle.terms.proofs.matching.same_entry.Statement.{statement}

@@ -1,3 +1,4 @@
+-- `terms::node::home` meets its contract. Assumes nothing.
 use mathlib.Core.Path.{sym, _∙_}
 use Rattle.terms.specs.TermGraphLaws.{home-plain, home-marked, home-own}
 use borrow.Author.Needs.{needs}

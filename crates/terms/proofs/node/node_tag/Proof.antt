@@ -1,3 +1,4 @@
+-- `terms::node::node_tag` meets its contract. Assumes nothing.
 use borrow.Author.Tests.{lt-ltb, le-ltb}
 use Rattle.terms.specs.TermGraph as graph
 use borrow.Author.Needs.{needs}

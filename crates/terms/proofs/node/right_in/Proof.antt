@@ -1,3 +1,4 @@
+-- `terms::node::right_in` meets its contract. Assumes nothing.
 use Rattle.terms.specs.TermGraphLaws.{pair-there, right-part, right-found}
 use native.Mathlib.Omega.{arith}
 use borrow.Author.Needs.{needs}

@@ -1,3 +1,4 @@
+-- `terms::node::second_child` meets its contract. Assumes nothing.
 use borrow.Author.Tests.{lt-ltb, le-ltb}
 use Rattle.terms.specs.TermGraph as graph
 use mathlib.Core.Path.{sym, _∙_}

@@ -1,3 +1,4 @@
+-- `terms::sharing::meet` and `meet_halves` meet their contracts; the measure is twice the entries left, one more for `meet`. Assumes nothing.
 use mathlib.Core.Path.{sym, ap, _∙_}
 use Rattle.terms.specs.TermGraph.{home}
 use Rattle.terms.specs.TermGraphLaws.{pair-there, encryption-there}

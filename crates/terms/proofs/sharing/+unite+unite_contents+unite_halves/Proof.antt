@@ -1,7 +1,10 @@
+-- `terms::sharing::unite`, `unite_contents` and `unite_halves` meet their contracts; the measure is twice the number of
+-- classes, one more for the two that only call `unite`. Assumes nothing.
 use mathlib.Core.Path.{sym, ap, _∙_}
 use Rattle.terms.specs.TermGraph.{nodeTag}
 use Rattle.terms.specs.GraphLaws.{moved, both-answer, failed, first-clash}
-use Rattle.terms.specs.UniteAnswers.{met-at, same-answer, differ-answer, renamed-length, renamed-fewer, left-answer, atoms-answer, right-answer, renamed-classes, contents-answer, halves-answer}
+use Rattle.terms.specs.UniteAnswers.{uniting, other-way, taken, met-at, same-answer, differ-answer, renamed-length, renamed-fewer, left-answer}
+use Rattle.terms.specs.UniteAnswers.{atoms-answer, right-answer, renamed-classes, contents-answer, halves-answer}
 use borrow.Author.Needs.{needs}
 use native.Mathlib.Omega.{arith}
 use Prim.Native.Nat.{ℕ, _<_, _*_, _+_}
@@ -72,12 +75,9 @@ pub +unite+unite-contents+unite-halves-spec : {M : Type 1} → statement M
 +unite+unite-contents+unite-halves-spec = close μ-unite μ-unite-contents μ-unite-halves (λ t. unite-lts.spec (wide-reads.Asked, wide-reads.Learnt, meeting-reads.Asked, meeting-reads.Learnt, relabel-reads.Asked, relabel-reads.Learnt, unite-contents-below t, unite-contents.Post, unite-halves-below t, unite-halves.Post) (unite-at t) unite.Post
     (λ c. search needs)  -- unite-element-copy-out-a
     (λ c. search needs)  -- unite-element-copy-out-b
-    (λ c. let start = c .before .before .before .before .before in let args = start .args in let pre = start .pre in (
-      pre .1 .1,
-      search needs,
-      same-answer (args .s .now) (args .t .now) (args .c .now) (args .i) (args .j) (pre .1 .1) (pre .1 .2) (pre .1 .3)
-          (pre .1 .4) (c .if1 .taken),
-    ))  -- unite-returns
+    (λ c. let start = c .before .before .before .before .before in let args = start .args in let pre = start .pre in
+    let u = uniting (args .s .now) (args .t .now) (args .c .now) (args .i) (args .j) (pre .1) in
+    (pre .1 .1, search needs, same-answer u (c .if1 .taken)))  -- unite-returns
     (λ c κs. search needs)  -- unite-wide-requires
     (λ c κs. search needs)  -- unite-wide-requires-2
     (λ c κs. search needs)  -- unite-meeting-requires
@@ -92,147 +92,77 @@ pub +unite+unite-contents+unite-halves-spec : {M : Type 1} → statement M
     (λ c κs. search needs)  -- unite-relabel-requires-4
     (λ c κs. search needs)  -- unite-wide-requires-3
     (λ c κs. search needs)  -- unite-wide-requires-4
-    (λ c κs. let start = c .before .before .before .before .before .before .before .before .before .before .before .before .before .before .before in
-    let args = start .args in let pre = start .pre in
-    let if1 = c .before .before .before .before .before .before .before .before .before .before .if1 in
-    let wide = c .before .before .before .before .before .before .before .before .before .wide in
-    let wide2 = c .before .before .before .before .before .before .before .before .wide2 in
-    let meeting = c .before .before .before .before .before .before .before .meeting in
-    let enum-told5 = c .before .before .before .before .before .enum-told5 in let relabel4 = c .before .before .before .relabel4 in
-    let w = relabel4 .ensures in
-    let fall = renamed-fewer (args .s .now) (args .t .now) (args .c .now) (args .i) (args .j) (pre .1 .1) (pre .1 .2) (pre .1 .3) (pre .1 .4)
-    (if1 .left) (omega (arith, wide .ensures)) (omega (arith, wide2 .ensures)) w in (
-      omega (arith, pre .0),
-      (
-        pre .1 .0,
-        renamed-length (args .s .now) (args .t .now) (args .c .now) (args .i) (args .j) (pre .1 .1) (pre .1 .2)
-            (pre .1 .3) (pre .1 .4) (if1 .left) (omega (arith, wide .ensures)) (omega (arith, wide2 .ensures)) w,
-        renamed-classes (args .s .now)
-            (args .t .now) (args .c .now) (args .i) (args .j) (pre .1 .1) (pre .1 .2) (pre .1 .3) (pre .1 .4) (if1 .left) (omega (arith, wide .ensures))
-            (omega (arith, wide2 .ensures)) w ((met-at (args .s .now) (args .t .now) (meeting .ensures) (enum-told5 .given .1) (wide .ensures .0)
-            (wide2 .ensures .0)) .0),
-      ),
-    ))  -- unite-unite-contents-requires
+    (λ c κs. let start = c .before .before .before .before .before .before .before .before .before .before .before .before .before .before .before in let args = start .args in let pre = start .pre in
+    let if1 = c .before .before .before .before .before .before .before .before .before .before .if1 in let wide = c .before .before .before .before .before .before .before .before .before .wide in
+    let wide2 = c .before .before .before .before .before .before .before .before .wide2 in let meeting = c .before .before .before .before .before .before .before .meeting in
+    let u = uniting (args .s .now) (args .t .now) (args .c .now) (args .i) (args .j) (pre .1) in
+    let w = taken u (if1 .left) (wide .ensures) (wide2 .ensures) (c .before .before .before .relabel4 .ensures) in
+    let m = met-at (args .s .now) (args .t .now) (meeting .ensures) (c .before .before .before .before .before .enum-told5 .given .1) (wide .ensures .0) (wide2 .ensures .0) in
+    let fall = renamed-fewer w in
+    (omega (arith, pre .0), (pre .1 .0, renamed-length w, renamed-classes w (m .0))))  -- unite-unite-contents-requires
     (λ c. search needs)  -- unite-enum-told-6
     (λ c κs. search needs)  -- unite-relabel-requires-5
     (λ c κs. search needs)  -- unite-wide-requires-5
     (λ c κs. search needs)  -- unite-wide-requires-6
-    (λ c κs. let start = c .before .before .before .before .before .before .before .before .before .before .before .before .before .before .before in
-    let args = start .args in let pre = start .pre in
-    let if1 = c .before .before .before .before .before .before .before .before .before .before .if1 in
-    let wide = c .before .before .before .before .before .before .before .before .before .wide in
-    let wide2 = c .before .before .before .before .before .before .before .before .wide2 in
-    let meeting = c .before .before .before .before .before .before .before .meeting in
-    let enum-told6 = c .before .before .before .before .before .enum-told6 in let relabel5 = c .before .before .before .relabel5 in
-    let w = relabel5 .ensures in
-    let fall = renamed-fewer (args .s .now) (args .t .now) (args .c .now) (args .i) (args .j) (pre .1 .1) (pre .1 .2) (pre .1 .3) (pre .1 .4)
-    (if1 .left) (omega (arith, wide .ensures)) (omega (arith, wide2 .ensures)) w in
-    let m = (met-at (args .s .now) (args .t .now) (meeting .ensures) (enum-told6 .given .1) (wide .ensures .0) (wide2 .ensures .0)) in (
+    (λ c κs. let start = c .before .before .before .before .before .before .before .before .before .before .before .before .before .before .before in let args = start .args in let pre = start .pre in
+    let if1 = c .before .before .before .before .before .before .before .before .before .before .if1 in let wide = c .before .before .before .before .before .before .before .before .before .wide in
+    let wide2 = c .before .before .before .before .before .before .before .before .wide2 in let meeting = c .before .before .before .before .before .before .before .meeting in
+    let u = uniting (args .s .now) (args .t .now) (args .c .now) (args .i) (args .j) (pre .1) in
+    let w = taken u (if1 .left) (wide .ensures) (wide2 .ensures) (c .before .before .before .relabel5 .ensures) in
+    let m = met-at (args .s .now) (args .t .now) (meeting .ensures) (c .before .before .before .before .before .enum-told6 .given .1) (wide .ensures .0) (wide2 .ensures .0) in
+    let fall = renamed-fewer w in (
       omega (arith, pre .0),
       (
         pre .1 .0,
-        renamed-length (args .s .now) (args .t .now) (args .c .now) (args .i) (args .j) (pre .1 .1) (pre .1 .2)
-            (pre .1 .3) (pre .1 .4) (if1 .left) (omega (arith, wide .ensures)) (omega (arith, wide2 .ensures)) w,
-        renamed-classes (args .s .now)
-            (args .t .now) (args .c .now) (args .i) (args .j) (pre .1 .1) (pre .1 .2) (pre .1 .3) (pre .1 .4) (if1 .left) (omega (arith, wide .ensures))
-            (omega (arith, wide2 .ensures)) w (m .0),
+        renamed-length w,
+        renamed-classes w (m .0),
         ap (nodeTag (args .s .now) (args .t .now)) (c .before .wide5 .ensures .0) ∙ m .2,
-        ap
-            (nodeTag (args .s .now) (args .t .now)) (c .wide6 .ensures .0) ∙ sym (m .1) ∙ m .2,
+        ap (nodeTag (args .s .now) (args .t .now)) (c .wide6 .ensures .0) ∙ sym (m .1) ∙ m .2,
       ),
     ))  -- unite-unite-halves-requires
-    (λ c. let start = c .before .before .before .before .before .before .before .before .before .before .before .before in
-    let args = start .args in let pre = start .pre in let if1 = c .before .before .before .before .before .before .before .if1 in
-    let wide = c .before .before .before .before .before .before .wide in let wide2 = c .before .before .before .before .before .wide2 in
-    let meeting = c .before .before .before .before .meeting in let w = c .relabel .ensures in (
-      renamed-length (args .s .now) (args .t .now) (args .c .now) (args .i) (args .j) (pre .1 .1) (pre .1 .2) (pre .1 .3) (pre .1 .4) (if1 .left)
-          (omega (arith, wide .ensures)) (omega (arith, wide2 .ensures)) w,
-      omega (
-        arith,
-        renamed-fewer (args .s .now) (args .t .now) (args .c .now) (args .i) (args .j) (pre .1 .1) (pre .1 .2) (pre .1 .3) (pre .1 .4) (if1 .left)
-            (omega (arith, wide .ensures)) (omega (arith, wide2 .ensures)) w,
-      ),
-      left-answer (args .s .now) (args .t .now) (args .c .now) (args .i) (args .j)
-          (pre .1 .1) (pre .1 .2) (pre .1 .3) (pre .1 .4) (if1 .left) (omega (arith, wide .ensures)) (omega (arith, wide2 .ensures)) w
-          (met-at (args .s .now) (args .t .now) (meeting .ensures) (c .before .before .enum-told .given .1) (wide .ensures .0) (wide2 .ensures .0)),
-    ))  -- unite-returns-2
-    (λ c. let start = c .before .before .before .before .before .before .before .before .before .before .before .before in
-    let args = start .args in let pre = start .pre in let if1 = c .before .before .before .before .before .before .before .if1 in
-    let wide = c .before .before .before .before .before .before .wide in let wide2 = c .before .before .before .before .before .wide2 in
-    let meeting = c .before .before .before .before .meeting in let w = c .relabel2 .ensures in (
-      renamed-length (args .s .now) (args .t .now) (args .c .now) (args .j) (args .i) (pre .1 .1) (pre .1 .3) (pre .1 .2) (pre .1 .4)
-          (λ e. if1 .left (sym e)) (omega (arith, wide2 .ensures)) (omega (arith, wide .ensures)) w,
-      omega (
-        arith,
-        renamed-fewer (args .s .now) (args .t .now) (args .c .now) (args .j) (args .i) (pre .1 .1) (pre .1 .3) (pre .1 .2) (pre .1 .4)
-            (λ e. if1 .left (sym e)) (omega (arith, wide2 .ensures)) (omega (arith, wide .ensures)) w,
-      ),
-      right-answer (args .s .now) (args .t .now)
-          (args .c .now) (args .i) (args .j) (pre .1 .1) (pre .1 .2) (pre .1 .3) (pre .1 .4) (if1 .left) (omega (arith, wide .ensures))
-          (omega (arith, wide2 .ensures)) w (met-at (args .s .now) (args .t .now) (meeting .ensures) (c .before .before .enum-told2 .given .1)
-          (wide .ensures .0) (wide2 .ensures .0)),
-    ))  -- unite-returns-3
-    (λ c. let start = c .before .before .before .before .before .before .before .before .before .before in
-    let args = start .args in let pre = start .pre in let wide = c .before .before .before .before .wide in
-    let wide2 = c .before .before .before .wide2 in (
-      pre .1 .1,
-      search needs,
-      differ-answer (args .s .now) (args .t .now) (args .c .now) (args .i) (args .j) (pre .1 .1) (pre .1 .2) (pre .1 .3)
-          (pre .1 .4) (met-at (args .s .now) (args .t .now) (c .before .before .meeting .ensures) (c .enum-told3 .given .1) (wide .ensures .0)
-          (wide2 .ensures .0)),
-    ))  -- unite-returns-4
-    (λ c. let start = c .before .before .before .before .before .before .before .before .before .before .before .before in
-    let args = start .args in let pre = start .pre in let if1 = c .before .before .before .before .before .before .before .if1 in
-    let wide = c .before .before .before .before .before .before .wide in let wide2 = c .before .before .before .before .before .wide2 in
-    let meeting = c .before .before .before .before .meeting in let w = c .relabel3 .ensures in (
-      renamed-length (args .s .now) (args .t .now) (args .c .now) (args .i) (args .j) (pre .1 .1) (pre .1 .2) (pre .1 .3) (pre .1 .4) (if1 .left)
-          (omega (arith, wide .ensures)) (omega (arith, wide2 .ensures)) w,
-      omega (
-        arith,
-        renamed-fewer (args .s .now) (args .t .now) (args .c .now) (args .i) (args .j) (pre .1 .1) (pre .1 .2) (pre .1 .3) (pre .1 .4) (if1 .left)
-            (omega (arith, wide .ensures)) (omega (arith, wide2 .ensures)) w,
-      ),
-      atoms-answer (args .s .now) (args .t .now) (args .c .now) (args .i) (args .j)
-          (pre .1 .1) (pre .1 .2) (pre .1 .3) (pre .1 .4) (if1 .left) (omega (arith, wide .ensures)) (omega (arith, wide2 .ensures)) w
-          (met-at (args .s .now) (args .t .now) (meeting .ensures) (c .before .before .enum-told4 .given .1) (wide .ensures .0) (wide2 .ensures .0)),
-    ))  -- unite-returns-5
-    (λ c.
-    let start = c .before .before .before .before .before .before .before .before .before .before .before .before .before .before .before .before in
-    let args = start .args in let pre = start .pre in
-    let if1 = c .before .before .before .before .before .before .before .before .before .before .before .if1 in
-    let wide = c .before .before .before .before .before .before .before .before .before .before .wide in
-    let wide2 = c .before .before .before .before .before .before .before .before .before .wide2 in
-    let meeting = c .before .before .before .before .before .before .before .before .meeting in
-    let enum-told5 = c .before .before .before .before .before .before .enum-told5 in let relabel4 = c .before .before .before .before .relabel4 in
-    let w = relabel4 .ensures in
-    let fall = renamed-fewer (args .s .now) (args .t .now) (args .c .now) (args .i) (args .j) (pre .1 .1) (pre .1 .2) (pre .1 .3) (pre .1 .4)
-    (if1 .left) (omega (arith, wide .ensures)) (omega (arith, wide2 .ensures)) w in (
+    (λ c. let start = c .before .before .before .before .before .before .before .before .before .before .before .before in let args = start .args in let pre = start .pre in
+    let if1 = c .before .before .before .before .before .before .before .if1 in let wide = c .before .before .before .before .before .before .wide in
+    let wide2 = c .before .before .before .before .before .wide2 in let meeting = c .before .before .before .before .meeting in
+    let u = uniting (args .s .now) (args .t .now) (args .c .now) (args .i) (args .j) (pre .1) in
+    let w = taken u (if1 .left) (wide .ensures) (wide2 .ensures) (c .relabel .ensures) in
+    (renamed-length w, omega (arith, renamed-fewer w), left-answer w (met-at (args .s .now) (args .t .now) (meeting .ensures) (c .before .before .enum-told .given .1) (wide .ensures .0) (wide2 .ensures .0))))  -- unite-returns-2
+    (λ c. let start = c .before .before .before .before .before .before .before .before .before .before .before .before in let args = start .args in let pre = start .pre in
+    let if1 = c .before .before .before .before .before .before .before .if1 in let wide = c .before .before .before .before .before .before .wide in
+    let wide2 = c .before .before .before .before .before .wide2 in let meeting = c .before .before .before .before .meeting in
+    let u = uniting (args .s .now) (args .t .now) (args .c .now) (args .i) (args .j) (pre .1) in
+    let w = taken (other-way u) (λ e. if1 .left (sym e)) (wide2 .ensures) (wide .ensures) (c .relabel2 .ensures) in
+    (renamed-length w, omega (arith, renamed-fewer w), right-answer w (met-at (args .s .now) (args .t .now) (meeting .ensures) (c .before .before .enum-told2 .given .1) (wide .ensures .0) (wide2 .ensures .0))))  -- unite-returns-3
+    (λ c. let start = c .before .before .before .before .before .before .before .before .before .before in let args = start .args in let pre = start .pre in
+    let wide = c .before .before .before .before .wide in let wide2 = c .before .before .before .wide2 in let meeting = c .before .before .meeting in
+    let u = uniting (args .s .now) (args .t .now) (args .c .now) (args .i) (args .j) (pre .1) in
+    (pre .1 .1, search needs, differ-answer u (met-at (args .s .now) (args .t .now) (meeting .ensures) (c .enum-told3 .given .1) (wide .ensures .0) (wide2 .ensures .0))))  -- unite-returns-4
+    (λ c. let start = c .before .before .before .before .before .before .before .before .before .before .before .before in let args = start .args in let pre = start .pre in
+    let if1 = c .before .before .before .before .before .before .before .if1 in let wide = c .before .before .before .before .before .before .wide in
+    let wide2 = c .before .before .before .before .before .wide2 in let meeting = c .before .before .before .before .meeting in
+    let u = uniting (args .s .now) (args .t .now) (args .c .now) (args .i) (args .j) (pre .1) in
+    let w = taken u (if1 .left) (wide .ensures) (wide2 .ensures) (c .relabel3 .ensures) in
+    (renamed-length w, omega (arith, renamed-fewer w), atoms-answer w (met-at (args .s .now) (args .t .now) (meeting .ensures) (c .before .before .enum-told4 .given .1) (wide .ensures .0) (wide2 .ensures .0))))  -- unite-returns-5
+    (λ c. let start = c .before .before .before .before .before .before .before .before .before .before .before .before .before .before .before .before in let args = start .args in let pre = start .pre in
+    let if1 = c .before .before .before .before .before .before .before .before .before .before .before .if1 in let wide = c .before .before .before .before .before .before .before .before .before .before .wide in
+    let wide2 = c .before .before .before .before .before .before .before .before .before .wide2 in let meeting = c .before .before .before .before .before .before .before .before .meeting in
+    let u = uniting (args .s .now) (args .t .now) (args .c .now) (args .i) (args .j) (pre .1) in
+    let w = taken u (if1 .left) (wide .ensures) (wide2 .ensures) (c .before .before .before .before .relabel4 .ensures) in
+    let m = met-at (args .s .now) (args .t .now) (meeting .ensures) (c .before .before .before .before .before .before .enum-told5 .given .1) (wide .ensures .0) (wide2 .ensures .0) in
+    let fall = renamed-fewer w in (
       c .unite-contents .ensures .0,
       omega (arith, c .unite-contents .ensures .1),
-      contents-answer (args .s .now) (args .t .now) (args .c .now)
-          (args .i) (args .j) (pre .1 .1) (pre .1 .2) (pre .1 .3) (pre .1 .4) (if1 .left) (omega (arith, wide .ensures)) (omega (arith, wide2 .ensures)) w
-          (c .before .before .wide3 .ensures .0) (c .before .wide4 .ensures .0)
-          (met-at (args .s .now) (args .t .now) (meeting .ensures) (enum-told5 .given .1) (wide .ensures .0) (wide2 .ensures .0))
-          (c .unite-contents .ensures .2),
+      contents-answer w (c .before .before .wide3 .ensures .0) (c .before .wide4 .ensures .0) m (c .unite-contents .ensures .2),
     ))  -- unite-returns-6
-    (λ c.
-    let start = c .before .before .before .before .before .before .before .before .before .before .before .before .before .before .before .before in
-    let args = start .args in let pre = start .pre in
-    let if1 = c .before .before .before .before .before .before .before .before .before .before .before .if1 in
-    let wide = c .before .before .before .before .before .before .before .before .before .before .wide in
-    let wide2 = c .before .before .before .before .before .before .before .before .before .wide2 in
-    let meeting = c .before .before .before .before .before .before .before .before .meeting in
-    let enum-told6 = c .before .before .before .before .before .before .enum-told6 in let relabel5 = c .before .before .before .before .relabel5 in
-    let w = relabel5 .ensures in
-    let fall = renamed-fewer (args .s .now) (args .t .now) (args .c .now) (args .i) (args .j) (pre .1 .1) (pre .1 .2) (pre .1 .3) (pre .1 .4)
-    (if1 .left) (omega (arith, wide .ensures)) (omega (arith, wide2 .ensures)) w in (
+    (λ c. let start = c .before .before .before .before .before .before .before .before .before .before .before .before .before .before .before .before in let args = start .args in let pre = start .pre in
+    let if1 = c .before .before .before .before .before .before .before .before .before .before .before .if1 in let wide = c .before .before .before .before .before .before .before .before .before .before .wide in
+    let wide2 = c .before .before .before .before .before .before .before .before .before .wide2 in let meeting = c .before .before .before .before .before .before .before .before .meeting in
+    let u = uniting (args .s .now) (args .t .now) (args .c .now) (args .i) (args .j) (pre .1) in
+    let w = taken u (if1 .left) (wide .ensures) (wide2 .ensures) (c .before .before .before .before .relabel5 .ensures) in
+    let m = met-at (args .s .now) (args .t .now) (meeting .ensures) (c .before .before .before .before .before .before .enum-told6 .given .1) (wide .ensures .0) (wide2 .ensures .0) in
+    let fall = renamed-fewer w in (
       c .unite-halves .ensures .0,
       omega (arith, c .unite-halves .ensures .1),
-      halves-answer (args .s .now) (args .t .now) (args .c .now) (args .i)
-          (args .j) (pre .1 .1) (pre .1 .2) (pre .1 .3) (pre .1 .4) (if1 .left) (omega (arith, wide .ensures)) (omega (arith, wide2 .ensures)) w
-          (c .before .before .wide5 .ensures .0) (c .before .wide6 .ensures .0)
-          (met-at (args .s .now) (args .t .now) (meeting .ensures) (enum-told6 .given .1) (wide .ensures .0) (wide2 .ensures .0))
-          (c .unite-halves .ensures .2),
+      halves-answer w (c .before .before .wide5 .ensures .0) (c .before .wide6 .ensures .0) m (c .unite-halves .ensures .2),
     ))  -- unite-returns-7
     ) (λ t. unite-contents-lts.spec (first-child-reads.Asked, first-child-reads.Learnt, unite-below t, unite.Post) (unite-contents-at t) unite-contents.Post
     (λ c κs. search needs)  -- unite-contents-first-child-requires

@@ -1,3 +1,4 @@
+-- `terms::sharing::alone` meets its contract: the classes before class k are named by their numbers. Assumes nothing.
 use lib.ListN.{length-set}
 use Rattle.terms.specs.Names.{stored}
 use mathlib.Core.Path.{_≡_}

@@ -1,3 +1,4 @@
+-- `terms::sharing::is_free` meets its contract. Assumes nothing.
 use Rattle.terms.specs.TermGraphLaws.{free-zero, free-above}
 use Rattle.terms.proofs.sharing.is_free.Statement.{statement}
 use Rattle.terms.proofs.sharing.is_free.Tie as tie

@@ -1,3 +1,4 @@
+-- `terms::sharing::meeting` meets its contract. Assumes nothing.
 use mathlib.Core.Path.{sym, ap, _∙_}
 use mathlib.Core.Logic.{inl, inr}
 use Rattle.terms.specs.TermGraph.{freeTag}

@@ -1,3 +1,4 @@
+-- `terms::sharing::shares_by_classes` meets its contract. Assumes nothing.
 use Rattle.terms.specs.ShareGraph.{start-classes, clash-answer, ending-answer}
 use native.Mathlib.Omega.{arith}
 use borrow.Author.Needs.{needs}

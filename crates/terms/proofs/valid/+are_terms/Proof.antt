@@ -1,3 +1,4 @@
+-- `terms::valid::are_terms` meets its contract; the measure is the length. Assumes nothing.
 use Rattle.terms.specs.Count.{count-none, count-some, count-pair, count-encryption, count-leaf}
 use Rattle.terms.specs.Each.{each-from}
 use borrow.Author.Needs.{needs}

@@ -1,3 +1,4 @@
+-- `terms::valid::is_one_term` meets its contract. Assumes nothing.
 use Rattle.terms.specs.Count.{count-one}
 use Rattle.terms.specs.OneTerm.{oneTerm?}
 use Rattle.terms.specs.Decide.{says-answer}

@@ -1,3 +1,4 @@
+-- `terms::valid::named_back` meets its contract. Assumes nothing.
 use Rattle.terms.specs.ValidLaws.{back-away, back-other, back-named}
 use borrow.Author.Needs.{needs}
 use Rattle.terms.proofs.valid.named_back.Statement.{statement}

@@ -1,3 +1,4 @@
+-- `terms::valid::right_entry` meets its contract. Assumes nothing.
 use Rattle.terms.specs.ValidLaws.{entry-atom, entry-pair, entry-encryption, entry-secret, entry-plain, entry-marked, entry-mark, entry-no-tag}
 use borrow.Author.Needs.{needs}
 use Rattle.terms.proofs.valid.right_entry.Statement.{statement}

@@ -1,3 +1,4 @@
+-- `terms::valid::wrong_atom` meets its contract: the atoms before atom i are right. Assumes nothing.
 use borrow.Author.Needs.{needs}
 use native.Mathlib.Omega.{arith}
 use Prim.Native.Nat.{ℕ, _≤_, _<_, _/_, _-_}

@@ -1,3 +1,4 @@
+-- `terms::valid::wrong_entry` meets its contract: the entries before entry i are right. Assumes nothing.
 use borrow.Author.Needs.{needs}
 use native.Mathlib.Omega.{arith}
 use Prim.Native.Nat.{ℕ, _≤_, _<_, _/_, _-_}
