@@ -92,73 +92,79 @@ pub +unite+unite-contents+unite-halves-spec : {M : Type 1} → statement M
     (λ c κs. search needs)  -- unite-relabel-requires-4
     (λ c κs. search needs)  -- unite-wide-requires-3
     (λ c κs. search needs)  -- unite-wide-requires-4
-    (λ c κs. let start = c .before .before .before .before .before .before .before .before .before .before .before .before .before .before .before in let args = start .args in let pre = start .pre in
-    let if1 = c .before .before .before .before .before .before .before .before .before .before .if1 in let wide = c .before .before .before .before .before .before .before .before .before .wide in
-    let wide2 = c .before .before .before .before .before .before .before .before .wide2 in let meeting = c .before .before .before .before .before .before .before .meeting in
+    (λ c κs. let there = c .before .before .before .before .before .before .before in let start = there .before .before .before .before .before .before .before .before in
+    let if1 = there .before .before .before .if1 in let wide = there .before .before .wide in let wide2 = there .before .wide2 in
+    let args = start .args in let pre = start .pre in
     let u = uniting (args .s .now) (args .t .now) (args .c .now) (args .i) (args .j) (pre .1) in
+    let m = met-at (args .s .now) (args .t .now) (there .meeting .ensures) (c .before .before .before .before .before .enum-told5 .given .1) (wide .ensures .0) (wide2 .ensures .0) in
     let w = taken u (if1 .left) (wide .ensures) (wide2 .ensures) (c .before .before .before .relabel4 .ensures) in
-    let m = met-at (args .s .now) (args .t .now) (meeting .ensures) (c .before .before .before .before .before .enum-told5 .given .1) (wide .ensures .0) (wide2 .ensures .0) in
     let fall = renamed-fewer w in
     (omega (arith, pre .0), (pre .1 .0, renamed-length w, renamed-classes w (m .0))))  -- unite-unite-contents-requires
     (λ c. search needs)  -- unite-enum-told-6
     (λ c κs. search needs)  -- unite-relabel-requires-5
     (λ c κs. search needs)  -- unite-wide-requires-5
     (λ c κs. search needs)  -- unite-wide-requires-6
-    (λ c κs. let start = c .before .before .before .before .before .before .before .before .before .before .before .before .before .before .before in let args = start .args in let pre = start .pre in
-    let if1 = c .before .before .before .before .before .before .before .before .before .before .if1 in let wide = c .before .before .before .before .before .before .before .before .before .wide in
-    let wide2 = c .before .before .before .before .before .before .before .before .wide2 in let meeting = c .before .before .before .before .before .before .before .meeting in
+    (λ c κs. let there = c .before .before .before .before .before .before .before in let start = there .before .before .before .before .before .before .before .before in
+    let if1 = there .before .before .before .if1 in let wide = there .before .before .wide in let wide2 = there .before .wide2 in
+    let args = start .args in let pre = start .pre in
     let u = uniting (args .s .now) (args .t .now) (args .c .now) (args .i) (args .j) (pre .1) in
+    let m = met-at (args .s .now) (args .t .now) (there .meeting .ensures) (c .before .before .before .before .before .enum-told6 .given .1) (wide .ensures .0) (wide2 .ensures .0) in
     let w = taken u (if1 .left) (wide .ensures) (wide2 .ensures) (c .before .before .before .relabel5 .ensures) in
-    let m = met-at (args .s .now) (args .t .now) (meeting .ensures) (c .before .before .before .before .before .enum-told6 .given .1) (wide .ensures .0) (wide2 .ensures .0) in
-    let fall = renamed-fewer w in (
+    let fall = renamed-fewer w in
+    let tag = nodeTag (args .s .now) (args .t .now) in (
       omega (arith, pre .0),
       (
         pre .1 .0,
         renamed-length w,
         renamed-classes w (m .0),
-        ap (nodeTag (args .s .now) (args .t .now)) (c .before .wide5 .ensures .0) ∙ m .2,
-        ap (nodeTag (args .s .now) (args .t .now)) (c .wide6 .ensures .0) ∙ sym (m .1) ∙ m .2,
+        ap tag (c .before .wide5 .ensures .0) ∙ m .2,
+        ap tag (c .wide6 .ensures .0) ∙ sym (m .1) ∙ m .2,
       ),
     ))  -- unite-unite-halves-requires
-    (λ c. let start = c .before .before .before .before .before .before .before .before .before .before .before .before in let args = start .args in let pre = start .pre in
-    let if1 = c .before .before .before .before .before .before .before .if1 in let wide = c .before .before .before .before .before .before .wide in
-    let wide2 = c .before .before .before .before .before .wide2 in let meeting = c .before .before .before .before .meeting in
+    (λ c. let there = c .before .before .before .before in let start = there .before .before .before .before .before .before .before .before in
+    let if1 = there .before .before .before .if1 in let wide = there .before .before .wide in let wide2 = there .before .wide2 in
+    let args = start .args in let pre = start .pre in
     let u = uniting (args .s .now) (args .t .now) (args .c .now) (args .i) (args .j) (pre .1) in
+    let m = met-at (args .s .now) (args .t .now) (there .meeting .ensures) (c .before .before .enum-told .given .1) (wide .ensures .0) (wide2 .ensures .0) in
     let w = taken u (if1 .left) (wide .ensures) (wide2 .ensures) (c .relabel .ensures) in
-    (renamed-length w, omega (arith, renamed-fewer w), left-answer w (met-at (args .s .now) (args .t .now) (meeting .ensures) (c .before .before .enum-told .given .1) (wide .ensures .0) (wide2 .ensures .0))))  -- unite-returns-2
-    (λ c. let start = c .before .before .before .before .before .before .before .before .before .before .before .before in let args = start .args in let pre = start .pre in
-    let if1 = c .before .before .before .before .before .before .before .if1 in let wide = c .before .before .before .before .before .before .wide in
-    let wide2 = c .before .before .before .before .before .wide2 in let meeting = c .before .before .before .before .meeting in
+    (renamed-length w, omega (arith, renamed-fewer w), left-answer w m))  -- unite-returns-2
+    (λ c. let there = c .before .before .before .before in let start = there .before .before .before .before .before .before .before .before in
+    let if1 = there .before .before .before .if1 in let wide = there .before .before .wide in let wide2 = there .before .wide2 in
+    let args = start .args in let pre = start .pre in
     let u = uniting (args .s .now) (args .t .now) (args .c .now) (args .i) (args .j) (pre .1) in
+    let m = met-at (args .s .now) (args .t .now) (there .meeting .ensures) (c .before .before .enum-told2 .given .1) (wide .ensures .0) (wide2 .ensures .0) in
     let w = taken (other-way u) (λ e. if1 .left (sym e)) (wide2 .ensures) (wide .ensures) (c .relabel2 .ensures) in
-    (renamed-length w, omega (arith, renamed-fewer w), right-answer w (met-at (args .s .now) (args .t .now) (meeting .ensures) (c .before .before .enum-told2 .given .1) (wide .ensures .0) (wide2 .ensures .0))))  -- unite-returns-3
-    (λ c. let start = c .before .before .before .before .before .before .before .before .before .before in let args = start .args in let pre = start .pre in
-    let wide = c .before .before .before .before .wide in let wide2 = c .before .before .before .wide2 in let meeting = c .before .before .meeting in
+    (renamed-length w, omega (arith, renamed-fewer w), right-answer w m))  -- unite-returns-3
+    (λ c. let there = c .before .before in let start = there .before .before .before .before .before .before .before .before in
+    let wide = there .before .before .wide in let wide2 = there .before .wide2 in
+    let args = start .args in let pre = start .pre in
     let u = uniting (args .s .now) (args .t .now) (args .c .now) (args .i) (args .j) (pre .1) in
-    (pre .1 .1, search needs, differ-answer u (met-at (args .s .now) (args .t .now) (meeting .ensures) (c .enum-told3 .given .1) (wide .ensures .0) (wide2 .ensures .0))))  -- unite-returns-4
-    (λ c. let start = c .before .before .before .before .before .before .before .before .before .before .before .before in let args = start .args in let pre = start .pre in
-    let if1 = c .before .before .before .before .before .before .before .if1 in let wide = c .before .before .before .before .before .before .wide in
-    let wide2 = c .before .before .before .before .before .wide2 in let meeting = c .before .before .before .before .meeting in
+    let m = met-at (args .s .now) (args .t .now) (there .meeting .ensures) (c .enum-told3 .given .1) (wide .ensures .0) (wide2 .ensures .0) in
+    (pre .1 .1, search needs, differ-answer u m))  -- unite-returns-4
+    (λ c. let there = c .before .before .before .before in let start = there .before .before .before .before .before .before .before .before in
+    let if1 = there .before .before .before .if1 in let wide = there .before .before .wide in let wide2 = there .before .wide2 in
+    let args = start .args in let pre = start .pre in
     let u = uniting (args .s .now) (args .t .now) (args .c .now) (args .i) (args .j) (pre .1) in
+    let m = met-at (args .s .now) (args .t .now) (there .meeting .ensures) (c .before .before .enum-told4 .given .1) (wide .ensures .0) (wide2 .ensures .0) in
     let w = taken u (if1 .left) (wide .ensures) (wide2 .ensures) (c .relabel3 .ensures) in
-    (renamed-length w, omega (arith, renamed-fewer w), atoms-answer w (met-at (args .s .now) (args .t .now) (meeting .ensures) (c .before .before .enum-told4 .given .1) (wide .ensures .0) (wide2 .ensures .0))))  -- unite-returns-5
-    (λ c. let start = c .before .before .before .before .before .before .before .before .before .before .before .before .before .before .before .before in let args = start .args in let pre = start .pre in
-    let if1 = c .before .before .before .before .before .before .before .before .before .before .before .if1 in let wide = c .before .before .before .before .before .before .before .before .before .before .wide in
-    let wide2 = c .before .before .before .before .before .before .before .before .before .wide2 in let meeting = c .before .before .before .before .before .before .before .before .meeting in
+    (renamed-length w, omega (arith, renamed-fewer w), atoms-answer w m))  -- unite-returns-5
+    (λ c. let there = c .before .before .before .before .before .before .before .before in let start = there .before .before .before .before .before .before .before .before in
+    let if1 = there .before .before .before .if1 in let wide = there .before .before .wide in let wide2 = there .before .wide2 in
+    let args = start .args in let pre = start .pre in
     let u = uniting (args .s .now) (args .t .now) (args .c .now) (args .i) (args .j) (pre .1) in
+    let m = met-at (args .s .now) (args .t .now) (there .meeting .ensures) (c .before .before .before .before .before .before .enum-told5 .given .1) (wide .ensures .0) (wide2 .ensures .0) in
     let w = taken u (if1 .left) (wide .ensures) (wide2 .ensures) (c .before .before .before .before .relabel4 .ensures) in
-    let m = met-at (args .s .now) (args .t .now) (meeting .ensures) (c .before .before .before .before .before .before .enum-told5 .given .1) (wide .ensures .0) (wide2 .ensures .0) in
     let fall = renamed-fewer w in (
       c .unite-contents .ensures .0,
       omega (arith, c .unite-contents .ensures .1),
       contents-answer w (c .before .before .wide3 .ensures .0) (c .before .wide4 .ensures .0) m (c .unite-contents .ensures .2),
     ))  -- unite-returns-6
-    (λ c. let start = c .before .before .before .before .before .before .before .before .before .before .before .before .before .before .before .before in let args = start .args in let pre = start .pre in
-    let if1 = c .before .before .before .before .before .before .before .before .before .before .before .if1 in let wide = c .before .before .before .before .before .before .before .before .before .before .wide in
-    let wide2 = c .before .before .before .before .before .before .before .before .before .wide2 in let meeting = c .before .before .before .before .before .before .before .before .meeting in
+    (λ c. let there = c .before .before .before .before .before .before .before .before in let start = there .before .before .before .before .before .before .before .before in
+    let if1 = there .before .before .before .if1 in let wide = there .before .before .wide in let wide2 = there .before .wide2 in
+    let args = start .args in let pre = start .pre in
     let u = uniting (args .s .now) (args .t .now) (args .c .now) (args .i) (args .j) (pre .1) in
+    let m = met-at (args .s .now) (args .t .now) (there .meeting .ensures) (c .before .before .before .before .before .before .enum-told6 .given .1) (wide .ensures .0) (wide2 .ensures .0) in
     let w = taken u (if1 .left) (wide .ensures) (wide2 .ensures) (c .before .before .before .before .relabel5 .ensures) in
-    let m = met-at (args .s .now) (args .t .now) (meeting .ensures) (c .before .before .before .before .before .before .enum-told6 .given .1) (wide .ensures .0) (wide2 .ensures .0) in
     let fall = renamed-fewer w in (
       c .unite-halves .ensures .0,
       omega (arith, c .unite-halves .ensures .1),
