@@ -61,89 +61,61 @@ pub +meet+meet-halves-spec : {M : Type 1} → statement M
     (λ c κs. let pre = c .before .before .before .before .before .before .before .before .before .pre in
     (pre .1 .0, pre .1 .1, omega (arith, c .before .home3 .ensures .1), omega (arith, c .home4 .ensures .1), pre .1 .4))  -- meet-unite-requires-2
     (λ c. (c .unite2 .ensures .0, supposing (moved (c .before .before .home3 .ensures .0) (c .before .home4 .ensures .0) (c .unite2 .ensures .2))))  -- meet-returns-2
-    (λ c. let start = c .before .before .before .before .before .before .before in let args = start .args in let pre = start .pre in
-    let byte-at = c .before .before .before .before .byte-at in let byte-at2 = c .before .before .before .byte-at2 in (
-      pre .1 .1,
-      failed (tags-differ (left-symbol (args .s .now) (args .t .now) (pre .1 .0) (args .i) (pre .1 .2)
-          (omega (arith, byte-at .ensures .0, c .before .before .if1 .left)))
-          (right-symbol (args .s .now) (args .t .now) (pre .1 .0) (args .j) (pre .1 .3) (omega (arith, byte-at2 .ensures .0, c .before .if2 .left)))
-          (λ e. c .if3 .taken (byte-at .ensures .0 ∙ e ∙ sym (byte-at2 .ensures .0)))),
-    ))  -- meet-returns-3
-    (λ c κs. let pre = c .before .before .before .before .before .before .before .before .before .pre in
-    let byte-at = c .before .before .before .before .before .before .byte-at in let byte-at2 = c .before .before .before .before .before .byte-at2 in
-    let if4 = c .before .if4 in (
-      omega (arith, pre .0),
-      (
-        pre .1 .0,
-        pre .1 .1,
-        sym (byte-at .ensures .0) ∙ if4 .taken,
-        sym (byte-at2 .ensures .0) ∙ sym
-            (c .before .before .if3 .left) ∙ if4 .taken,
-        pre .1 .4,
-      ),
-    ))  -- meet-meet-halves-requires
-    (λ c. let start = c .before .before .before .before .before .before .before .before .before .before in
-    let args = start .args in let pre = start .pre in let byte-at = c .before .before .before .before .before .before .before .byte-at in
-    let byte-at2 = c .before .before .before .before .before .before .byte-at2 in let if1 = c .before .before .before .before .before .if1 in
-    let if2 = c .before .before .before .before .if2 in let if3 = c .before .before .before .if3 in let if4 = c .before .before .if4 in (
+    (λ c. let there = c .before in let start = there .before .before .before .before .before .before in let args = start .args in let pre = start .pre in
+    let first = there .before .before .before .byte-at .ensures .0 in let second = there .before .before .byte-at2 .ensures .0 in
+    let p = left-symbol (args .s .now) (args .t .now) (pre .1 .0) (args .i) (pre .1 .2) (omega (arith, first, there .before .if1 .left)) in
+    let q = right-symbol (args .s .now) (args .t .now) (pre .1 .0) (args .j) (pre .1 .3) (omega (arith, second, there .if2 .left)) in
+    (pre .1 .1, failed (tags-differ p q (λ e. c .if3 .taken (first ∙ e ∙ sym second)))))  -- meet-returns-3
+    (λ c κs. let there = c .before .before .before in let start = there .before .before .before .before .before .before in let pre = start .pre in
+    let first = there .before .before .before .byte-at .ensures .0 in let second = there .before .before .byte-at2 .ensures .0 in
+    let if3 = c .before .before .if3 in let if4 = c .before .if4 in
+    (omega (arith, pre .0), (pre .1 .0, pre .1 .1, sym first ∙ if4 .taken, sym second ∙ sym (if3 .left) ∙ if4 .taken, pre .1 .4)))  -- meet-meet-halves-requires
+    (λ c. let there = c .before .before .before .before in let start = there .before .before .before .before .before .before in let args = start .args in let pre = start .pre in
+    let first = there .before .before .before .byte-at .ensures .0 in let second = there .before .before .byte-at2 .ensures .0 in
+    let p = left-symbol (args .s .now) (args .t .now) (pre .1 .0) (args .i) (pre .1 .2) (omega (arith, first, there .before .if1 .left)) in
+    let q = right-symbol (args .s .now) (args .t .now) (pre .1 .0) (args .j) (pre .1 .3) (omega (arith, second, there .if2 .left)) in
+    let if3 = c .before .before .before .if3 in let if4 = c .before .before .if4 in (
       c .meet-halves .ensures .0,
-      pairs-met (left-symbol (args .s .now) (args .t .now) (pre .1 .0) (args .i) (pre .1 .2)
-          (omega (arith, byte-at .ensures .0, if1 .left))) (right-symbol (args .s .now) (args .t .now) (pre .1 .0) (args .j) (pre .1 .3)
-          (omega (arith, byte-at2 .ensures .0, if2 .left))) (sym (byte-at .ensures .0) ∙ if4 .taken)
-          (sym (byte-at2 .ensures .0) ∙ sym (if3 .left) ∙ if4 .taken) (c .meet-halves .ensures .1),
+      pairs-met p q (sym first ∙ if4 .taken) (sym second ∙ sym (if3 .left) ∙ if4 .taken) (c .meet-halves .ensures .1),
     ))  -- meet-returns-4
     (λ c κs. search needs)  -- meet-value-in-requires
     (λ c κs. search needs)  -- meet-value-in-requires-2
-    (λ c. let start = c .before .before .before .before .before .before .before .before .before .before .before in
-    let args = start .args in let pre = start .pre in let byte-at = c .before .before .before .before .before .before .before .before .byte-at in
-    let byte-at2 = c .before .before .before .before .before .before .before .byte-at2 in
-    let if1 = c .before .before .before .before .before .before .if1 in let if2 = c .before .before .before .before .before .if2 in
+    (λ c. let there = c .before .before .before .before .before in let start = there .before .before .before .before .before .before in let args = start .args in let pre = start .pre in
+    let first = there .before .before .before .byte-at .ensures .0 in let second = there .before .before .byte-at2 .ensures .0 in
+    let p = left-symbol (args .s .now) (args .t .now) (pre .1 .0) (args .i) (pre .1 .2) (omega (arith, first, there .before .if1 .left)) in
+    let q = right-symbol (args .s .now) (args .t .now) (pre .1 .0) (args .j) (pre .1 .3) (omega (arith, second, there .if2 .left)) in
     let if3 = c .before .before .before .before .if3 in let if4 = c .before .before .before .if4 in (
       pre .1 .1,
-      failed (values-differ (left-symbol (args .s .now) (args .t .now) (pre .1 .0) (args .i) (pre .1 .2)
-          (omega (arith, byte-at .ensures .0, if1 .left))) (right-symbol (args .s .now) (args .t .now) (pre .1 .0) (args .j) (pre .1 .3)
-          (omega (arith, byte-at2 .ensures .0, if2 .left))) (λ e. if4 .left (byte-at .ensures .0 ∙ e))
-          (λ e. if4 .left (if3 .left ∙ byte-at2 .ensures .0 ∙ e))
+      failed (values-differ p q (λ e. if4 .left (first ∙ e)) (λ e. if4 .left (if3 .left ∙ second ∙ e))
           (λ e. c .if5 .taken (c .before .before .value-in .ensures .0 ∙ e ∙ sym (c .before .value-in2 .ensures .0)))),
     ))  -- meet-returns-5
     (λ c. search needs)  -- meet-add-meet
     (λ c. search needs)  -- meet-add-meet-2
-    (λ c κs. let start = c .before .before .before .before .before .before .before .before .before .before .before .before .before in
-    let args = start .args in let pre = start .pre in
-    let byte-at = c .before .before .before .before .before .before .before .before .before .before .byte-at in
-    let byte-at2 = c .before .before .before .before .before .before .before .before .before .byte-at2 in
+    (λ c κs. let there = c .before .before .before .before .before .before .before in let start = there .before .before .before .before .before .before in let args = start .args in let pre = start .pre in
+    let first = there .before .before .before .byte-at .ensures .0 in let second = there .before .before .byte-at2 .ensures .0 in
     let if3 = c .before .before .before .before .before .before .if3 in let if6 = c .before .if6 in
-    let p = encryption-there (args .i) (pre .1 .0 .left) (sym (byte-at .ensures .0) ∙ if6 .taken) in
-    let q = encryption-there (args .j) (pre .1 .0 .right) (sym (byte-at2 .ensures .0) ∙ sym (if3 .left) ∙ if6 .taken) in
+    let p = encryption-there (args .i) (pre .1 .0 .left) (sym first ∙ if6 .taken) in
+    let q = encryption-there (args .j) (pre .1 .0 .right) (sym second ∙ sym (if3 .left) ∙ if6 .taken) in
     (omega (arith, pre .0, pre .1 .2), (pre .1 .0, pre .1 .1, p .is .content-fits, q .is .content-fits, pre .1 .4)))  -- meet-meet-requires
-    (λ c. let start = c .before .before .before .before .before .before .before .before .before .before .before .before .before .before in
-    let args = start .args in let pre = start .pre in
-    let byte-at = c .before .before .before .before .before .before .before .before .before .before .before .byte-at in
-    let byte-at2 = c .before .before .before .before .before .before .before .before .before .before .byte-at2 in
-    let if1 = c .before .before .before .before .before .before .before .before .before .if1 in
-    let if2 = c .before .before .before .before .before .before .before .before .if2 in
-    let if3 = c .before .before .before .before .before .before .before .if3 in let value-in = c .before .before .before .before .before .value-in in
-    let value-in2 = c .before .before .before .before .value-in2 in let if5 = c .before .before .before .if5 in let if6 = c .before .before .if6 in (
+    (λ c. let there = c .before .before .before .before .before .before .before .before in let start = there .before .before .before .before .before .before in let args = start .args in let pre = start .pre in
+    let first = there .before .before .before .byte-at .ensures .0 in let second = there .before .before .byte-at2 .ensures .0 in
+    let p = left-symbol (args .s .now) (args .t .now) (pre .1 .0) (args .i) (pre .1 .2) (omega (arith, first, there .before .if1 .left)) in
+    let q = right-symbol (args .s .now) (args .t .now) (pre .1 .0) (args .j) (pre .1 .3) (omega (arith, second, there .if2 .left)) in
+    let if3 = c .before .before .before .before .before .before .before .if3 in let if5 = c .before .before .before .if5 in let if6 = c .before .before .if6 in
+    let value-in = c .before .before .before .before .before .value-in in let value-in2 = c .before .before .before .before .value-in2 in (
       c .meet .ensures .0,
-      encryptions-met (left-symbol (args .s .now) (args .t .now) (pre .1 .0) (args .i) (pre .1 .2)
-          (omega (arith, byte-at .ensures .0, if1 .left))) (right-symbol (args .s .now) (args .t .now) (pre .1 .0) (args .j) (pre .1 .3)
-          (omega (arith, byte-at2 .ensures .0, if2 .left))) (sym (byte-at .ensures .0) ∙ if6 .taken)
-          (sym (byte-at2 .ensures .0) ∙ sym (if3 .left) ∙ if6 .taken) (sym (value-in .ensures .0) ∙ if5 .left ∙ value-in2 .ensures .0)
-          (c .meet .ensures .1),
+      encryptions-met p q (sym first ∙ if6 .taken) (sym second ∙ sym (if3 .left) ∙ if6 .taken)
+          (sym (value-in .ensures .0) ∙ if5 .left ∙ value-in2 .ensures .0) (c .meet .ensures .1),
     ))  -- meet-returns-6
-    (λ c. let start = c .before .before .before .before .before .before .before .before .before .before .before .before in
-    let args = start .args in let pre = start .pre in
-    let byte-at = c .before .before .before .before .before .before .before .before .before .byte-at in
-    let byte-at2 = c .before .before .before .before .before .before .before .before .byte-at2 in
-    let if1 = c .before .before .before .before .before .before .before .if1 in let if2 = c .before .before .before .before .before .before .if2 in
-    let if3 = c .before .before .before .before .before .if3 in let if4 = c .before .before .before .before .if4 in
-    let value-in = c .before .before .before .value-in in
-    let p = (left-symbol (args .s .now) (args .t .now) (pre .1 .0) (args .i) (pre .1 .2) (omega (arith, byte-at .ensures .0, if1 .left))) in
-    let q = (right-symbol (args .s .now) (args .t .now) (pre .1 .0) (args .j) (pre .1 .3) (omega (arith, byte-at2 .ensures .0, if2 .left))) in
-    let one = only-atom _ (p .isSymbol) (λ e. if4 .left (byte-at .ensures .0 ∙ e)) (λ e. c .if6 .left (byte-at .ensures .0 ∙ e)) in (
+    (λ c. let there = c .before .before .before .before .before .before in let start = there .before .before .before .before .before .before in let args = start .args in let pre = start .pre in
+    let first = there .before .before .before .byte-at .ensures .0 in let second = there .before .before .byte-at2 .ensures .0 in
+    let p = left-symbol (args .s .now) (args .t .now) (pre .1 .0) (args .i) (pre .1 .2) (omega (arith, first, there .before .if1 .left)) in
+    let q = right-symbol (args .s .now) (args .t .now) (pre .1 .0) (args .j) (pre .1 .3) (omega (arith, second, there .if2 .left)) in
+    let if3 = c .before .before .before .before .before .if3 in let if4 = c .before .before .before .before .if4 in let value-in = c .before .before .before .value-in in let value-in2 = c .before .before .value-in2 in
+    let one = only-atom _ (p .isSymbol) (λ e. if4 .left (first ∙ e)) (λ e. c .if6 .left (first ∙ e)) in (
       pre .1 .1,
-      done (atoms-met p q (pre .1 .4) one (sym (byte-at2 .ensures .0) ∙ sym (if3 .left) ∙ byte-at .ensures .0 ∙ one)
-          (sym (value-in .ensures .0) ∙ c .before .if5 .left ∙ c .before .before .value-in2 .ensures .0)),
+      done (atoms-met p q (pre .1 .4) one (sym second ∙ sym (if3 .left) ∙ first ∙ one)
+          (sym (value-in .ensures .0) ∙ c .before .if5 .left ∙ value-in2 .ensures .0)),
     ))  -- meet-returns-7
     ) λ t. meet-halves-lts.spec (meet-below t, meet.Post, right-in-reads.Asked, right-in-reads.Learnt) (meet-halves-at t) meet-halves.Post
     (λ c. let start = c .before .before .before in let args = start .args in let pre = start .pre in
