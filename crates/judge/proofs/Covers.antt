@@ -16,7 +16,8 @@ use Rattle.terms.specs.declared.valid.Found.the-variants.{Nothing}
 use Rattle.terms.specs.Term.{Term, Variable, variable, plain, marked}
 use Rattle.terms.specs.Place.{Place}
 use Rattle.terms.specs.Entry.{size, termOf, tagAt, valueAt, Reads, Begins}
-use Rattle.terms.specs.EntryLaws.{First, first-atom, first-pair, first-encrypted, first-plain, first-marked, first, termOf-reads, fits, suffix, reads-plain, reads-marked}
+use Rattle.terms.specs.EntryLaws.{First, first-atom, first-pair, first-encrypted, first-plain, first-marked, first, termOf-reads, fits, suffix}
+use Rattle.terms.specs.EntryLaws.{reads-plain, reads-marked}
 use Rattle.terms.specs.WalkLaws.{from}
 use Rattle.terms.specs.Solve.{Says, says-same}
 use Rattle.terms.specs.Decide.{answer-yes, answer-no}
@@ -46,7 +47,8 @@ standing-open {k = k} laid o inside =
 pub conclusion-inside : {e : List ℕ} {k : ℕ} → Begins e → k < size (termOf e) → 4 * k < length e
 conclusion-inside {e} b inside = omega (arith, fits (termOf e) (term-reads b refl))
 
-pub standing-conclusion : {file premise opened conclusion cover : List ℕ} {k : ℕ} → Judging file premise opened conclusion cover → 4 * k < length conclusion → Standing file conclusion k
+pub standing-conclusion : {file premise opened conclusion cover : List ℕ} {k : ℕ} → Judging file premise opened conclusion cover
+    → 4 * k < length conclusion → Standing file conclusion k
 standing-conclusion {k = k} j inside = record { laid = j .laid; term = begins-at k (j .term) inside; inside = inside; short = j .short }
 
 -- Searches through the open entries.
@@ -119,7 +121,8 @@ opened-within {c} {e} {opened} entries f = record { entries = entries; long = f 
         let l = w .isOpen .inside in
         omega (arith, fits (termOf e) (term-reads b refl))
 
-module _ {file : List ℕ} (laid : Laid file) (rule : Rule) {e opened : List ℕ} (is : PremiseIs e (rule .premise)) (f : Flags opened (OpenEntry (certificateOf file) e)) where
+module _ {file : List ℕ} (laid : Laid file) (rule : Rule) {e opened : List ℕ} (is : PremiseIs e (rule .premise))
+    (f : Flags opened (OpenEntry (certificateOf file) e)) where
   -- What stands at an open place stands at an open entry.
   at-open : (t : Term Variable) → AtOpenPlace (certificateOf file) rule t ↔ SomeOpen e opened (λ s. s ≡ t)
   at-open t = (λ w. to w (ℕ-discrete (length e) 0), back)
@@ -206,7 +209,8 @@ module _ {file : List ℕ} (laid : Laid file) (rule : Rule) {e opened : List ℕ
         → FirstNot (FineEntry (certificateOf file) e opened conclusion cover) (size (termOf conclusion)) r → r ≡ uncovered (certificateOf file) rule
     unfolding uncovered
     uncovered-rule none-secret found =
-        rw (answer-no (dead? (certificateOf file) rule) (λ d. none-secret (dead-entries .0 d)), uncovered) (first-only (fine? (certificateOf file) rule) (first-fine found))
+        rw (answer-no (dead? (certificateOf file) rule) (λ d. none-secret (dead-entries .0 d)), uncovered)
+        (first-only (fine? (certificateOf file) rule) (first-fine found))
 
 -- The premise and the conclusion of a rule block.
 pub premise-is : {b e : List ℕ} → RuleBlock b → e ≡ firstEntries b → length e ≡ 4 * firstCount b → PremiseIs e (ruleOf b .premise)

@@ -229,7 +229,8 @@ module _ {p e : List ℕ} {h : ℕ} (l : Laying p e h) where
           → Raised b c (MarkOver (termOf (from (4 * (1 + i)) p)) (subAt e (h + 1 + j)) (h + 1 + j)) → Raised a c (MarkOver (termOf p) (subAt e h) h)
       pair-raised r s = raised-as (raised-twice r s) same
         where
-          parts : (termOf (from 4 p) ≡ w .first .left) × (termOf (from (4 * (1 + i)) p) ≡ w .first .right) × (termOf p ≡ pair (w .first .left) (w .first .right))
+          parts : (termOf (from 4 p) ≡ w .first .left) × (termOf (from (4 * (1 + i)) p) ≡ w .first .right) ×
+              (termOf p ≡ pair (w .first .left) (w .first .right))
           parts = (termOf-reads (w .first .below), termOf-reads (right-begins (w .first) past), termOf-reads (w .first .whole))
 
           left-is : subAt e (h + 1) ≡ w .c
@@ -241,7 +242,8 @@ module _ {p e : List ℕ} {h : ℕ} (l : Laying p e h) where
           far : j ≡ size (w .c)
           far = right ∙ ap size left-is
 
-          same : (k : ℕ) → (MarkOver (termOf (from 4 p)) (subAt e (h + 1)) (h + 1) k ⊎ MarkOver (termOf (from (4 * (1 + i)) p)) (subAt e (h + 1 + j)) (h + 1 + j) k)
+          same : (k : ℕ) → (MarkOver (termOf (from 4 p)) (subAt e (h + 1)) (h + 1) k ⊎ MarkOver (termOf (from (4 * (1 + i)) p)) (subAt e (h + 1 + j))
+              (h + 1 + j) k)
               ↔ MarkOver (termOf p) (subAt e h) h k
           same k =
               let m = mark-pair {h = h} {k = k} (w .first .left) (w .first .right) (w .c) (w .d) in
@@ -277,7 +279,8 @@ module _ {p e : List ℕ} {h : ℕ} (l : Laying p e h) where
     pub content-laying : Laying (from 4 p) e (h + 1)
     content-laying = next (w .first .below) (w .content-term) (w .content-match)
 
-    pub encryption-raised : {a b : List ℕ} → Raised a b (MarkOver (termOf (from 4 p)) (subAt e (h + 1)) (h + 1)) → Raised a b (MarkOver (termOf p) (subAt e h) h)
+    pub encryption-raised : {a b : List ℕ} → Raised a b (MarkOver (termOf (from 4 p)) (subAt e (h + 1)) (h + 1))
+        → Raised a b (MarkOver (termOf p) (subAt e h) h)
     encryption-raised r = raised-as r same
       where
         content-is : subAt e (h + 1) ≡ w .c
@@ -292,7 +295,8 @@ module _ {p e : List ℕ} {h : ℕ} (l : Laying p e h) where
   pub mark-raised : tagAt p ≡ 5 → {a b : List ℕ} {r : ℕ} → r ≡ size (subAt e h) → Painted a b h (h + r) 1 → Raised a b (MarkOver (termOf p) (subAt e h) h)
   mark-raised tag {a} {b} {r} is painted = raised-as (painted-raised painted) (λ k. go k (first (l .pattern .reads)))
     where
-      go : (k : ℕ) → First (tagAt p) (valueAt p) (drop 4 p) (l .pattern .term ∷ l .pattern .others) → ((h ≤ k) × (k < h + r)) ↔ MarkOver (termOf p) (subAt e h) h k
+      go : (k : ℕ) → First (tagAt p) (valueAt p) (drop 4 p) (l .pattern .term ∷ l .pattern .others)
+          → ((h ≤ k) × (k < h + r)) ↔ MarkOver (termOf p) (subAt e h) h k
       go k (first-marked g n q m) =
           let w = mark-marked {h = h} {k = k} (valueAt p) (subAt e h) in rw (termOf-reads (rw q at (l .pattern .reads)), is) (w .1, w .0)
       go k (first-atom g q m) = absurd (omega arith)

@@ -47,7 +47,10 @@ module _ (file : List ℕ) {kind : ℕ} where
     where
       go : (t : Bool) → Says t (kindOf (blockAt file i) ≡ kind) → Dec (j ≡ i)
           → (suc i ≤ j → List·Memᴰ (blockAt file j) (ofKind kind (blocksFrom file (suc i) left)))
-          → List·Memᴰ (blockAt file j) (elim t [ true ↦ blockAt file i ∷ ofKind kind (blocksFrom file (suc i) left) | false ↦ ofKind kind (blocksFrom file (suc i) left) ])
+          → List·Memᴰ (blockAt file j) (elim t [
+            | true ↦ blockAt file i ∷ ofKind kind (blocksFrom file (suc i) left)
+            | false ↦ ofKind kind (blocksFrom file (suc i) left)
+          ])
       go true k (yes q) rest = List·Memᴰ·head (ap (blockAt file) q)
       go true k (no n) rest = List·Memᴰ·tail (rest (omega arith))
       go false k (yes q) rest = absurd (k (rw q at e))

@@ -40,8 +40,10 @@ module _ {c : Certificate} {e : List ℕ} {h : ℕ} where
   pub closed-none : {old : List ℕ} → length old ≡ 64 → (getD e (4 * h) 0 ≡ 3 → NoHat c (subAt e h)) → ClosedBelow c old old e h
   closed-none long fine = record { long = long; on = λ k. (λ o. (o, λ tag a b. fine tag), λ w. w .0) }
 
-  pub closed-below : {old new : List ℕ} {r : ℕ} → getD e (4 * h) 0 ≡ 3 → ¬ NoHat c (subAt e h) → r ≡ size (subAt e h) → Painted old new (h + 1) (h + r) 0 → ClosedBelow c old new e h
-  closed-below {old} {new} {r} tag off is p = record { long = p .long; on = λ k. (λ o. to k o (decLt h k) (decLt k (h + r)), λ w. back k w (decLt h k) (decLt k (h + r))) }
+  pub closed-below : {old new : List ℕ} {r : ℕ} → getD e (4 * h) 0 ≡ 3 → ¬ NoHat c (subAt e h) → r ≡ size (subAt e h)
+      → Painted old new (h + 1) (h + r) 0 → ClosedBelow c old new e h
+  closed-below {old} {new} {r} tag off is p =
+      record { long = p .long; on = λ k. (λ o. to k o (decLt h k) (decLt k (h + r)), λ w. back k w (decLt h k) (decLt k (h + r))) }
     where
       Fine : ℕ → Type 0
       Fine k = getD e (4 * h) 0 ≡ 3 → h < k → k < h + size (subAt e h) → NoHat c (subAt e h)
@@ -58,7 +60,8 @@ module _ {c : Certificate} {e : List ℕ} {h : ℕ} where
 
 -- Entry after entry.
 pub open-none : {c : Certificate} {e new : List ℕ} {n : ℕ} → n ≡ size (termOf e) → Painted (replicate 64 0) new 0 n 1 → Flags new (OpenBelow c e 0)
-open-none {c} {e} {new} {n} is p = record { long = p .long; on = λ k. (λ o. to k (r .on k .0 o), λ w. r .on k .1 (inr (omega arith, let l = w .inside in omega arith))) }
+open-none {c} {e} {new} {n} is p =
+    record { long = p .long; on = λ k. (λ o. to k (r .on k .0 o), λ w. r .on k .1 (inr (omega arith, let l = w .inside in omega arith))) }
   where
     r : Raised (replicate 64 0) new (λ k. (0 ≤ k) × (k < n))
     r = painted-raised p
@@ -67,7 +70,8 @@ open-none {c} {e} {new} {n} is p = record { long = p .long; on = λ k. (λ o. to
     to k (inl o) = absurd (zero-off k o)
     to k (inr w) = record { inside = let l = w .1 in omega arith; every = λ h l. absurd (omega arith) }
 
-pub open-more : {c : Certificate} {e : List ℕ} {h : ℕ} {old new : List ℕ} → Flags old (OpenBelow c e h) → ClosedBelow c old new e h → Flags new (OpenBelow c e (h + 1))
+pub open-more : {c : Certificate} {e : List ℕ} {h : ℕ} {old new : List ℕ} → Flags old (OpenBelow c e h) → ClosedBelow c old new e h
+    → Flags new (OpenBelow c e (h + 1))
 open-more {c} {e} {h} {old} {new} f s = record { long = s .long; on = λ k. (λ o. to k (s .on k .0 o), λ w. s .on k .1 (back k w)) }
   where
     Fine : ℕ → ℕ → Type 0
@@ -101,7 +105,8 @@ module _ {c : Certificate} {e : List ℕ} (b : Begins e) {k : ℕ} {p : Place} {
       reads : Reads e (termOf e ∷ b .others)
       reads = term-reads b refl
 
-      to : OpenBelow c e (size (termOf e)) k → (q : Place) → StrictlyAbove q p → (i : ℕ) (t : Term Variable) → subtermAt q (termOf e) ≡ some (encrypted i t) → NoHat c (encrypted i t)
+      to : OpenBelow c e (size (termOf e)) k → (q : Place) → StrictlyAbove q p → (i : ℕ) (t : Term Variable)
+          → subtermAt q (termOf e) ≡ some (encrypted i t) → NoHat c (encrypted i t)
       to w q above i t stands =
           let high = placed q (termOf e) stands in
           let h = entryAt q (termOf e) in

@@ -77,9 +77,11 @@ pub not-whole : (e : List ℕ) → length e ≤ 252 → (length e % 4 ≡ 0 → 
 unfolding isTerm
 not-whole e h off = sym (rw (le-leb (length e) 252 h, ne-eqb (length e % 4) 0 off))
 
-pub by-entries : (e : List ℕ) {f : Found} (b : Bool) → length e ≤ 252 → length e % 4 ≡ 0 → f ≡ wrongEntry keys 3 e → b ≡ then (nothingFound f) (answer (oneTerm? e)) → b ≡ isTerm e
+pub by-entries : (e : List ℕ) {f : Found} (b : Bool) → length e ≤ 252 → length e % 4 ≡ 0 → f ≡ wrongEntry keys 3 e
+    → b ≡ then (nothingFound f) (answer (oneTerm? e)) → b ≡ isTerm e
 unfolding isTerm
-by-entries e b h whole is q = q ∙ ap (λ (g : Found). then (nothingFound g) (answer (oneTerm? e))) is ∙ sym (rw (le-leb (length e) 252 h, eq-eqb (length e % 4) 0 whole))
+by-entries e b h whole is q =
+    q ∙ ap (λ (g : Found). then (nothingFound g) (answer (oneTerm? e))) is ∙ sym (rw (le-leb (length e) 252 h, eq-eqb (length e % 4) 0 whole))
 
 module _ (s t : List ℕ) where
   pub asked : {r n : ℕ} → isTerm s ≡ true → isTerm t ≡ true → r ≡ n → r ≡ numberBy (then (isTerm s) (isTerm t)) n

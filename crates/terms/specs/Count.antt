@@ -9,7 +9,8 @@ use lib.Dec.{ltb, eqb}
 use lib.ListN.{length, getD}
 use borrow.Rule.Slice.PartAt.{part-to-end}
 use Rattle.terms.specs.Term.{Term, Variable, variable, atom, pair, encrypted, plain, marked}
-use Rattle.terms.specs.Entry.{Symbol, atomSymbol, pairSymbol, encryptionSymbol, variableSymbol, tagOf, symbolOf, numbered, before, beforeAll, withZero, termsOf, tagAt}
+use Rattle.terms.specs.Entry.{Symbol, atomSymbol, pairSymbol, encryptionSymbol, variableSymbol, tagOf, symbolOf, numbered, before, beforeAll}
+use Rattle.terms.specs.Entry.{withZero, termsOf, tagAt}
 use Rattle.terms.specs.EntryLaws.{none≢some, never-empty}
 use Rattle.terms.specs.WalkLaws.{from}
 use Rattle.terms.specs.Solve.{Says, says-same}

@@ -10,7 +10,8 @@ use borrow.Author.Tests.{ltb-true}
 use lib.ListN.{length, drop, length-drop}
 use lib.Seq.{drop-drop}
 use Rattle.terms.specs.Term.{Term, Variable, variable, atom, pair, encrypted, plain, marked}
-use Rattle.terms.specs.Entry.{Symbol, atomSymbol, pairSymbol, encryptionSymbol, variableSymbol, symbolOf, numbered, before, beforeAll, withZero, termsOf, termOf, firstOf, tagAt, valueAt, size, Reads, Begins}
+use Rattle.terms.specs.Entry.{Symbol, atomSymbol, pairSymbol, encryptionSymbol, variableSymbol, symbolOf, numbered, before, beforeAll, withZero}
+use Rattle.terms.specs.Entry.{termsOf, termOf, firstOf, tagAt, valueAt, size, Reads, Begins}
 
 -- The entry of this tag and value, before these entries, makes these terms.
 pub data First (tag n : ℕ) (rest : List ℕ) (l : List (Term Variable)) : Type 0 where
@@ -42,13 +43,15 @@ module _ (rest : List ℕ) (l : List (Term Variable)) where
   encryptedCase n (some []) q r = absurd (none≢some _ r)
   encryptedCase n (some (t ∷ m)) q r = first-encrypted {t = t} {m = m} refl (cc) (record { is = q })
 
-  plainCase : (n : ℕ) (b : Bool) (o : Option (List (Term Variable))) → termsOf rest ≡ o → ltb n 8 ≡ b → beforeAll (numbered b (plain n)) o ≡ some l → First 4 n rest l
+  plainCase : (n : ℕ) (b : Bool) (o : Option (List (Term Variable))) → termsOf rest ≡ o → ltb n 8 ≡ b → beforeAll (numbered b (plain n)) o ≡ some l
+      → First 4 n rest l
   unfolding beforeAll before
   plainCase n false o q b r = absurd (none≢some _ r)
   plainCase n true none q b r = absurd (none≢some _ r)
   plainCase n true (some m) q b r = first-plain {m = m} refl (ltb-true n 8 b) (cc) (record { is = q })
 
-  markedCase : (n : ℕ) (b : Bool) (o : Option (List (Term Variable))) → termsOf rest ≡ o → ltb n 8 ≡ b → beforeAll (numbered b (marked n)) o ≡ some l → First 5 n rest l
+  markedCase : (n : ℕ) (b : Bool) (o : Option (List (Term Variable))) → termsOf rest ≡ o → ltb n 8 ≡ b → beforeAll (numbered b (marked n)) o ≡ some l
+      → First 5 n rest l
   unfolding beforeAll before
   markedCase n false o q b r = absurd (none≢some _ r)
   markedCase n true none q b r = absurd (none≢some _ r)

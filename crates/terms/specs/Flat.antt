@@ -104,7 +104,8 @@ module _ {node : ℕ → Node} {name : ℕ → ℕ} (first slots : ℕ) (own : (
     (ends : (v : ℕ) → slots ≤ v → v < slots + 16 → Finite node name v) where
   entry-ends : (fuel i : ℕ) → first ≤ i → i < first + 64 → first + 64 ≤ i + fuel → Finite node name i
   entry-ends zero i h g f = absurd (omega arith)
-  entry-ends (suc fuel) i h g f = finite (λ j child. go j (later i j h g (subst (λ (n : ℕ). Child j (node n)) (own i h g) child)) (λ q r. entry-ends fuel j q r))
+  entry-ends (suc fuel) i h g f =
+      finite (λ j child. go j (later i j h g (subst (λ (n : ℕ). Child j (node n)) (own i h g) child)) (λ q r. entry-ends fuel j q r))
     where
       go : (j : ℕ) → Later first slots i j → (first ≤ j → j < first + 64 → first + 64 ≤ j + fuel → Finite node name j) → Finite node name j
       go j (inl w) ih = let l = w .0 in ih (omega arith) (w .1) (omega arith)
@@ -161,7 +162,8 @@ module _ (s t c : List ℕ) (two : TwoTerms s t) (long : length c ≡ 256) (entr
   leaf-ends k h l j child =
       childless s t (getD c k 0) (l .no-pair) (l .no-encryption) j (subst (λ (n : ℕ). Child j (nodeOf s t n)) (sym (name-read c k (omega arith))) child)
 
-  bound-ends : (side k : ℕ) → k < 256 → BoundTo s t c side k → ((j : ℕ) → Child j (nodeOf s t (nameOf c k)) → ⊥) ⊎ ((side ≤ nameOf c k) × (nameOf c k < side + 64))
+  bound-ends : (side k : ℕ) → k < 256 → BoundTo s t c side k
+      → ((j : ℕ) → Child j (nodeOf s t (nameOf c k)) → ⊥) ⊎ ((side ≤ nameOf c k) × (nameOf c k < side + 64))
   bound-ends side k h (inl l) = inl (leaf-ends k h l)
   bound-ends side k h (inr w) = inr (let e = name-read c k (omega arith) in (rw e at (w .0), rw e at (w .1)))
 

@@ -105,7 +105,8 @@ module _ (a b : ℕ) (apart : a ≡ b → ⊥) where
       omega arith
 
 -- One class less.
-pub fewer : (c : List ℕ) (a b : ℕ) → (a ≡ b → ⊥) → nameOf c a ≡ a → nameOf c b ≡ b → a < length c → b < length c → classCount (map (rename a b) c) < classCount c
+pub fewer : (c : List ℕ) (a b : ℕ) → (a ≡ b → ⊥) → nameOf c a ≡ a → nameOf c b ≡ b → a < length c → b < length c
+    → classCount (map (rename a b) c) < classCount c
 unfolding classCount nameOf
 fewer c a b apart a-named b-named ha hb =
     count-less a b apart 0 c (λ k h e. let q : k ≡ b = omega arith in rw q (getD-any c b 0 b hb ∙ b-named)) a ha (omega arith) (getD-any c a 0 a ha ∙ a-named)

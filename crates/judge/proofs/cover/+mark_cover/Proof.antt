@@ -2,7 +2,8 @@
 use borrow.Author.Needs.{needs}
 use native.Mathlib.Omega.{arith}
 use lib.ListN.{length}
-use Rattle.judge.proofs.Marks.{laid-end, pair-laid, left-pattern, left-begins, left-within, left-laying, right-laying, pair-raised, encryption-laid, content-laying, encryption-raised, mark-raised, no-mark}
+use Rattle.judge.proofs.Marks.{laid-end, pair-laid, left-pattern, left-begins, left-within, left-laying, right-laying, pair-raised}
+use Rattle.judge.proofs.Marks.{encryption-laid, content-laying, encryption-raised, mark-raised, no-mark}
 use Prim.Native.Nat.{ℕ, _<_}
 use borrow.Fn.Kinds.{In}
 use borrow.Fn.PlainCycle.{Measures, is, falls, and}
@@ -26,7 +27,15 @@ mark-cover-below t =
     and 3 mark-cover-kinds.ps (falls 3 mark-cover-kinds.ps _<_ μ-mark-cover t) mark-cover.Pre
 
 pub +mark-cover-spec : {M : Type 1} → statement M
-+mark-cover-spec = close μ-mark-cover λ t. mark-cover-lts.spec (mark-cover-below t, mark-cover.Post, term-size-reads.Asked, term-size-reads.Learnt, paint-reads.Asked, paint-reads.Learnt) (mark-cover-at t) mark-cover.Post
++mark-cover-spec =
+    close μ-mark-cover λ t. mark-cover-lts.spec (
+      mark-cover-below t,
+      mark-cover.Post,
+      term-size-reads.Asked,
+      term-size-reads.Learnt,
+      paint-reads.Asked,
+      paint-reads.Learnt,
+    ) (mark-cover-at t) mark-cover.Post
     (λ c. search needs)  -- mark-cover-shared-slice-read-tag
     (λ c. search needs)  -- mark-cover-sub-mark-cover
     (λ c. search needs)  -- mark-cover-part-mark-cover-start

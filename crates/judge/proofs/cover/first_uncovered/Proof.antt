@@ -15,7 +15,8 @@ use Rattle.judge.proofs.cover.first_uncovered.Statement.{statement}
 use Rattle.judge.proofs.cover.first_uncovered.Tie as tie
 
 abbrev Inv-loop : tie.InvT-loop
-Inv-loop file premise opened conclusion cover count k₀ k = (k ≤ size (termOf conclusion)) × ((j : ℕ) → j < k → FineEntry (certificateOf file) premise opened conclusion cover j)
+Inv-loop file premise opened conclusion cover count k₀ k =
+    (k ≤ size (termOf conclusion)) × ((j : ℕ) → j < k → FineEntry (certificateOf file) premise opened conclusion cover j)
 
 abbrev μ-loop : tie.MeasureT-loop
 μ-loop file premise opened conclusion cover count k₀ k = size (termOf conclusion) - k

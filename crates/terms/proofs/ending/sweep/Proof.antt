@@ -14,7 +14,9 @@ use Rattle.terms.proofs.ending.sweep.Statement.{statement}
 use Rattle.terms.proofs.ending.sweep.Tie as tie
 
 abbrev Inv-loop : tie.InvT-loop
-Inv-loop s t c done₀ changed₀ left₀ done changed left = (left ≤ 128) × (length done ≡ 128) × Sound s t c done × (changed ≡ true → zeros done < zeros done₀) × (changed ≡ false → (zeros done ≡ zeros done₀) × StuckFrom s t c done left)
+Inv-loop s t c done₀ changed₀ left₀ done changed left =
+    (left ≤ 128) × (length done ≡ 128) × Sound s t c done × (changed ≡ true → zeros done < zeros done₀) ×
+    (changed ≡ false → (zeros done ≡ zeros done₀) × StuckFrom s t c done left)
 
 abbrev μ-loop : tie.MeasureT-loop
 μ-loop s t c done₀ changed₀ left₀ done changed left = left

@@ -2,7 +2,8 @@
 use borrow.Author.Needs.{needs}
 use lib.ListN.{length}
 use Rattle.terms.specs.FrontLaws.{said, denied}
-use Rattle.terms.specs.MatchLaws.{made-none, pattern-begins, subject-begins, comparable, variable-ready, variable-step, variable-clash, symbol-ready, symbol-step, symbol-clash}
+use Rattle.terms.specs.MatchLaws.{made-none, pattern-begins, subject-begins, comparable, variable-ready, variable-step, variable-clash}
+use Rattle.terms.specs.MatchLaws.{symbol-ready, symbol-step, symbol-clash}
 use Prim.Native.Nat.{ℕ, _<_}
 use borrow.Fn.Kinds.{In}
 use borrow.Fn.PlainCycle.{Measures, is, falls, and}
@@ -30,7 +31,23 @@ match-front-below t =
     and 2 match-front-kinds.ps (falls 2 match-front-kinds.ps _<_ μ-match-front t) match-front.Pre
 
 pub +match-front-spec : {M : Type 1} → statement M
-+match-front-spec = close μ-match-front λ t. match-front-lts.spec (slot-reads.Asked, slot-reads.Learnt, bindable-reads.Asked, bindable-reads.Learnt, term-size-reads.Asked, term-size-reads.Learnt, bind-reads.Asked, bind-reads.Learnt, match-front-below t, match-front.Post, same-entry-reads.Asked, same-entry-reads.Learnt, children-reads.Asked, children-reads.Learnt) (match-front-at t) match-front.Post
++match-front-spec =
+    close μ-match-front λ t. match-front-lts.spec (
+      slot-reads.Asked,
+      slot-reads.Learnt,
+      bindable-reads.Asked,
+      bindable-reads.Learnt,
+      term-size-reads.Asked,
+      term-size-reads.Learnt,
+      bind-reads.Asked,
+      bind-reads.Learnt,
+      match-front-below t,
+      match-front.Post,
+      same-entry-reads.Asked,
+      same-entry-reads.Learnt,
+      children-reads.Asked,
+      children-reads.Learnt,
+    ) (match-front-at t) match-front.Post
     (λ c. made-none (c .if1 .taken))  -- match-front-returns
     (λ c κs. pattern-begins (c .before .before .before .pre .1) (c .if1 .left))  -- match-front-slot-requires
     (λ c. search needs)  -- match-front-array-read-bindable

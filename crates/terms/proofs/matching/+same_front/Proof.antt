@@ -25,7 +25,15 @@ same-front-below t =
     and 2 same-front-kinds.ps (falls 2 same-front-kinds.ps _<_ μ-same-front t) same-front.Pre
 
 pub +same-front-spec : {M : Type 1} → statement M
-+same-front-spec = close μ-same-front λ t. same-front-lts.spec (same-entry-reads.Asked, same-entry-reads.Learnt, children-reads.Asked, children-reads.Learnt, same-front-below t, same-front.Post) (same-front-at t) same-front.Post
++same-front-spec =
+    close μ-same-front λ t. same-front-lts.spec (
+      same-entry-reads.Asked,
+      same-entry-reads.Learnt,
+      children-reads.Asked,
+      children-reads.Learnt,
+      same-front-below t,
+      same-front.Post,
+    ) (same-front-at t) same-front.Post
     (λ c κs. search needs)  -- same-front-same-entry-requires
     (λ c. search needs)  -- same-front-sub-same-front
     (λ c. search needs)  -- same-front-part-same-front-start

@@ -46,7 +46,21 @@ meet-halves-below t =
     and 3 meet-halves-kinds.ps (falls 3 meet-halves-kinds.ps _<_ μ-meet-halves t) meet-halves.Pre
 
 pub +meet+meet-halves-spec : {M : Type 1} → statement M
-+meet+meet-halves-spec = close μ-meet μ-meet-halves (λ t. meet-lts.spec (byte-at-reads.Asked, byte-at-reads.Learnt, home-reads.Asked, home-reads.Learnt, unite-reads.Asked, unite-reads.Learnt, meet-halves-below t, meet-halves.Post, value-in-reads.Asked, value-in-reads.Learnt, meet-below t, meet.Post) (meet-at t) meet.Post
++meet+meet-halves-spec =
+    close μ-meet μ-meet-halves (λ t. meet-lts.spec (
+      byte-at-reads.Asked,
+      byte-at-reads.Learnt,
+      home-reads.Asked,
+      home-reads.Learnt,
+      unite-reads.Asked,
+      unite-reads.Learnt,
+      meet-halves-below t,
+      meet-halves.Post,
+      value-in-reads.Asked,
+      value-in-reads.Learnt,
+      meet-below t,
+      meet.Post,
+    ) (meet-at t) meet.Post
     (λ c. search needs)  -- meet-mul-byte-at
     (λ c κs. search needs)  -- meet-byte-at-requires
     (λ c. search needs)  -- meet-mul-byte-at-2
@@ -70,7 +84,8 @@ pub +meet+meet-halves-spec : {M : Type 1} → statement M
     let first = there .before .before .before .byte-at .ensures .0 in let second = there .before .before .byte-at2 .ensures .0 in
     let if3 = c .before .before .if3 in let if4 = c .before .if4 in
     (omega (arith, pre .0), (pre .1 .0, pre .1 .1, sym first ∙ if4 .taken, sym second ∙ sym (if3 .left) ∙ if4 .taken, pre .1 .4)))  -- meet-meet-halves-requires
-    (λ c. let there = c .before .before .before .before in let start = there .before .before .before .before .before .before in let args = start .args in let pre = start .pre in
+    (λ c. let there = c .before .before .before .before in let start = there .before .before .before .before .before .before in
+    let args = start .args in let pre = start .pre in
     let first = there .before .before .before .byte-at .ensures .0 in let second = there .before .before .byte-at2 .ensures .0 in
     let p = left-symbol (args .s .now) (args .t .now) (pre .1 .0) (args .i) (pre .1 .2) (omega (arith, first, there .before .if1 .left)) in
     let q = right-symbol (args .s .now) (args .t .now) (pre .1 .0) (args .j) (pre .1 .3) (omega (arith, second, there .if2 .left)) in
@@ -80,7 +95,8 @@ pub +meet+meet-halves-spec : {M : Type 1} → statement M
     ))  -- meet-returns-4
     (λ c κs. search needs)  -- meet-value-in-requires
     (λ c κs. search needs)  -- meet-value-in-requires-2
-    (λ c. let there = c .before .before .before .before .before in let start = there .before .before .before .before .before .before in let args = start .args in let pre = start .pre in
+    (λ c. let there = c .before .before .before .before .before in let start = there .before .before .before .before .before .before in
+    let args = start .args in let pre = start .pre in
     let first = there .before .before .before .byte-at .ensures .0 in let second = there .before .before .byte-at2 .ensures .0 in
     let p = left-symbol (args .s .now) (args .t .now) (pre .1 .0) (args .i) (pre .1 .2) (omega (arith, first, there .before .if1 .left)) in
     let q = right-symbol (args .s .now) (args .t .now) (pre .1 .0) (args .j) (pre .1 .3) (omega (arith, second, there .if2 .left)) in
@@ -91,13 +107,15 @@ pub +meet+meet-halves-spec : {M : Type 1} → statement M
     ))  -- meet-returns-5
     (λ c. search needs)  -- meet-add-meet
     (λ c. search needs)  -- meet-add-meet-2
-    (λ c κs. let there = c .before .before .before .before .before .before .before in let start = there .before .before .before .before .before .before in let args = start .args in let pre = start .pre in
+    (λ c κs. let there = c .before .before .before .before .before .before .before in
+    let start = there .before .before .before .before .before .before in let args = start .args in let pre = start .pre in
     let first = there .before .before .before .byte-at .ensures .0 in let second = there .before .before .byte-at2 .ensures .0 in
     let if3 = c .before .before .before .before .before .before .if3 in let if6 = c .before .if6 in
     let p = encryption-there (args .i) (pre .1 .0 .left) (sym first ∙ if6 .taken) in
     let q = encryption-there (args .j) (pre .1 .0 .right) (sym second ∙ sym (if3 .left) ∙ if6 .taken) in
     (omega (arith, pre .0, pre .1 .2), (pre .1 .0, pre .1 .1, p .is .content-fits, q .is .content-fits, pre .1 .4)))  -- meet-meet-requires
-    (λ c. let there = c .before .before .before .before .before .before .before .before in let start = there .before .before .before .before .before .before in let args = start .args in let pre = start .pre in
+    (λ c. let there = c .before .before .before .before .before .before .before .before in
+    let start = there .before .before .before .before .before .before in let args = start .args in let pre = start .pre in
     let first = there .before .before .before .byte-at .ensures .0 in let second = there .before .before .byte-at2 .ensures .0 in
     let p = left-symbol (args .s .now) (args .t .now) (pre .1 .0) (args .i) (pre .1 .2) (omega (arith, first, there .before .if1 .left)) in
     let q = right-symbol (args .s .now) (args .t .now) (pre .1 .0) (args .j) (pre .1 .3) (omega (arith, second, there .if2 .left)) in
@@ -107,11 +125,13 @@ pub +meet+meet-halves-spec : {M : Type 1} → statement M
       encryptions-met p q (sym first ∙ if6 .taken) (sym second ∙ sym (if3 .left) ∙ if6 .taken)
           (sym (value-in .ensures .0) ∙ if5 .left ∙ value-in2 .ensures .0) (c .meet .ensures .1),
     ))  -- meet-returns-6
-    (λ c. let there = c .before .before .before .before .before .before in let start = there .before .before .before .before .before .before in let args = start .args in let pre = start .pre in
+    (λ c. let there = c .before .before .before .before .before .before in let start = there .before .before .before .before .before .before in
+    let args = start .args in let pre = start .pre in
     let first = there .before .before .before .byte-at .ensures .0 in let second = there .before .before .byte-at2 .ensures .0 in
     let p = left-symbol (args .s .now) (args .t .now) (pre .1 .0) (args .i) (pre .1 .2) (omega (arith, first, there .before .if1 .left)) in
     let q = right-symbol (args .s .now) (args .t .now) (pre .1 .0) (args .j) (pre .1 .3) (omega (arith, second, there .if2 .left)) in
-    let if3 = c .before .before .before .before .before .if3 in let if4 = c .before .before .before .before .if4 in let value-in = c .before .before .before .value-in in let value-in2 = c .before .before .value-in2 in
+    let if3 = c .before .before .before .before .before .if3 in let if4 = c .before .before .before .before .if4 in
+    let value-in = c .before .before .before .value-in in let value-in2 = c .before .before .value-in2 in
     let one = only-atom _ (p .isSymbol) (λ e. if4 .left (first ∙ e)) (λ e. c .if6 .left (first ∙ e)) in (
       pre .1 .1,
       done (atoms-met p q (pre .1 .4) one (sym second ∙ sym (if3 .left) ∙ first ∙ one)

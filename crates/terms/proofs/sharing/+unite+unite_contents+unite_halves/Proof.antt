@@ -72,7 +72,20 @@ unite-halves-below t =
     unite-halves.Pre
 
 pub +unite+unite-contents+unite-halves-spec : {M : Type 1} → statement M
-+unite+unite-contents+unite-halves-spec = close μ-unite μ-unite-contents μ-unite-halves (λ t. unite-lts.spec (wide-reads.Asked, wide-reads.Learnt, meeting-reads.Asked, meeting-reads.Learnt, relabel-reads.Asked, relabel-reads.Learnt, unite-contents-below t, unite-contents.Post, unite-halves-below t, unite-halves.Post) (unite-at t) unite.Post
++unite+unite-contents+unite-halves-spec =
+    close μ-unite μ-unite-contents μ-unite-halves
+    (λ t. unite-lts.spec (
+      wide-reads.Asked,
+      wide-reads.Learnt,
+      meeting-reads.Asked,
+      meeting-reads.Learnt,
+      relabel-reads.Asked,
+      relabel-reads.Learnt,
+      unite-contents-below t,
+      unite-contents.Post,
+      unite-halves-below t,
+      unite-halves.Post,
+    ) (unite-at t) unite.Post
     (λ c. search needs)  -- unite-element-copy-out-a
     (λ c. search needs)  -- unite-element-copy-out-b
     (λ c. let start = c .before .before .before .before .before in let args = start .args in let pre = start .pre in
@@ -92,11 +105,13 @@ pub +unite+unite-contents+unite-halves-spec : {M : Type 1} → statement M
     (λ c κs. search needs)  -- unite-relabel-requires-4
     (λ c κs. search needs)  -- unite-wide-requires-3
     (λ c κs. search needs)  -- unite-wide-requires-4
-    (λ c κs. let there = c .before .before .before .before .before .before .before in let start = there .before .before .before .before .before .before .before .before in
+    (λ c κs. let there = c .before .before .before .before .before .before .before in
+    let start = there .before .before .before .before .before .before .before .before in
     let if1 = there .before .before .before .if1 in let wide = there .before .before .wide in let wide2 = there .before .wide2 in
     let args = start .args in let pre = start .pre in
     let u = uniting (args .s .now) (args .t .now) (args .c .now) (args .i) (args .j) (pre .1) in
-    let m = met-at (args .s .now) (args .t .now) (there .meeting .ensures) (c .before .before .before .before .before .enum-told5 .given .1) (wide .ensures .0) (wide2 .ensures .0) in
+    let m = met-at (args .s .now) (args .t .now) (there .meeting .ensures) (c .before .before .before .before .before .enum-told5 .given .1)
+    (wide .ensures .0) (wide2 .ensures .0) in
     let w = taken u (if1 .left) (wide .ensures) (wide2 .ensures) (c .before .before .before .relabel4 .ensures) in
     let fall = renamed-fewer w in
     (omega (arith, pre .0), (pre .1 .0, renamed-length w, renamed-classes w (m .0))))  -- unite-unite-contents-requires
@@ -104,11 +119,13 @@ pub +unite+unite-contents+unite-halves-spec : {M : Type 1} → statement M
     (λ c κs. search needs)  -- unite-relabel-requires-5
     (λ c κs. search needs)  -- unite-wide-requires-5
     (λ c κs. search needs)  -- unite-wide-requires-6
-    (λ c κs. let there = c .before .before .before .before .before .before .before in let start = there .before .before .before .before .before .before .before .before in
+    (λ c κs. let there = c .before .before .before .before .before .before .before in
+    let start = there .before .before .before .before .before .before .before .before in
     let if1 = there .before .before .before .if1 in let wide = there .before .before .wide in let wide2 = there .before .wide2 in
     let args = start .args in let pre = start .pre in
     let u = uniting (args .s .now) (args .t .now) (args .c .now) (args .i) (args .j) (pre .1) in
-    let m = met-at (args .s .now) (args .t .now) (there .meeting .ensures) (c .before .before .before .before .before .enum-told6 .given .1) (wide .ensures .0) (wide2 .ensures .0) in
+    let m = met-at (args .s .now) (args .t .now) (there .meeting .ensures) (c .before .before .before .before .before .enum-told6 .given .1)
+    (wide .ensures .0) (wide2 .ensures .0) in
     let w = taken u (if1 .left) (wide .ensures) (wide2 .ensures) (c .before .before .before .relabel5 .ensures) in
     let fall = renamed-fewer w in
     let tag = nodeTag (args .s .now) (args .t .now) in (
@@ -148,22 +165,26 @@ pub +unite+unite-contents+unite-halves-spec : {M : Type 1} → statement M
     let m = met-at (args .s .now) (args .t .now) (there .meeting .ensures) (c .before .before .enum-told4 .given .1) (wide .ensures .0) (wide2 .ensures .0) in
     let w = taken u (if1 .left) (wide .ensures) (wide2 .ensures) (c .relabel3 .ensures) in
     (renamed-length w, omega (arith, renamed-fewer w), atoms-answer w m))  -- unite-returns-5
-    (λ c. let there = c .before .before .before .before .before .before .before .before in let start = there .before .before .before .before .before .before .before .before in
+    (λ c. let there = c .before .before .before .before .before .before .before .before in
+    let start = there .before .before .before .before .before .before .before .before in
     let if1 = there .before .before .before .if1 in let wide = there .before .before .wide in let wide2 = there .before .wide2 in
     let args = start .args in let pre = start .pre in
     let u = uniting (args .s .now) (args .t .now) (args .c .now) (args .i) (args .j) (pre .1) in
-    let m = met-at (args .s .now) (args .t .now) (there .meeting .ensures) (c .before .before .before .before .before .before .enum-told5 .given .1) (wide .ensures .0) (wide2 .ensures .0) in
+    let m = met-at (args .s .now) (args .t .now) (there .meeting .ensures) (c .before .before .before .before .before .before .enum-told5 .given .1)
+    (wide .ensures .0) (wide2 .ensures .0) in
     let w = taken u (if1 .left) (wide .ensures) (wide2 .ensures) (c .before .before .before .before .relabel4 .ensures) in
     let fall = renamed-fewer w in (
       c .unite-contents .ensures .0,
       omega (arith, c .unite-contents .ensures .1),
       contents-answer w (c .before .before .wide3 .ensures .0) (c .before .wide4 .ensures .0) m (c .unite-contents .ensures .2),
     ))  -- unite-returns-6
-    (λ c. let there = c .before .before .before .before .before .before .before .before in let start = there .before .before .before .before .before .before .before .before in
+    (λ c. let there = c .before .before .before .before .before .before .before .before in
+    let start = there .before .before .before .before .before .before .before .before in
     let if1 = there .before .before .before .if1 in let wide = there .before .before .wide in let wide2 = there .before .wide2 in
     let args = start .args in let pre = start .pre in
     let u = uniting (args .s .now) (args .t .now) (args .c .now) (args .i) (args .j) (pre .1) in
-    let m = met-at (args .s .now) (args .t .now) (there .meeting .ensures) (c .before .before .before .before .before .before .enum-told6 .given .1) (wide .ensures .0) (wide2 .ensures .0) in
+    let m = met-at (args .s .now) (args .t .now) (there .meeting .ensures) (c .before .before .before .before .before .before .enum-told6 .given .1)
+    (wide .ensures .0) (wide2 .ensures .0) in
     let w = taken u (if1 .left) (wide .ensures) (wide2 .ensures) (c .before .before .before .before .relabel5 .ensures) in
     let fall = renamed-fewer w in (
       c .unite-halves .ensures .0,
@@ -189,7 +210,14 @@ pub +unite+unite-contents+unite-halves-spec : {M : Type 1} → statement M
       moved (c .before .before .first-child .ensures .0) (c .before .first-child2 .ensures .0)
           (c .unite .ensures .2),
     ))  -- unite-contents-returns
-    ) λ t. unite-halves-lts.spec (first-child-reads.Asked, first-child-reads.Learnt, unite-below t, unite.Post, second-child-reads.Asked, second-child-reads.Learnt) (unite-halves-at t) unite-halves.Post
+    ) λ t. unite-halves-lts.spec (
+      first-child-reads.Asked,
+      first-child-reads.Learnt,
+      unite-below t,
+      unite.Post,
+      second-child-reads.Asked,
+      second-child-reads.Learnt,
+    ) (unite-halves-at t) unite-halves.Post
     (λ c κs. search needs)  -- unite-halves-first-child-requires
     (λ c κs. search needs)  -- unite-halves-first-child-requires-2
     (λ c κs. let pre = c .before .before .before .before .before .pre in (
