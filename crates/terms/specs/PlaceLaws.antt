@@ -150,8 +150,8 @@ entry-reads : (p : Place) (t : Term Variable) {s : Term Variable} → subtermAt 
     → (m : List (Term Variable)) × Reads (drop (4 * entryAt p t) e) (s ∷ m)
 unfolding entryAt size
 entry-reads =
-    by-turns (λ (p : Place) (t s : Term Variable). (e : List ℕ) (l : List (Term Variable)) → Reads e (t ∷ l) → (m : List (Term Variable)) × Reads
-    (drop (4 * entryAt p t) e) (s ∷ m))
+    by-turns (λ (p : Place) (t s : Term Variable). (e : List ℕ) (l : List (Term Variable)) → Reads e (t ∷ l)
+    → (m : List (Term Variable)) × Reads (drop (4 * entryAt p t) e) (s ∷ m))
     (λ t e l r. (l, r))
     (λ p t u s h e l r. further e 4 (entryAt p t) (suc (entryAt p t)) (omega arith) (h _ _ (reads-pair r .2)))
     (λ p t u s h e l r. further e 4 (size t + entryAt p u) (suc (size t + entryAt p u)) (omega arith)

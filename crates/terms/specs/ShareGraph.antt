@@ -123,8 +123,8 @@ module _ (s t : List ℕ) (bs : Begins s) (bt : Begins t) (ss : length s ≤ 252
       record {
         valid = given-valid f g;
         roots =
-            left ∙ ap (replace f) (sym (termOf-reads (bs .reads))) ∙ c .left .same ∙ sym
-            (ap (replace g) (sym (termOf-reads (bt .reads))) ∙ c .right .same) ∙ sym right;
+            left ∙ ap (replace f) (sym (termOf-reads (bs .reads))) ∙ c .left .same
+            ∙ sym (ap (replace g) (sym (termOf-reads (bt .reads))) ∙ c .right .same) ∙ sym right;
       }
 
   -- What the walk and the test for finite classes answer, together.

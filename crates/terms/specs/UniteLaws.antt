@@ -82,8 +82,8 @@ module _ (s t : List ℕ) (name : ℕ → ℕ) (cs : Classes (nodeOf s t) name) 
       → Outcome (nodeOf s t) Any (merge a b name) next P r → Outcome (nodeOf s t) Any name next (λ v. v i ≡ v j) r
   as-named {next} {P} {r} needed enough o = record {
     stepped = λ e. united (nodeOf s t) name cs i j wanted
-        (λ v p is. ap (λ (n : ℕ). made v (nodeOf s t n)) (sym ea) ∙ enough v p (subst (λ (n : ℕ). IsSymbol (nodeOf s t n)) (sym ea) is) ∙ ap
-        (λ (n : ℕ). made v (nodeOf s t n)) eb)
+        (λ v p is. ap (λ (n : ℕ). made v (nodeOf s t n)) (sym ea) ∙ enough v p (subst (λ (n : ℕ). IsSymbol (nodeOf s t n)) (sym ea) is)
+        ∙ ap (λ (n : ℕ). made v (nodeOf s t n)) eb)
         (subst (λ (f : ℕ → ℕ). Step (nodeOf s t) Any f next P) one (o .stepped e));
     clashed = λ e. united-clash (nodeOf s t) name cs i j wanted (subst (λ (f : ℕ → ℕ). Clash (nodeOf s t) f P) one (o .clashed e));
   }
@@ -155,8 +155,8 @@ module _ (s t : List ℕ) (name : ℕ → ℕ) (cs : Classes (nodeOf s t) name) 
           let first : nodeOf s t a ≡ encryptionNode (nodeValue s t a) (firstChild s t a) = node-by s t a three in
           let second : nodeOf s t b ≡ encryptionNode (nodeValue s t b) (firstChild s t b) = node-by s t b (sym tags ∙ three) in
           as-named
-          (λ v x e. let q : encrypted (nodeValue s t a) (v (firstChild s t a)) ≡ encrypted (nodeValue s t b) (v (firstChild s t b)) = sym
-          (ap (made v) first) ∙ both-make v x e ∙ ap (made v) second in cc)
+          (λ v x e. let q : encrypted (nodeValue s t a) (v (firstChild s t a)) ≡ encrypted (nodeValue s t b) (v (firstChild s t b)) =
+          sym (ap (made v) first) ∙ both-make v x e ∙ ap (made v) second in cc)
           (λ v p is. ap (made v) first ∙ ap₂ encrypted same p ∙ sym (ap (made v) second)) o
 
       pub equal-pairs : {next : ℕ → ℕ} {r : Bool} → nodeTag s t a ≡ 2
@@ -168,6 +168,6 @@ module _ (s t : List ℕ) (name : ℕ → ℕ) (cs : Classes (nodeOf s t) name) 
           let first : nodeOf s t a ≡ pairNode (firstChild s t a) (secondChild s t a) = node-by s t a two in
           let second : nodeOf s t b ≡ pairNode (firstChild s t b) (secondChild s t b) = node-by s t b (sym tags ∙ two) in
           as-named
-          (λ v x e. let q : pair (v (firstChild s t a)) (v (secondChild s t a)) ≡ pair (v (firstChild s t b)) (v (secondChild s t b)) = sym
-          (ap (made v) first) ∙ both-make v x e ∙ ap (made v) second in (cc, cc))
+          (λ v x e. let q : pair (v (firstChild s t a)) (v (secondChild s t a)) ≡ pair (v (firstChild s t b)) (v (secondChild s t b)) =
+          sym (ap (made v) first) ∙ both-make v x e ∙ ap (made v) second in (cc, cc))
           (λ v p is. ap (made v) first ∙ ap₂ pair (p .0) (p .1) ∙ sym (ap (made v) second)) o

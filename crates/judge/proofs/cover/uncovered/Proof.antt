@@ -31,8 +31,7 @@ uncovered-spec = tie.close (tie.spec
           (open-places .ensures);
       term = conclusion-begins (pre .1) (second-entries .ensures .0);
       short = search needs;
-      long =
-          c .before .before .sure-hats .ensures .long;
+      long = c .before .before .sure-hats .ensures .long;
     })  -- first-uncovered-requires
     (λ c. let start = c .before .before .before .before .before .before .before .before .before .before .before .before in
     let args = start .args in let pre = start .pre in

@@ -18,8 +18,7 @@ is-listed-atom-spec = tie.close (tie.spec
       low = search needs;
       high = search needs;
       term = begins (one-atom (c .before .before .args .a));
-      short =
-          search needs;
+      short = search needs;
     })  -- is-listed-secret-requires
     (λ c. let args = c .before .before .before .args in
     atom-says (certificateOf (args .file .now)) (args .a) refl (c .is-listed-secret .result) (c .is-listed-secret .ensures))  -- returns

@@ -241,8 +241,7 @@ pub +unite+unite-contents+unite-halves-spec : {M : Type 1} → statement M
         pre .1 .0,
         the-unite .ensures .0,
         omega (arith, c .before .second-child .ensures .1),
-        omega
-            (arith, c .second-child2 .ensures .1),
+        omega (arith, c .second-child2 .ensures .1),
         the-unite .ensures .2 .stepped (if1 .taken) .classes,
       ),
     ))  -- unite-halves-unite-requires-2
@@ -251,13 +250,11 @@ pub +unite+unite-contents+unite-halves-spec : {M : Type 1} → statement M
     let the-unite = c .before .before .before .before .before .unite in let if1 = c .before .before .before .before .if1 in (
       c .unite2 .ensures .0,
       omega (arith, c .unite2 .ensures .1, the-unite .ensures .1),
-      both-answer
-          ((moved (first-child .ensures .0) (first-child2 .ensures .0) (the-unite .ensures .2)) .stepped (if1 .taken))
+      both-answer ((moved (first-child .ensures .0) (first-child2 .ensures .0) (the-unite .ensures .2)) .stepped (if1 .taken))
           (moved (c .before .before .second-child .ensures .0) (c .before .second-child2 .ensures .0) (c .unite2 .ensures .2)),
     ))  -- unite-halves-returns
     (λ c. let first-child = c .before .before .before .first-child in let the-unite = c .before .unite in (
       the-unite .ensures .0,
       the-unite .ensures .1,
-      failed
-          (first-clash ((moved (first-child .ensures .0) (c .before .before .first-child2 .ensures .0) (the-unite .ensures .2)) .clashed (c .if1 .left))),
+      failed (first-clash ((moved (first-child .ensures .0) (c .before .before .first-child2 .ensures .0) (the-unite .ensures .2)) .clashed (c .if1 .left))),
     ))  -- unite-halves-returns-2
