@@ -20,7 +20,7 @@ close-below-spec = tie.close (tie.spec
     (λ c κs. c .before .before .before .before .before .before .before .before .pre .0 .term)  -- term-size-requires
     (λ c. search needs)  -- add-paint-2
     (λ c κs. let pre = c .before .before .before .before .before .before .before .before .before .pre in
-    (let fits = standing-end (pre .0) (c .term-size .ensures .0) in (pre .1, fits .0, fits .1)))  -- paint-requires
+    let fits = standing-end (pre .0) (c .term-size .ensures .0) in (pre .1, fits .0, fits .1))  -- paint-requires
     (λ c. let if1 = c .before .before .before .before .before .before .if1 in let no-hat = c .before .before .before .before .no-hat in
     let if2 = c .before .before .before .if2 in
     closed-below (if1 .taken) (says-no (no-hat .result) (no-hat .ensures) (not-true (no-hat .result) (if2 .taken))) (c .before .term-size .ensures .0)

@@ -14,10 +14,10 @@ is-fine-spec = tie.close (tie.spec
     (λ c. search needs)  -- sub-t
     (λ c. search needs)  -- part-t-start
     (λ c. search needs)  -- part-t-end
-    (λ c κs. let the-pre = c .before .before .before .before .before .before .pre in
-    (let pre = the-pre in searching-at (standing-conclusion (pre .0) (pre .1)) (search needs) (search needs)))  -- is-risky-requires
-    (λ c κs. let the-pre = c .before .before .before .before .before .before .before .before .pre in
-    (let pre = the-pre in (pre .0 .premise-opened, standing-conclusion (pre .0) (pre .1) .term)))  -- stands-open-requires
+    (λ c κs. let pre = c .before .before .before .before .before .before .pre in
+    searching-at (standing-conclusion (pre .0) (pre .1)) (search needs) (search needs))  -- is-risky-requires
+    (λ c κs. let pre = c .before .before .before .before .before .before .before .before .pre in
+    (pre .0 .premise-opened, standing-conclusion (pre .0) (pre .1) .term))  -- stands-open-requires
     (λ c. let if1 = c .before .before .before .before .if1 in let is-risky = c .before .before .is-risky in
     fine-open _ _ _ _ _ _ (if1 .left) (says-yes (is-risky .result) (is-risky .ensures) (c .before .if2 .taken)) (c .stands-open .result)
     (c .stands-open .ensures))  -- returns-2

@@ -14,10 +14,9 @@ secret-at-spec = tie.close (tie.spec
     (λ c. search needs)  -- sub-is-listed-secret
     (λ c. search needs)  -- part-is-listed-secret-start
     (λ c. search needs)  -- part-is-listed-secret-end
-    (λ c κs. let the-pre = c .before .before .before .before .before .pre in
-    (let pre = the-pre in searching-at (standing-open (pre .0) (pre .1) (pre .2)) (search needs) (search needs)))  -- is-listed-secret-requires
-    (λ c.
-    open-holds _ _ _ _ (c .before .before .if1 .taken) (c .is-listed-secret .result)
+    (λ c κs. let pre = c .before .before .before .before .before .pre in
+    searching-at (standing-open (pre .0) (pre .1) (pre .2)) (search needs) (search needs))  -- is-listed-secret-requires
+    (λ c. open-holds _ _ _ _ (c .before .before .if1 .taken) (c .is-listed-secret .result)
     (answer-says (c .is-listed-secret .result) (is-secret? _ _) (c .is-listed-secret .ensures)))  -- returns
     (λ c. λ w. c .if1 .left (w .on))  -- returns-2
     )

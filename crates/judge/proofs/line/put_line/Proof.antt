@@ -17,7 +17,7 @@ put-line-spec = tie.close (tie.spec
     (λ c. search needs)  -- cast-put-refused-2
     (λ c κs. let pre = c .before .before .before .before .before .before .before .before .pre in
     let v2 = c .before .before .before .before .before .v2 in
-    rw (line-refused (v2 .given .1) (c .before .before .number .ensures .0) (c .before .block-of .ensures) (c .place-of .ensures)) at (pre))  -- put-refused-requires
+    rw (line-refused (v2 .given .1) (c .before .before .number .ensures .0) (c .before .block-of .ensures) (c .place-of .ensures)) at pre)  -- put-refused-requires
     (λ c. search needs)  -- same-length
     (λ c.
     rw (line-accepted (c .before .before .before .before .before .v .given .1))

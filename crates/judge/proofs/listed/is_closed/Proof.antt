@@ -15,7 +15,7 @@ is-closed-spec = tie.close (tie.spec
     (λ c. search needs)  -- part-is-listed-secret-start
     (λ c. search needs)  -- part-is-listed-secret-end
     (λ c κs. let pre = c .before .before .before .before .before .pre in
-    search-part 4 (pre) (begins (pair-first (pre .term) (c .before .if1 .taken) .below)))  -- is-listed-secret-requires
+    search-part 4 pre (begins (pair-first (pre .term) (c .before .if1 .taken) .below)))  -- is-listed-secret-requires
     (λ c. let start = c .before .before .before .before .before .before .before in let args = start .args in let pre = start .pre in
     let if1 = c .before .before .before .if1 in
     λ m message. closed-left (certificateOf (args .file .now)) (pre .term) m message (if1 .taken) (c .before .is-listed-secret .ensures)
@@ -32,7 +32,7 @@ is-closed-spec = tie.close (tie.spec
     (λ c. search needs)  -- part-is-listed-secret-end-2
     (λ c κs. let pre = c .before .before .before .before .before .before .before .before .before .before .pre in
     let if1 = c .before .before .before .before .before .before .if1 in let p = pair-first (pre .term) (if1 .taken) in
-    search-part _ (pre) (begins (right-begins p (c .before .term-size .ensures .0))))  -- is-listed-secret-requires-2
+    search-part _ pre (begins (right-begins p (c .before .term-size .ensures .0))))  -- is-listed-secret-requires-2
     (λ c. let start = c .before .before .before .before .before .before .before .before .before .before .before in
     let args = start .args in let pre = start .pre in let if1 = c .before .before .before .before .before .before .before .if1 in
     let is-listed-secret = c .before .before .before .before .before .is-listed-secret in let if2 = c .before .before .before .before .if2 in
@@ -42,7 +42,7 @@ is-closed-spec = tie.close (tie.spec
     (λ c. search needs)  -- part-is-listed-secret-start-3
     (λ c. search needs)  -- part-is-listed-secret-end-3
     (λ c κs. let pre = c .before .before .before .before .before .before .pre in
-    search-part 4 (pre) (begins (encryption-first (pre .term) (c .before .if3 .taken) .below)))  -- is-listed-secret-requires-3
+    search-part 4 pre (begins (encryption-first (pre .term) (c .before .if3 .taken) .below)))  -- is-listed-secret-requires-3
     (λ c. let start = c .before .before .before .before .before .before .before .before in let args = start .args in let pre = start .pre in
     let if3 = c .before .before .before .if3 in
     λ m message. closed-content (certificateOf (args .file .now)) (pre .term) m message (if3 .taken) (c .before .is-listed-secret3 .ensures)

@@ -19,5 +19,5 @@ bindable-spec = tie.close (tie.spec
     (λ c κs. search (needs, c .before .before .before .before .pre .held))  -- same-requires
     (λ c. free-slot (c .if1 .taken))  -- returns
     (λ c. let pre = c .before .before .before .before .before .pre in let if1 = c .before .before .before .if1 in
-    held-slot (pre) (if1 .left) (c .same .result) (term? variable? _ _) (c .same .ensures))  -- returns-2
+    held-slot pre (if1 .left) (c .same .result) (term? variable? _ _) (c .same .ensures))  -- returns-2
     )

@@ -21,24 +21,24 @@ right-atom-spec = tie.close (tie.spec
     (λ c κs. search needs)  -- named-back-requires-2
     (λ c. let start = c .before .before .before .before .before .before .before in let args = start .args in let pre = start .pre in
     let value = c .before .before .before .before .value in let a = args in
-    atom-principal (a .atoms .now) (a .n) (pre) (c .before .before .if1 .left) (value .ensures .0) (c .if2 .taken))  -- returns-2
+    atom-principal (a .atoms .now) (a .n) pre (c .before .before .if1 .left) (value .ensures .0) (c .if2 .taken))  -- returns-2
     (λ c. let start = c .before .before .before .before .before .before .before .before in let args = start .args in let pre = start .pre in
     let value = c .before .before .before .before .before .value in let if1 = c .before .before .before .if1 in let a = args in
-    atom-nonce (a .atoms .now) (a .n) (pre) (if1 .left) (value .ensures .0) (c .if3 .taken))  -- returns-3
+    atom-nonce (a .atoms .now) (a .n) pre (if1 .left) (value .ensures .0) (c .if3 .taken))  -- returns-3
     (λ c. let start = c .before .before .before .before .before .before .before .before .before .before in
     let args = start .args in let pre = start .pre in let value = c .before .before .before .before .before .before .before .value in
     let if1 = c .before .before .before .before .before .if1 in let a = args in
-    atom-public (a .atoms .now) (a .n) (pre) (if1 .left) (value .ensures .0) (c .before .if4 .taken) (c .named-back .result) (c .named-back .ensures))  -- returns-4
+    atom-public (a .atoms .now) (a .n) pre (if1 .left) (value .ensures .0) (c .before .if4 .taken) (c .named-back .result) (c .named-back .ensures))  -- returns-4
     (λ c. let start = c .before .before .before .before .before .before .before .before .before .before .before in
     let args = start .args in let pre = start .pre in let value = c .before .before .before .before .before .before .before .before .value in
     let if1 = c .before .before .before .before .before .before .if1 in let a = args in
-    atom-private (a .atoms .now) (a .n) (pre) (if1 .left) (value .ensures .0) (c .before .if5 .taken) (c .named-back2 .result)
+    atom-private (a .atoms .now) (a .n) pre (if1 .left) (value .ensures .0) (c .before .if5 .taken) (c .named-back2 .result)
     (c .named-back2 .ensures))  -- returns-5
     (λ c. let start = c .before .before .before .before .before .before .before .before .before .before .before in
     let args = start .args in let pre = start .pre in let value = c .before .before .before .before .before .before .before .before .value in
     let if1 = c .before .before .before .before .before .before .if1 in let a = args in
-    atom-symmetric (a .atoms .now) (a .n) (pre) (if1 .left) (value .ensures .0) (c .if6 .taken))  -- returns-6
+    atom-symmetric (a .atoms .now) (a .n) pre (if1 .left) (value .ensures .0) (c .if6 .taken))  -- returns-6
     (λ c. let pre = c .before .before .before .before .before .before .before .before .before .before .before .pre in
     let if2 = c .before .before .before .before .if2 in let if3 = c .before .before .before .if3 in
-    atom-no-kind _ _ (pre) (if2 .left) (if3 .left) (c .before .before .if4 .left) (c .before .if5 .left) (c .if6 .left))  -- returns-7
+    atom-no-kind _ _ pre (if2 .left) (if3 .left) (c .before .before .if4 .left) (c .before .if5 .left) (c .if6 .left))  -- returns-7
     )
