@@ -10,10 +10,15 @@ use Rattle.terms.specs.declared.sharing.How.{How}
 use Rattle.terms.specs.declared.sharing.How.the-variants.{LeftFree, RightFree, Differ, Atoms, Encryptions, Pairs}
 use Rattle.terms.specs.Graph.{Classes, Outcome}
 use Rattle.terms.specs.GraphLaws.{rename, merge, Any, done, failed, restate}
-use Rattle.terms.specs.TermGraph.{nodeOf, firstChild, secondChild, TwoTerms}
+use Rattle.terms.specs.TermGraph.{nodeOf, nodeTag, freeTag, firstChild, secondChild, TwoTerms}
 use Rattle.terms.specs.Meeting.{Meets, Symbols}
 use Rattle.terms.specs.Names.{nameOf, name-read, names-merge, classCount, fewer}
 use Rattle.terms.specs.UniteLaws.{one-class, free-class, symbols-merge, tags-clash, values-clash, equal-atoms, equal-encryptions, equal-pairs}
+
+-- Both nodes are symbols: what the tests of their tags say.
+pub symbols : {s t : List ℕ} {a b m n : ℕ} {p q : Bool} → m ≡ nodeTag s t a → p ≡ freeTag m → p ≡ false
+    → n ≡ nodeTag s t b → q ≡ freeTag n → q ≡ false → Symbols s t a b
+symbols first p f second q g = record { left = ap freeTag (sym first) ∙ sym p ∙ f; right = ap freeTag (sym second) ∙ sym q ∙ g }
 
 -- The answer of the meeting, at the names themselves.
 pub met-at : (s t : List ℕ) {x y a b : ℕ} {met h : How} → Meets s t x y met → met ≡ h → x ≡ a → y ≡ b → Meets s t a b h
