@@ -1,5 +1,5 @@
 -- `terms::sharing::unite`, `unite_contents` and `unite_halves` meet their contracts; the measure is twice the number of
--- classes, one more for the two that only call `unite`. Assumes nothing.
+-- classes, one more for the two that unite what lies below. Assumes nothing.
 use mathlib.Core.Path.{sym, ap, _∙_}
 use Rattle.terms.specs.TermGraph.{nodeTag}
 use Rattle.terms.specs.GraphLaws.{moved, both-answer, failed, first-clash}
