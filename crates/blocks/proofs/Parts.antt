@@ -1,5 +1,5 @@
 -- Laws of specs/Block.antt: the parts of a file and of a block. Assumes nothing.
-use mathlib.Core.Path.{_≡_, refl, ap, _∙_, sym}
+use mathlib.Core.Path.{_≡_, _∙_, sym}
 use mathlib.Core.List.{List, [], _∷_, _++_}
 use Prim.Native.Nat.{ℕ, zero, suc, _+_, _-_, _*_, _/_, _≤_, _<_}
 use native.Mathlib.Nat.{sub-zero, zero-sub, suc-sub-suc}
@@ -7,7 +7,7 @@ use native.Mathlib.Omega.{arith}
 use native.Mathlib.Decide.{decLe}
 use lib.Dec.{ltb}
 use borrow.Author.Tests.{lt-ltb, le-ltb, le-leb, lt-leb}
-use lib.ListN.{length, getD, take, drop, length-take, length-drop}
+use lib.ListN.{length, take, drop, length-drop}
 use lib.Seq.{getD-take, getD-drop, take-nil, take-take, drop-drop, take-add, length-take-le}
 use Rattle.blocks.specs.Block.{HasBlock, hasBlock, blockAt, byteAt, entriesOf, firstEntries, secondEntries, firstCount, secondCount, Fitting}
 

@@ -5,7 +5,7 @@ use mathlib.Core.List.{List, [], _∷_, _++_, append-nil}
 use Prim.Native.Nat.{ℕ, _+_, _/_, _%_, _≤_}
 use native.Mathlib.Omega.{arith}
 use lib.Dec.{eqb}
-use lib.ListN.{length, getD, take, drop, set, length-append, drop-of-length-le}
+use lib.ListN.{length, getD, take, set, length-append, drop-of-length-le}
 use lib.Seq.{length-take-le, take-at, getD-append-add, sets-eq}
 use borrow.Author.Tests.{eq-eqb, ne-eqb, eqb-true}
 use Rattle.blocks.specs.Block.{byteAt, wordAt}

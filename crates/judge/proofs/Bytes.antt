@@ -2,7 +2,7 @@
 -- secret (demand 3).
 use mathlib.Core.Path.{_≡_, refl, sym, subst}
 use mathlib.Core.List.{List, map, List·Memᴰ, Memᴰ·of-map}
-use Prim.Native.Nat.{ℕ, _+_, _*_, _<_, _≤_}
+use Prim.Native.Nat.{ℕ, _<_, _≤_}
 use native.Mathlib.Omega.{arith}
 use lib.ListN.{length}
 use Rattle.blocks.specs.Block.{blockAt, firstEntries}
@@ -24,7 +24,7 @@ use Rattle.judge.specs.Conditions.{KnownAtom, WeaklyClosed, KeptKey, Mee
 use Rattle.judge.specs.Verdict.{verdictOf, fileAtoms}
 use Rattle.judge.specs.Meaning.{Formed, Accepts, Every}
 use Rattle.judge.proofs.LaidLaws.{fits, pattern-right, laid}
-use Rattle.judge.proofs.Members.{block-of-kind}
+use Rattle.judge.proofs.Members.{listed-block}
 use Rattle.judge.proofs.Verdicts.{accepted-iff}
 use Rattle.judge.proofs.Secrecy.{secrecy}
 
@@ -38,9 +38,8 @@ listed : {A : Type 0} (file : List ℕ) (kind : ℕ) (f : List ℕ → A) (P : A
     → (a : A) → List·Memᴰ a (map f (ofKind kind (blocksOf file))) → P a
 listed file kind f P every a m =
     let o = Memᴰ·of-map f (ofKind kind (blocksOf file)) m in
-    let w = block-of-kind kind file (o .1) in
-    let h = w .high in
-    subst P (o .2) (subst (λ (b : List ℕ). P (f b)) (sym (w .same)) (every (w .block) (omega arith) (w .is)))
+    let w = listed-block file (o .1) in
+    subst P (o .2) (subst (λ (b : List ℕ). P (f b)) (sym (w .same)) (every (w .number) (w .inside) (w .of-kind)))
 
 -- The atom of a secret is listed.
 secret-atom : {atoms : List Atom} {kind : ℕ} {t : Term Variable} → kind ≡ 2 → TermRight atoms kind t

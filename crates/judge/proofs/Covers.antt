@@ -1,37 +1,36 @@
 -- Laws of number 12 on the entries: searches through open entries, risky and covered entries, and the rule. Assumes nothing.
-use mathlib.Core.Path.{_≡_, refl, sym, ap, subst, _∙_}
-use mathlib.Core.Bool.{Bool, true, false}
+use mathlib.Core.Path.{_≡_, refl, sym, ap, _∙_}
+use mathlib.Core.Bool.{Bool}
 use mathlib.Core.List.{List, [], _∷_}
 use mathlib.Core.Logic.{_⊎_, inl, inr, _↔_}
 use mathlib.Core.Option.{Option, none, some, Option·none-ne-some}
-use Prim.Native.Nat.{ℕ, _+_, _*_, _<_, _≤_}
+use Prim.Native.Nat.{ℕ, _*_, _<_, _≤_}
 use native.Mathlib.Omega.{arith}
 use native.Mathlib.Decide.{ℕ-discrete}
 use borrow.Rule.Slice.PartAt.{part-to-end}
-use lib.Dec.{eqb}
 use borrow.Author.Tests.{eq-eqb, ne-eqb}
-use lib.ListN.{length, getD, drop}
-use Rattle.blocks.specs.Block.{firstCount, secondCount, firstEntries, secondEntries}
+use lib.ListN.{length, drop}
+use Rattle.blocks.specs.Block.{firstCount, firstEntries, secondEntries}
 use Rattle.terms.specs.declared.valid.Found.{Found}
-use Rattle.terms.specs.declared.valid.Found.the-variants.{At, Nothing}
-use Rattle.terms.specs.Term.{Term, Variable, variable, atom, pair, encrypted, plain, marked}
-use Rattle.terms.specs.Place.{Place, subtermAt}
+use Rattle.terms.specs.declared.valid.Found.the-variants.{Nothing}
+use Rattle.terms.specs.Term.{Term, Variable, variable, plain, marked}
+use Rattle.terms.specs.Place.{Place}
 use Rattle.terms.specs.Entry.{size, termOf, tagAt, valueAt, Reads, Begins}
-use Rattle.terms.specs.EntryLaws.{First, first-atom, first-pair, first-encrypted, first-plain, first-marked, first, termOf-reads, fits, suffix, reads-plain, reads-marked}
+use Rattle.terms.specs.EntryLaws.{First, first-atom, first-pair, first-encrypted, first-plain, first-marked, first, termOf-reads, fits, suffix}
+use Rattle.terms.specs.EntryLaws.{reads-plain, reads-marked}
 use Rattle.terms.specs.WalkLaws.{from}
 use Rattle.terms.specs.Solve.{Says, says-same}
-use Rattle.terms.specs.Decide.{answer, answer-yes, answer-no}
-use Rattle.terms.specs.First.{FirstNot, fails, holds, firstNot, first-only}
-use Rattle.terms.specs.Search.{Spot, spots}
+use Rattle.terms.specs.Decide.{answer-yes, answer-no}
+use Rattle.terms.specs.First.{FirstNot, fails, holds, first-only}
 use Rattle.terms.specs.PlaceLaws.{entryAt, Placed, placed, within, spotted, subterm-at, spot-placed}
 use Rattle.judge.specs.Certificate.{Certificate, Rule}
 use Rattle.judge.specs.File.{certificateOf, ruleOf}
 use Rattle.judge.specs.Laid.{Laid, RuleBlock}
-use Rattle.judge.specs.Cover.{Risky, Covered, sureHat, inPremise, SureHat, AtOpenPlace, Dead}
+use Rattle.judge.specs.Cover.{Risky, Covered, sureHat, inPremise, AtOpenPlace, Dead}
 use Rattle.judge.specs.Decisions.{dead?}
 use Rattle.judge.specs.Verdict.{spotAt, FineAt, fine?, uncovered}
 use Rattle.judge.specs.Listed.{SharesListed, IsSecret}
-use Rattle.judge.specs.CoverEntries.{subAt, On, Flags, Standing, HatBelow, Entries, OpenBelow, OpenEntry, Opened, OpenWith, SomeOpen, FineEntry, Judging}
+use Rattle.judge.specs.CoverEntries.{subAt, On, Flags, Standing, HatBelow, Entries, OpenEntry, Opened, OpenWith, SomeOpen, FineEntry, Judging}
 use Rattle.judge.proofs.ListedLaws.{risky-is, dead-is}
 use Rattle.judge.proofs.Marks.{term-reads}
 use Rattle.judge.proofs.Hats.{hat-place}
@@ -48,7 +47,8 @@ standing-open {k = k} laid o inside =
 pub conclusion-inside : {e : List ℕ} {k : ℕ} → Begins e → k < size (termOf e) → 4 * k < length e
 conclusion-inside {e} b inside = omega (arith, fits (termOf e) (term-reads b refl))
 
-pub standing-conclusion : {file premise opened conclusion cover : List ℕ} {k : ℕ} → Judging file premise opened conclusion cover → 4 * k < length conclusion → Standing file conclusion k
+pub standing-conclusion : {file premise opened conclusion cover : List ℕ} {k : ℕ} → Judging file premise opened conclusion cover
+    → 4 * k < length conclusion → Standing file conclusion k
 standing-conclusion {k = k} j inside = record { laid = j .laid; term = begins-at k (j .term) inside; inside = inside; short = j .short }
 
 -- Searches through the open entries.
@@ -121,7 +121,8 @@ opened-within {c} {e} {opened} entries f = record { entries = entries; long = f 
         let l = w .isOpen .inside in
         omega (arith, fits (termOf e) (term-reads b refl))
 
-module _ {file : List ℕ} (laid : Laid file) (rule : Rule) {e opened : List ℕ} (is : PremiseIs e (rule .premise)) (f : Flags opened (OpenEntry (certificateOf file) e)) where
+module _ {file : List ℕ} (laid : Laid file) (rule : Rule) {e opened : List ℕ} (is : PremiseIs e (rule .premise))
+    (f : Flags opened (OpenEntry (certificateOf file) e)) where
   -- What stands at an open place stands at an open entry.
   at-open : (t : Term Variable) → AtOpenPlace (certificateOf file) rule t ↔ SomeOpen e opened (λ s. s ≡ t)
   at-open t = (λ w. to w (ℕ-discrete (length e) 0), back)
@@ -208,7 +209,8 @@ module _ {file : List ℕ} (laid : Laid file) (rule : Rule) {e opened : List ℕ
         → FirstNot (FineEntry (certificateOf file) e opened conclusion cover) (size (termOf conclusion)) r → r ≡ uncovered (certificateOf file) rule
     unfolding uncovered
     uncovered-rule none-secret found =
-        rw (answer-no (dead? (certificateOf file) rule) (λ d. none-secret (dead-entries .0 d)), uncovered) (first-only (fine? (certificateOf file) rule) (first-fine found))
+        rw (answer-no (dead? (certificateOf file) rule) (λ d. none-secret (dead-entries .0 d)), uncovered)
+        (first-only (fine? (certificateOf file) rule) (first-fine found))
 
 -- The premise and the conclusion of a rule block.
 pub premise-is : {b e : List ℕ} → RuleBlock b → e ≡ firstEntries b → length e ≡ 4 * firstCount b → PremiseIs e (ruleOf b .premise)

@@ -1,23 +1,20 @@
 -- Laws of sure hats on the entries: what laying a good pattern, all of them, and those of every entry covers. Assumes nothing.
 use mathlib.Core.Path.{_≡_, refl, sym, ap, subst, _∙_}
-use mathlib.Core.Bool.{Bool, true, false}
-use mathlib.Core.List.{List, []}
+use mathlib.Core.List.{List}
 use mathlib.Core.Logic.{_⊎_, inl, inr, _↔_}
-use mathlib.Core.Option.{Option, some}
 use Prim.Native.Nat.{ℕ, _+_, _*_, _<_, _≤_}
 use native.Mathlib.Omega.{arith}
 use native.Mathlib.Decide.{ℕ-discrete}
 use borrow.Rule.Slice.PartAt.{part-to-end}
-use lib.ListN.{length, getD, replicate, getD-replicate, length-replicate, drop}
+use lib.ListN.{length, getD, replicate}
 use Rattle.blocks.specs.Block.{blockAt, kindOf, firstEntries}
-use Rattle.terms.specs.Term.{Term, Variable, encrypted, replace}
-use Rattle.terms.specs.Place.{Place, subtermAt, StrictlyAbove}
+use Rattle.terms.specs.Term.{Term, Variable, replace}
+use Rattle.terms.specs.Place.{Place}
 use Rattle.terms.specs.Instance.{Matches}
 use Rattle.terms.specs.Entry.{size, termOf, tagAt, Begins}
 use Rattle.terms.specs.EntryLaws.{reads-encrypted, termOf-reads, size-positive, fits, suffix}
 use Rattle.terms.specs.OneTerm.{IsEncryption, encryption?}
 use Rattle.terms.specs.TermGraphLaws.{tag-in}
-use Rattle.terms.specs.Decide.{answer, yes-of, no-of, variable?, match?}
 use Rattle.terms.specs.WalkLaws.{from, encryption-first}
 use Rattle.terms.specs.FrontLaws.{from-length}
 use Rattle.terms.specs.PlaceLaws.{entryAt, Placed, placed, within, spotted, subterm-at, strictly-above-entry}
@@ -25,7 +22,6 @@ use Rattle.judge.specs.Certificate.{Certificate, Good}
 use Rattle.judge.specs.File.{blockCount, patternOf, certificateOf}
 use Rattle.judge.specs.Laid.{Laid, TermBlock}
 use Rattle.judge.specs.Cover.{SureHat}
-use Rattle.judge.specs.Decisions.{NotBad}
 use Rattle.judge.specs.Listed.{listedOf, AnyListed, HoldsAt, Searching, MatchesListed, SharesListed}
 use Rattle.judge.specs.CoverEntries.{subAt, On, Raised, Flags, MarkOver, Laying, Standing, HatOver, HatBelow}
 use Rattle.judge.proofs.Flags.{raised-none, raised-as, raised-twice, zero-off}
@@ -35,7 +31,8 @@ use Rattle.judge.proofs.ListedLaws.{not-bad-is}
 
 -- What a search at entry h asks for.
 pub searching-at : {file e : List ℕ} {h kind : ℕ} → Standing file e h → 2 ≤ kind → kind ≤ 4 → Searching file kind (from (4 * h) e)
-searching-at {e = e} {h = h} s low high = record { laid = s .laid; low = low; high = high; term = s .term; short = let short = s .short in omega (arith, from-length (4 * h) e) }
+searching-at {e = e} {h = h} s low high =
+    record { laid = s .laid; low = low; high = high; term = s .term; short = let short = s .short in omega (arith, from-length (4 * h) e) }
 
 -- A term stands at each of a term's entries, and ends before the entries do.
 pub standing-at : {file e : List ℕ} {h : ℕ} → Laid file → Begins e → length e ≤ 252 → h < size (termOf e) → Standing file e h
@@ -80,10 +77,12 @@ module _ (file : List ℕ) (i : ℕ) {b : List ℕ} (is : b ≡ blockAt file i) 
     λ w. rw pattern-is (w .holds .1),
   ))
 
-  pub no-match-raised : {u : Term Variable} {h : ℕ} {old : List ℕ} → length old ≡ 64 → ¬ Matches (termOf p) u → Raised old old (λ k. HoldsAt file 3 (Lays u h k) i)
+  pub no-match-raised : {u : Term Variable} {h : ℕ} {old : List ℕ} → length old ≡ 64 → ¬ Matches (termOf p) u
+      → Raised old old (λ k. HoldsAt file 3 (Lays u h k) i)
   no-match-raised {u} {h} long off = raised-none long (λ k w. off (rw pattern-is (w .holds .0)))
 
-pub other-raised : (file : List ℕ) (i : ℕ) {b : List ℕ} → b ≡ blockAt file i → ¬ (kindOf b ≡ 3) → {P : ℕ → Term Variable → Type 0} {old : List ℕ} → length old ≡ 64
+pub other-raised : (file : List ℕ) (i : ℕ) {b : List ℕ} → b ≡ blockAt file i → ¬ (kindOf b ≡ 3) → {P : ℕ → Term Variable → Type 0} {old : List ℕ}
+    → length old ≡ 64
     → Raised old old (λ k. HoldsAt file 3 (P k) i)
 other-raised file i is off long = raised-none long (λ k w. off (ap kindOf is ∙ w .of-kind))
 
@@ -96,7 +95,8 @@ pub record LaidBelow (file : List ℕ) (u : Term Variable) (h n k : ℕ) : Type 
 pub laid-none : {file : List ℕ} {u : Term Variable} {h : ℕ} {old : List ℕ} → length old ≡ 64 → Raised old old (LaidBelow file u h 0)
 laid-none long = raised-none long (λ k w. (let l = w .before in omega arith))
 
-pub laid-more : {file : List ℕ} {u : Term Variable} {h i : ℕ} {a b c : List ℕ} → Raised a b (LaidBelow file u h i) → Raised b c (λ k. HoldsAt file 3 (Lays u h k) i)
+pub laid-more : {file : List ℕ} {u : Term Variable} {h i : ℕ} {a b c : List ℕ} → Raised a b (LaidBelow file u h i)
+    → Raised b c (λ k. HoldsAt file 3 (Lays u h k) i)
     → Raised a c (LaidBelow file u h (i + 1))
 laid-more {file} {u} {h} {i} r s = raised-as (raised-twice r s) (λ k. (to k, λ w. back k w (ℕ-discrete (w .number) i)))
   where
@@ -118,7 +118,8 @@ laid-all {file} {u} {h} {n} {old} {new} laid all r = record { long = r .long; on
 
     listed : (k : ℕ) → AnyListed (certificateOf file) 3 (Lays u h k) → Dec (On new k) → On new k
     listed k a (yes e) = e
-    listed k a (no off) = absurd (none-found laid 3 (Lays u h k) (λ i inside w. off (r .on k .1 (inr (record { number = i; before = rw all inside; holds = w })))) a)
+    listed k a (no off) =
+        absurd (none-found laid 3 (Lays u h k) (λ i inside w. off (r .on k .1 (inr (record { number = i; before = rw all inside; holds = w })))) a)
 
     back : (k : ℕ) → On old k ⊎ AnyListed (certificateOf file) 3 (Lays u h k) → On new k
     back k (inl e) = r .on k .1 (inl e)
@@ -159,7 +160,8 @@ match-encryption is m = record { key = is .key; content = replace (m .by) (is .c
 pub encryption-tag : (e : List ℕ) (h : ℕ) → Begins (from (4 * h) e) → IsEncryption (subAt e h) ↔ (getD e (4 * h) 0 ≡ 3)
 encryption-tag e h b = (
   λ w. tag-in e h ∙ reads-encrypted (rw part-to-end at (term-reads b (w .is))) .0,
-  λ tag. let w = encryption-first b (ap tagAt (part-to-end e (4 * h)) ∙ sym (tag-in e h) ∙ tag) in record { key = _; content = w .content; is = termOf-reads (w .whole) },
+  λ tag. let w = encryption-first b (ap tagAt (part-to-end e (4 * h)) ∙ sym (tag-in e h) ∙ tag) in
+      record { key = _; content = w .content; is = termOf-reads (w .whole) },
 )
 
 pub no-encryption : {file e : List ℕ} {h : ℕ} → Standing file e h → ¬ (getD e (4 * h) 0 ≡ 3) → {old : List ℕ} → length old ≡ 64
@@ -171,7 +173,8 @@ no-encryption {file} {e} {h} s off long =
 pub hats-none : {c : Certificate} {e : List ℕ} → Flags (replicate 64 0) (HatBelow c e 0)
 hats-none = record { long = refl; on = λ k. (λ o. absurd (zero-off k o), λ w. (let l = w .before in absurd (omega arith))) }
 
-pub hats-more : {c : Certificate} {e : List ℕ} {h : ℕ} {old new : List ℕ} → Flags old (HatBelow c e h) → Raised old new (HatOver c (subAt e h) h) → Flags new (HatBelow c e (h + 1))
+pub hats-more : {c : Certificate} {e : List ℕ} {h : ℕ} {old new : List ℕ} → Flags old (HatBelow c e h) → Raised old new (HatOver c (subAt e h) h)
+    → Flags new (HatBelow c e (h + 1))
 hats-more {c} {e} {h} {old} {new} f r = record { long = r .long; on = λ k. (λ o. to k (r .on k .0 o), λ w. r .on k .1 (back k w (ℕ-discrete (w .over) h))) }
   where
     earlier : (k : ℕ) → HatBelow c e h k → HatBelow c e (h + 1) k

@@ -1,10 +1,9 @@
 -- The blocks before the rules are a file of their own, which lists the same secrets and patterns and so judges every rule
 -- as the whole file does. Assumes nothing.
-use mathlib.Core.Path.{_≡_, refl, sym, ap, subst, _∙_}
+use mathlib.Core.Path.{_≡_, sym, ap, subst, _∙_}
 use mathlib.Core.Bool.{Bool, true, false}
 use mathlib.Core.List.{List, map, List·Memᴰ, Memᴰ·cast, Memᴰ·map, Memᴰ·of-map}
-use mathlib.Core.Option.{some}
-use Prim.Native.Nat.{ℕ, _+_, _-_, _*_, _/_, _<_, _≤_}
+use Prim.Native.Nat.{ℕ, _-_, _*_, _<_, _≤_}
 use native.Mathlib.Omega.{arith}
 use native.Mathlib.Decide.{decLt}
 use lib.ListN.{length, take, drop}
@@ -13,19 +12,19 @@ use Rattle.blocks.specs.Block.{blockAt, kindOf}
 use Rattle.blocks.proofs.Parts.{block-before}
 use Rattle.terms.specs.declared.valid.Found.{Found}
 use Rattle.terms.specs.declared.valid.Found.the-variants.{Nothing}
-use Rattle.terms.specs.Term.{Term, Message, Variable, encrypted}
-use Rattle.terms.specs.Place.{Place, subtermAt, StrictlyAbove}
+use Rattle.terms.specs.Term.{Term, Message, Variable}
+use Rattle.terms.specs.Place.{Place}
 use Rattle.terms.specs.Entry.{size}
 use Rattle.terms.specs.Decide.{answer, answer-same}
 use Rattle.terms.specs.First.{FirstNot, fails, holds, firstNot, first-is, first-only}
 use Rattle.judge.specs.Certificate.{Certificate, Rule, Secret, Good, Bad}
 use Rattle.judge.specs.File.{blockCount, blocksOf, ofKind, patternOf, secretOf, certificateOf}
 use Rattle.judge.specs.Laid.{Laid}
-use Rattle.judge.specs.Cover.{SureHat, NoHat, sharesNoGood, isBad, Open, AtOpenPlace, Risky, isVariable, sharesSecret, Covered, sureHat, inPremise, Dead}
+use Rattle.judge.specs.Cover.{SureHat, NoHat, sharesNoGood, isBad, AtOpenPlace, Risky, isVariable, sharesSecret, Covered, sureHat, inPremise, Dead}
 use Rattle.judge.specs.Decisions.{dead?}
 use Rattle.judge.specs.Verdict.{FineAt, fine?, uncovered}
 use Rattle.judge.specs.Judgement.{OnlyRulesFrom, Heads}
-use Rattle.judge.proofs.Listing.{BlockOf, block-listed, listed-block}
+use Rattle.judge.proofs.Members.{block-listed, listed-block}
 
 -- ---- what the judging of a rule asks of a certificate
 

@@ -105,7 +105,8 @@ module _ (i : ℕ) (b : List ℕ) (fits : Fitting b) where
   atom-judged = recount (length (atomsOf (firstEntries b))) (firstCount b) (omega (arith, length-atoms (firstEntries b), first-length b fits))
       (first-place (atomRight? (atomsOf (firstEntries b))) (length (atomsOf (firstEntries b))) (AtomEntry i))
 
-  entry-judged : (atoms : List Atom) → Exact (EntriesRight atoms b) (FirstPlace (TermEntryIs atoms b) (firstCount b + secondCount b) (TermEntry i)) (entryFault atoms i b)
+  entry-judged : (atoms : List Atom)
+      → Exact (EntriesRight atoms b) (FirstPlace (TermEntryIs atoms b) (firstCount b + secondCount b) (TermEntry i)) (entryFault atoms i b)
   unfolding entryFault wrongEntry
   entry-judged atoms = recount (length (usedEntries b) / 4) (firstCount b + secondCount b) (omega (arith, used-length b fits))
       (first-place (rightAt? atoms (kindOf b) (usedEntries b)) (length (usedEntries b) / 4) (TermEntry i))

@@ -7,7 +7,7 @@ use Prim.Native.Nat.{ℕ, _+_, _-_, _*_, _≤_, _<_}
 use native.Mathlib.Omega.{arith}
 use lib.ListN.{length}
 use borrow.Author.Tests.{eq-eqb, ne-eqb}
-use Rattle.blocks.specs.Block.{blockAt, kindOf, firstCount, secondCount, secondEntries}
+use Rattle.blocks.specs.Block.{blockAt, kindOf, firstCount}
 use Rattle.blocks.proofs.Parts.{second-length}
 use Rattle.terms.specs.declared.valid.Found.{Found}
 use Rattle.terms.specs.declared.valid.Found.the-variants.{At, Nothing}

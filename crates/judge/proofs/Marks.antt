@@ -1,22 +1,21 @@
 -- Laws of marks: what a pattern laid on a term covers, by the pattern's symbol. Assumes nothing.
-use mathlib.Core.Path.{_≡_, refl, sym, ap, subst, _∙_}
-use mathlib.Core.List.{List, [], _∷_, _++_}
+use mathlib.Core.Path.{_≡_, refl, sym, ap, _∙_}
+use mathlib.Core.List.{List, [], _∷_}
 use mathlib.Core.Logic.{_⊎_, inl, inr, _↔_}
-use mathlib.Core.Option.{Option, none, some, Option·none-ne-some}
+use mathlib.Core.Option.{some, Option·none-ne-some}
 use Prim.Native.Nat.{ℕ, _+_, _*_, _<_, _≤_}
 use native.Mathlib.Omega.{arith}
 use borrow.Rule.Slice.PartAt.{part-to-end}
 use lib.ListN.{length, drop, length-drop}
-use lib.Seq.{drop-drop}
 use Rattle.terms.specs.Term.{Term, Variable, variable, atom, pair, encrypted, plain, marked, replace}
-use Rattle.terms.specs.Place.{Place, left, right, inside, subtermAt, AtOrAbove}
+use Rattle.terms.specs.Place.{Turn, Place, left, right, inside, subtermAt}
 use Rattle.terms.specs.Instance.{Matches}
 use Rattle.terms.specs.Entry.{size, termOf, tagAt, valueAt, Reads, Begins}
 use Rattle.terms.specs.EntryLaws.{First, first-atom, first-pair, first-encrypted, first-plain, first-marked, first, termOf-reads, begins, fits}
 use Rattle.terms.specs.WalkLaws.{from, PairFirst, pair-first, right-begins, EncryptionFirst, encryption-first}
 use Rattle.terms.specs.OneTerm.{IsEncryption}
 use Rattle.terms.specs.TermGraph.{rightIn}
-use Rattle.terms.specs.TermGraphLaws.{pair-in, encryption-in, right-in}
+use Rattle.terms.specs.TermGraphLaws.{pair-in, encryption-in}
 use Rattle.terms.specs.FrontLaws.{from-length}
 use Rattle.terms.specs.Laws.{subtermAt-replace}
 use Rattle.terms.specs.PlaceLaws.{entryAt, Placed, placed, within, placed-below, at-or-above-entry}
@@ -68,19 +67,25 @@ module _ {h k : ℕ} where
       go (right ∷ p) e = Option·none-ne-some _ e
       go (inside ∷ p) e = Option·none-ne-some _ e
 
+  -- A mark one turn further down.
+  turned : (a : Turn) {at : ℕ} {good u below over : Term Variable} → ((p : Place) → subtermAt (a ∷ p) good ≡ subtermAt p below)
+      → ((p : Place) → subtermAt (a ∷ p) u ≡ subtermAt p over) → ((p : Place) → at + entryAt p over ≡ h + entryAt (a ∷ p) u)
+      → MarkOver below over at k → MarkOver good u h k
+  turned a {at} {good} {u} {below} {over} stands under number m = record {
+    number = m .number;
+    place = a ∷ m .place;
+    subterm = m .subterm;
+    stands = stands (m .place) ∙ m .stands;
+    under = under (m .place) ∙ m .under;
+    low = omega (arith, m .low, number (m .place));
+    high = omega (arith, m .high, number (m .place));
+  }
+
   pub mark-encrypted : (i j : ℕ) (a c : Term Variable) → MarkOver (encrypted i a) (encrypted j c) h k ↔ MarkOver a c (h + 1) k
   unfolding subtermAt entryAt
   mark-encrypted i j a c = (
     λ m. to (m .place) (m .stands) (m .under) (m .low) (m .high),
-    λ m. record {
-      number = m .number;
-      place = inside ∷ m .place;
-      subterm = m .subterm;
-      stands = m .stands;
-      under = m .under;
-      low = let l = m .low in omega arith;
-      high = let g = m .high in omega arith;
-    },
+    turned inside (λ p. refl) (λ p. refl) (λ p. omega arith),
   )
     where
       to : (p : Place) {n : ℕ} {s : Term Variable} → subtermAt p (encrypted i a) ≡ some (variable (marked n)) → subtermAt p (encrypted j c) ≡ some s
@@ -102,24 +107,8 @@ module _ {h k : ℕ} where
       to (right ∷ p) e f l g = inr (record { number = _; place = p; subterm = _; stands = e; under = f; low = omega arith; high = omega arith })
 
       back : MarkOver a c (h + 1) k ⊎ MarkOver b d (h + 1 + size c) k → MarkOver (pair a b) (pair c d) h k
-      back (inl m) = record {
-        number = m .number;
-        place = left ∷ m .place;
-        subterm = m .subterm;
-        stands = m .stands;
-        under = m .under;
-        low = let l = m .low in omega arith;
-        high = let g = m .high in omega arith;
-      }
-      back (inr m) = record {
-        number = m .number;
-        place = right ∷ m .place;
-        subterm = m .subterm;
-        stands = m .stands;
-        under = m .under;
-        low = let l = m .low in omega arith;
-        high = let g = m .high in omega arith;
-      }
+      back (inl m) = turned left (λ p. refl) (λ p. refl) (λ p. omega arith) m
+      back (inr m) = turned right (λ p. refl) (λ p. refl) (λ p. omega arith) m
 
 -- On the entries this is document 01's mark at or above the place.
 pub mark-place : {t u s good : Term Variable} {h k : ℕ} {q p : Place} → Placed t h q u → Placed t k p s → Matches good u → Mark good q p ↔ MarkOver good u h k
@@ -240,7 +229,8 @@ module _ {p e : List ℕ} {h : ℕ} (l : Laying p e h) where
           → Raised b c (MarkOver (termOf (from (4 * (1 + i)) p)) (subAt e (h + 1 + j)) (h + 1 + j)) → Raised a c (MarkOver (termOf p) (subAt e h) h)
       pair-raised r s = raised-as (raised-twice r s) same
         where
-          parts : (termOf (from 4 p) ≡ w .first .left) × (termOf (from (4 * (1 + i)) p) ≡ w .first .right) × (termOf p ≡ pair (w .first .left) (w .first .right))
+          parts : (termOf (from 4 p) ≡ w .first .left) × (termOf (from (4 * (1 + i)) p) ≡ w .first .right) ×
+              (termOf p ≡ pair (w .first .left) (w .first .right))
           parts = (termOf-reads (w .first .below), termOf-reads (right-begins (w .first) past), termOf-reads (w .first .whole))
 
           left-is : subAt e (h + 1) ≡ w .c
@@ -252,7 +242,8 @@ module _ {p e : List ℕ} {h : ℕ} (l : Laying p e h) where
           far : j ≡ size (w .c)
           far = right ∙ ap size left-is
 
-          same : (k : ℕ) → (MarkOver (termOf (from 4 p)) (subAt e (h + 1)) (h + 1) k ⊎ MarkOver (termOf (from (4 * (1 + i)) p)) (subAt e (h + 1 + j)) (h + 1 + j) k)
+          same : (k : ℕ) → (MarkOver (termOf (from 4 p)) (subAt e (h + 1)) (h + 1) k ⊎ MarkOver (termOf (from (4 * (1 + i)) p)) (subAt e (h + 1 + j))
+              (h + 1 + j) k)
               ↔ MarkOver (termOf p) (subAt e h) h k
           same k =
               let m = mark-pair {h = h} {k = k} (w .first .left) (w .first .right) (w .c) (w .d) in
@@ -288,7 +279,8 @@ module _ {p e : List ℕ} {h : ℕ} (l : Laying p e h) where
     pub content-laying : Laying (from 4 p) e (h + 1)
     content-laying = next (w .first .below) (w .content-term) (w .content-match)
 
-    pub encryption-raised : {a b : List ℕ} → Raised a b (MarkOver (termOf (from 4 p)) (subAt e (h + 1)) (h + 1)) → Raised a b (MarkOver (termOf p) (subAt e h) h)
+    pub encryption-raised : {a b : List ℕ} → Raised a b (MarkOver (termOf (from 4 p)) (subAt e (h + 1)) (h + 1))
+        → Raised a b (MarkOver (termOf p) (subAt e h) h)
     encryption-raised r = raised-as r same
       where
         content-is : subAt e (h + 1) ≡ w .c
@@ -303,7 +295,8 @@ module _ {p e : List ℕ} {h : ℕ} (l : Laying p e h) where
   pub mark-raised : tagAt p ≡ 5 → {a b : List ℕ} {r : ℕ} → r ≡ size (subAt e h) → Painted a b h (h + r) 1 → Raised a b (MarkOver (termOf p) (subAt e h) h)
   mark-raised tag {a} {b} {r} is painted = raised-as (painted-raised painted) (λ k. go k (first (l .pattern .reads)))
     where
-      go : (k : ℕ) → First (tagAt p) (valueAt p) (drop 4 p) (l .pattern .term ∷ l .pattern .others) → ((h ≤ k) × (k < h + r)) ↔ MarkOver (termOf p) (subAt e h) h k
+      go : (k : ℕ) → First (tagAt p) (valueAt p) (drop 4 p) (l .pattern .term ∷ l .pattern .others)
+          → ((h ≤ k) × (k < h + r)) ↔ MarkOver (termOf p) (subAt e h) h k
       go k (first-marked g n q m) =
           let w = mark-marked {h = h} {k = k} (valueAt p) (subAt e h) in rw (termOf-reads (rw q at (l .pattern .reads)), is) (w .1, w .0)
       go k (first-atom g q m) = absurd (omega arith)

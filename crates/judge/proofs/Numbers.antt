@@ -8,6 +8,7 @@ use mathlib.Core.Option.{Option, none, some}
 use Prim.Native.Nat.{ℕ, zero, suc, _+_, _*_, _/_, _%_, _<_, _≤_}
 use native.Mathlib.Omega.{arith}
 use native.Mathlib.Decide.{ℕ-discrete}
+use borrow.Author.Count.{below-none, below-more}
 use lib.Dec.{eqb}
 use lib.ListN.{length, getD, drop, List·getD-eq-default}
 use borrow.Author.Tests.{eq-eqb, ne-eqb}
@@ -256,10 +257,10 @@ module _ {file : List ℕ} {i : ℕ} {e : List ℕ} (part : TermPart file i e) w
   pub good-root : GoodBlock (blockAt file i) → IsEncryption (termOf e)
   good-root g = record { key = g .key; content = g .content; is = sym pattern-at ∙ g .same }
 
-pub passed : {o : Option Fault} (f : Fault) (b : Bool) → faultIf b f ≡ o → b ≡ false → o ≡ none
-passed f b is t = sym is ∙ ap (λ (b : Bool). faultIf b f) t
+-- The loop: the first block that is judged to have a fault. None before block i has one.
+abbrev pub FaultFree : (ℕ → Option Fault) → ℕ → ℕ → Type 0
+FaultFree judged count i = (i ≤ count) × ((k : ℕ) → k < i → judged k ≡ none)
 
--- The loop: the first block that is judged to have a fault.
 module _ {judged : ℕ → Option Fault} where
   fault-from : (i left n : ℕ) {f : Fault} → i ≤ n → n < i + left → ((k : ℕ) → k < n → judged k ≡ none) → judged n ≡ some f → some f ≡ firstFault judged i left
   unfolding firstFault
@@ -274,9 +275,18 @@ module _ {judged : ℕ → Option Fault} where
   no-fault-from i zero all = refl
   no-fault-from i (suc left) all = let here = all i (omega arith) in rw (here, firstFault) (no-fault-from (suc i) left (λ k l. all k (omega arith)))
 
-  pub first-fault : {count i : ℕ} {f : Fault} → i < count → ((k : ℕ) → k < i → judged k ≡ none) → (b : Bool) → faultIf b f ≡ judged i → b ≡ true
-      → some f ≡ firstFault judged 0 count
-  first-fault {count} {i} {f} inside all b is t = fault-from 0 count i (omega arith) (omega arith) all (sym is ∙ ap (λ (b : Bool). faultIf b f) t)
+  -- Before block i none has a fault: at first, one block on, and at the end; and the block that has one.
+  pub none-yet : {count : ℕ} → FaultFree judged count 0
+  none-yet = (omega arith, below-none _)
 
-  pub no-fault : {count i : ℕ} → count ≤ i → ((k : ℕ) → k < i → judged k ≡ none) → none ≡ firstFault judged 0 count
-  no-fault {count} all-seen all = no-fault-from 0 count (λ k l. all k (omega arith))
+  pub one-on : {count i : ℕ} (f : Fault) → i < count → FaultFree judged count i → (b : Bool) → faultIf b f ≡ judged i → b ≡ false
+      → FaultFree judged count (i + 1)
+  one-on f inside free b is t = (omega arith, below-more _ _ (free .1) (sym is ∙ ap (λ (b : Bool). faultIf b f) t))
+
+  pub first-fault : {count i : ℕ} {f : Fault} → i < count → FaultFree judged count i → (b : Bool) → faultIf b f ≡ judged i → b ≡ true
+      → (some f ≡ firstFault judged 0 count) × (i < count)
+  first-fault {count} {i} {f} inside free b is t =
+      (fault-from 0 count i (omega arith) (omega arith) (free .1) (sym is ∙ ap (λ (b : Bool). faultIf b f) t), inside)
+
+  pub no-fault : {count i : ℕ} → count ≤ i → FaultFree judged count i → none ≡ firstFault judged 0 count
+  no-fault {count} all-seen free = no-fault-from 0 count (λ k l. free .1 k (omega arith))

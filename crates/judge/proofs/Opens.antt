@@ -1,20 +1,18 @@
 -- Laws of open places on the entries: what closing below an encryption, and below each of them, leaves. Assumes nothing.
-use mathlib.Core.Path.{_≡_, refl, sym, ap, subst, _∙_}
-use mathlib.Core.Bool.{Bool, true, false}
+use mathlib.Core.Path.{_≡_, refl, sym, ap, _∙_}
+use mathlib.Core.Bool.{Bool}
 use mathlib.Core.List.{List, _∷_}
 use mathlib.Core.Logic.{_⊎_, inl, inr, _↔_}
-use mathlib.Core.Option.{Option, some}
+use mathlib.Core.Option.{some}
 use Prim.Native.Nat.{ℕ, _+_, _*_, _<_, _≤_}
 use native.Mathlib.Omega.{arith}
-use native.Mathlib.Decide.{ℕ-discrete, decLe, decLt}
-use lib.ListN.{length, getD, replicate, length-drop}
+use native.Mathlib.Decide.{ℕ-discrete, decLt}
+use lib.ListN.{length, getD, replicate}
 use Rattle.terms.specs.Term.{Term, Variable, encrypted}
 use Rattle.terms.specs.Place.{Place, subtermAt, StrictlyAbove}
 use Rattle.terms.specs.Entry.{size, termOf, Reads, Begins}
-use Rattle.terms.specs.EntryLaws.{size-positive, fits}
-use Rattle.terms.specs.OneTerm.{IsEncryption}
+use Rattle.terms.specs.EntryLaws.{size-positive}
 use Rattle.terms.specs.Solve.{Says, says-same}
-use Rattle.terms.specs.WalkLaws.{from}
 use Rattle.terms.specs.PlaceLaws.{entryAt, Placed, placed, within, spotted, subterm-at, placed-begins, strictly-above-entry}
 use Rattle.judge.specs.Certificate.{Certificate}
 use Rattle.judge.specs.Cover.{NoHat, Open}
@@ -42,8 +40,10 @@ module _ {c : Certificate} {e : List ℕ} {h : ℕ} where
   pub closed-none : {old : List ℕ} → length old ≡ 64 → (getD e (4 * h) 0 ≡ 3 → NoHat c (subAt e h)) → ClosedBelow c old old e h
   closed-none long fine = record { long = long; on = λ k. (λ o. (o, λ tag a b. fine tag), λ w. w .0) }
 
-  pub closed-below : {old new : List ℕ} {r : ℕ} → getD e (4 * h) 0 ≡ 3 → ¬ NoHat c (subAt e h) → r ≡ size (subAt e h) → Painted old new (h + 1) (h + r) 0 → ClosedBelow c old new e h
-  closed-below {old} {new} {r} tag off is p = record { long = p .long; on = λ k. (λ o. to k o (decLt h k) (decLt k (h + r)), λ w. back k w (decLt h k) (decLt k (h + r))) }
+  pub closed-below : {old new : List ℕ} {r : ℕ} → getD e (4 * h) 0 ≡ 3 → ¬ NoHat c (subAt e h) → r ≡ size (subAt e h)
+      → Painted old new (h + 1) (h + r) 0 → ClosedBelow c old new e h
+  closed-below {old} {new} {r} tag off is p =
+      record { long = p .long; on = λ k. (λ o. to k o (decLt h k) (decLt k (h + r)), λ w. back k w (decLt h k) (decLt k (h + r))) }
     where
       Fine : ℕ → Type 0
       Fine k = getD e (4 * h) 0 ≡ 3 → h < k → k < h + size (subAt e h) → NoHat c (subAt e h)
@@ -60,7 +60,8 @@ module _ {c : Certificate} {e : List ℕ} {h : ℕ} where
 
 -- Entry after entry.
 pub open-none : {c : Certificate} {e new : List ℕ} {n : ℕ} → n ≡ size (termOf e) → Painted (replicate 64 0) new 0 n 1 → Flags new (OpenBelow c e 0)
-open-none {c} {e} {new} {n} is p = record { long = p .long; on = λ k. (λ o. to k (r .on k .0 o), λ w. r .on k .1 (inr (omega arith, let l = w .inside in omega arith))) }
+open-none {c} {e} {new} {n} is p =
+    record { long = p .long; on = λ k. (λ o. to k (r .on k .0 o), λ w. r .on k .1 (inr (omega arith, let l = w .inside in omega arith))) }
   where
     r : Raised (replicate 64 0) new (λ k. (0 ≤ k) × (k < n))
     r = painted-raised p
@@ -69,7 +70,8 @@ open-none {c} {e} {new} {n} is p = record { long = p .long; on = λ k. (λ o. to
     to k (inl o) = absurd (zero-off k o)
     to k (inr w) = record { inside = let l = w .1 in omega arith; every = λ h l. absurd (omega arith) }
 
-pub open-more : {c : Certificate} {e : List ℕ} {h : ℕ} {old new : List ℕ} → Flags old (OpenBelow c e h) → ClosedBelow c old new e h → Flags new (OpenBelow c e (h + 1))
+pub open-more : {c : Certificate} {e : List ℕ} {h : ℕ} {old new : List ℕ} → Flags old (OpenBelow c e h) → ClosedBelow c old new e h
+    → Flags new (OpenBelow c e (h + 1))
 open-more {c} {e} {h} {old} {new} f s = record { long = s .long; on = λ k. (λ o. to k (s .on k .0 o), λ w. s .on k .1 (back k w)) }
   where
     Fine : ℕ → ℕ → Type 0
@@ -103,7 +105,8 @@ module _ {c : Certificate} {e : List ℕ} (b : Begins e) {k : ℕ} {p : Place} {
       reads : Reads e (termOf e ∷ b .others)
       reads = term-reads b refl
 
-      to : OpenBelow c e (size (termOf e)) k → (q : Place) → StrictlyAbove q p → (i : ℕ) (t : Term Variable) → subtermAt q (termOf e) ≡ some (encrypted i t) → NoHat c (encrypted i t)
+      to : OpenBelow c e (size (termOf e)) k → (q : Place) → StrictlyAbove q p → (i : ℕ) (t : Term Variable)
+          → subtermAt q (termOf e) ≡ some (encrypted i t) → NoHat c (encrypted i t)
       to w q above i t stands =
           let high = placed q (termOf e) stands in
           let h = entryAt q (termOf e) in

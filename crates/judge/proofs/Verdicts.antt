@@ -14,6 +14,7 @@ use Rattle.terms.specs.Term.{Term, Variable}
 use Rattle.terms.specs.Place.{Place, subtermAt}
 use Rattle.terms.specs.Entry.{size}
 use Rattle.terms.specs.Search.{Spot, spots, in-spots, spots-stand}
+use Rattle.terms.specs.PlaceLaws.{spots-length}
 use Rattle.terms.specs.First.{firstNot}
 use Rattle.terms.specs.Decide.{answer}
 use Rattle.terms.specs.Decisions.{says-eq}
@@ -36,7 +37,7 @@ use Rattle.judge.specs.Meaning.{secretNotClosed, keyNotKept, placeUncove
 use Rattle.judge.proofs.Exact.{Exact, found-none, found-some, reworded, tested, either, then, FirstPlace, at, first-place}
 use Rattle.judge.proofs.Exact.{FirstBlock, at-block, first-block, says-decided, says-le, says-both}
 use Rattle.judge.proofs.Judged.{length-judged, block-judged}
-use Rattle.judge.proofs.Members.{count-has, has-count, member-number, number-member, spots-length}
+use Rattle.judge.proofs.Members.{count-has, has-count, member-number, number-member}
 
 -- ---- number 4
 

@@ -9,7 +9,7 @@ use lib.ListN.{length, getD}
 use Rattle.terms.specs.Term.{Term, Variable, variable, marked}
 use Rattle.terms.specs.Place.{Place, subtermAt}
 use Rattle.terms.specs.Instance.{Matches}
-use Rattle.terms.specs.Entry.{size, termOf, tagAt, Begins}
+use Rattle.terms.specs.Entry.{size, termOf, Begins}
 use Rattle.terms.specs.WalkLaws.{from}
 use Rattle.terms.specs.PlaceLaws.{entryAt}
 use Rattle.judge.specs.Certificate.{Certificate, Good}

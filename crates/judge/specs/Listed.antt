@@ -9,7 +9,8 @@ use Rattle.blocks.specs.Block.{blockAt, kindOf, firstEntries}
 use Rattle.terms.specs.Term.{Term, Variable, asTerm, replace}
 use Rattle.terms.specs.Instance.{Matches, Share}
 use Rattle.terms.specs.Entry.{Begins, tagAt, valueAt}
-use Rattle.terms.specs.Search.{dec-map, any?}
+use Rattle.terms.specs.Decisions.{dec-map}
+use Rattle.terms.specs.Search.{any?}
 use Rattle.terms.specs.declared.valid.Found.{Found}
 use Rattle.terms.specs.declared.valid.Found.the-variants.{At, Nothing}
 use Rattle.judge.specs.declared.verdict.Fault.{Fault}

@@ -18,7 +18,8 @@ use Rattle.terms.specs.Atom.{Atom, atomsOf, wrongAtom}
 use Rattle.terms.specs.TermEntry.{wrongEntry}
 use Rattle.terms.specs.OneTerm.{oneTerm?, encryption?}
 use Rattle.terms.specs.First.{firstNot}
-use Rattle.terms.specs.Search.{Spot, spots, dec-implies}
+use Rattle.terms.specs.Decisions.{dec-implies}
+use Rattle.terms.specs.Search.{Spot, spots}
 use Rattle.terms.specs.Decide.{answer}
 use Rattle.judge.specs.declared.verdict.Counts.{Counts}
 use Rattle.judge.specs.declared.verdict.Fault.{Fault}

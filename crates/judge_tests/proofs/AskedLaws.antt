@@ -1,5 +1,5 @@
 -- Laws of specs/Asked.antt, shaped like the code's branches. Assumes nothing.
-use mathlib.Core.Path.{_≡_, refl, sym, ap, _∙_}
+use mathlib.Core.Path.{_≡_, sym, ap, _∙_}
 use mathlib.Core.List.{List}
 use Prim.Native.Nat.{ℕ, _*_, _+_, _%_, _≤_, _<_}
 use native.Mathlib.Omega.{arith}
@@ -10,12 +10,11 @@ use Rattle.blocks.specs.declared.Writing.the-variants.{Wrote, WrongLength, Shor
 use Rattle.judge.specs.declared.verdict.Fault.the-variants.{Length, Missing, Uncovered}
 use Rattle.judge.specs.declared.verdict.Verdict.{Verdict}
 use Rattle.judge.specs.declared.verdict.Verdict.the-variants.{Accepted, Refused}
-use Rattle.judge.specs.declared.answer.Tally.{Tally}
 use Rattle.judge.specs.declared.checking.Checked.{Checked}
 use Rattle.judge.specs.Answer.{partOf}
 use Rattle.judge.specs.Checked.{checkedOf}
 use Rattle.judge.specs.Verdict.{verdictOf}
-use Rattle.judge.specs.Line.{Room, Put, pasted, printing, afterPrinting}
+use Rattle.judge.specs.Line.{Room, Put, printing, afterPrinting}
 use Rattle.judge_tests.specs.Asked.{packedWriting, tallyNumber, packedTally, noCounts, verdictFrom, copying, afterCopying}
 
 pub wrote : {w : Writing} {n : ℕ} → w ≡ Wrote n → n % 65536 ≡ packedWriting w

@@ -1,18 +1,17 @@
 -- What the tests ask of two lists of bytes: 1 yes, 0 no, 2 if one of them is no term.
 use mathlib.Core.Path.{_≡_, refl, sym, ap, _∙_}
-use mathlib.Core.Bool.{Bool, true, false, true≢false, false≢true}
+use mathlib.Core.Bool.{Bool, true, false, false≢true}
 use mathlib.Core.List.{List}
 use Prim.Native.Nat.{ℕ, _%_, _≤_, _<_}
-use native.Mathlib.Omega.{arith}
 use lib.Dec.{eqb, leb}
-use borrow.Author.Tests.{eqb-true, leb-true, lt-leb, le-leb, eq-eqb, ne-eqb}
+use borrow.Author.Tests.{leb-true, lt-leb, le-leb, eq-eqb, ne-eqb}
 use lib.ListN.{length, replicate}
 use Rattle.terms.specs.declared.valid.Found.{Found}
 use Rattle.terms.specs.declared.valid.Found.the-variants.{At, Nothing}
 use Rattle.terms.specs.Entry.{termOf, Begins}
 use Rattle.terms.specs.Atom.{Atom, atomsOf}
 use Rattle.terms.specs.TermEntry.{wrongEntry}
-use Rattle.terms.specs.OneTerm.{oneTerm?, OneTerm, HasSymbol}
+use Rattle.terms.specs.OneTerm.{oneTerm?, HasSymbol}
 use Rattle.terms.specs.Each.{Each}
 use Rattle.terms.specs.TermLaws.{right-each, right-symbols, one-begins}
 use Rattle.terms.specs.Decide.{answer, share?, match?, term?, variable?, yes-of}
@@ -78,9 +77,11 @@ pub not-whole : (e : List ℕ) → length e ≤ 252 → (length e % 4 ≡ 0 → 
 unfolding isTerm
 not-whole e h off = sym (rw (le-leb (length e) 252 h, ne-eqb (length e % 4) 0 off))
 
-pub by-entries : (e : List ℕ) {f : Found} (b : Bool) → length e ≤ 252 → length e % 4 ≡ 0 → f ≡ wrongEntry keys 3 e → b ≡ then (nothingFound f) (answer (oneTerm? e)) → b ≡ isTerm e
+pub by-entries : (e : List ℕ) {f : Found} (b : Bool) → length e ≤ 252 → length e % 4 ≡ 0 → f ≡ wrongEntry keys 3 e
+    → b ≡ then (nothingFound f) (answer (oneTerm? e)) → b ≡ isTerm e
 unfolding isTerm
-by-entries e b h whole is q = q ∙ ap (λ (g : Found). then (nothingFound g) (answer (oneTerm? e))) is ∙ sym (rw (le-leb (length e) 252 h, eq-eqb (length e % 4) 0 whole))
+by-entries e b h whole is q =
+    q ∙ ap (λ (g : Found). then (nothingFound g) (answer (oneTerm? e))) is ∙ sym (rw (le-leb (length e) 252 h, eq-eqb (length e % 4) 0 whole))
 
 module _ (s t : List ℕ) where
   pub asked : {r n : ℕ} → isTerm s ≡ true → isTerm t ≡ true → r ≡ n → r ≡ numberBy (then (isTerm s) (isTerm t)) n

@@ -8,7 +8,7 @@ use lib.ListN.{length, getD, drop, List·getD-eq-default}
 use Rattle.terms.specs.declared.valid.Found.{Found}
 use Rattle.terms.specs.declared.valid.Found.the-variants.{Nothing}
 use Rattle.terms.specs.Entry.{tagAt, valueAt}
-use Rattle.terms.specs.Decisions.{both?, via?}
+use Rattle.terms.specs.Decisions.{dec-map, dec-and}
 use Rattle.terms.specs.First.{firstNot, first-none}
 
 -- Kind (1 principal, 2 nonce, 3 public, 4 private, 5 symmetric key), known (0 or 1), partner (two bytes).
@@ -57,8 +57,8 @@ kind-key {atoms} {n} low high = elim (ℕ-discrete (kindOf atoms n) 3) [
 ]
 
 unfoldable pub isKey? : (atoms : List Atom) (n : ℕ) → Dec (IsKey atoms n)
-unfolding atomAt decLe
-isKey? atoms n = via? (λ h. kind-key (h .0) (h .1)) key-kind (both? (decLe 3 (kindOf atoms n)) (decLe (kindOf atoms n) 5))
+unfolding atomAt decLe dec-map dec-and
+isKey? atoms n = dec-map (λ h. kind-key (h .0) (h .1)) key-kind (dec-and (decLe 3 (kindOf atoms n)) (λ l. decLe (kindOf atoms n) 5))
 
 -- A key is listed.
 pub key-listed : {atoms : List Atom} {n : ℕ} → IsKey atoms n → n < length atoms
@@ -122,10 +122,10 @@ module _ (atoms : List Atom) (n : ℕ) where
   partner-right (suc (suc (suc (suc (suc (suc k)))))) e w = absurd w
 
   unfoldable pub namedBack? : (other : ℕ) → Dec (NamedBack atoms n other)
-  unfolding atomAt ℕ-discrete decLt
-  namedBack? other = via? (λ h. record { there = h .0; kind = h .1 .0; back = h .1 .1 }) (λ r. (r .there, (r .kind, r .back)))
-      (both? (decLt (partnerOf atoms n) (length atoms))
-      (both? (ℕ-discrete (kindOf atoms (partnerOf atoms n)) other) (ℕ-discrete (partnerOf atoms (partnerOf atoms n)) n)))
+  unfolding atomAt ℕ-discrete decLt dec-map dec-and
+  namedBack? other = dec-map (λ h. record { there = h .0; kind = h .1 .0; back = h .1 .1 }) (λ r. (r .there, (r .kind, r .back)))
+      (dec-and (decLt (partnerOf atoms n) (length atoms))
+      (λ l. dec-and (ℕ-discrete (kindOf atoms (partnerOf atoms n)) other) (λ k. ℕ-discrete (partnerOf atoms (partnerOf atoms n)) n)))
 
   wanted? : (k : ℕ) → Dec (Wanted k)
   unfolding Wanted namedBack? ℕ-discrete atomAt
@@ -139,9 +139,9 @@ module _ (atoms : List Atom) (n : ℕ) where
 
   -- Is the atom entry right?
   unfoldable pub atomRight? : Dec (AtomRight atoms n)
-  unfolding atomAt wanted? decLe
-  atomRight? = via? (λ h. record { known = h .0; partner = partner-right (kindOf atoms n) refl (h .1) }) (λ r. (r .known, partner-wanted (r .partner)))
-      (both? (decLe (knownOf atoms n) 1) (wanted? (kindOf atoms n)))
+  unfolding atomAt wanted? decLe dec-map dec-and
+  atomRight? = dec-map (λ h. record { known = h .0; partner = partner-right (kindOf atoms n) refl (h .1) }) (λ r. (r .known, partner-wanted (r .partner)))
+      (dec-and (decLe (knownOf atoms n) 1) (λ l. wanted? (kindOf atoms n)))
 
 -- The first atom entry that is not right.
 unfoldable pub wrongAtom : List Atom → Found

@@ -9,13 +9,14 @@ use lib.Dec.{ltb, eqb}
 use lib.ListN.{length, getD}
 use borrow.Rule.Slice.PartAt.{part-to-end}
 use Rattle.terms.specs.Term.{Term, Variable, variable, atom, pair, encrypted, plain, marked}
-use Rattle.terms.specs.Entry.{Symbol, atomSymbol, pairSymbol, encryptionSymbol, variableSymbol, tagOf, symbolOf, numbered, before, beforeAll, withZero, termsOf, tagAt}
-use Rattle.terms.specs.EntryLaws.{none≢some}
+use Rattle.terms.specs.Entry.{Symbol, atomSymbol, pairSymbol, encryptionSymbol, variableSymbol, tagOf, symbolOf, numbered, before, beforeAll}
+use Rattle.terms.specs.Entry.{withZero, termsOf, tagAt}
+use Rattle.terms.specs.EntryLaws.{none≢some, never-empty}
 use Rattle.terms.specs.WalkLaws.{from}
 use Rattle.terms.specs.Solve.{Says, says-same}
 use Rattle.terms.specs.Decisions.{says-eq}
 use Rattle.terms.specs.Each.{Each, none-left, one-more}
-use Rattle.terms.specs.OneTerm.{HasSymbol, OneTerm, never-empty, one-reads, reads-one}
+use Rattle.terms.specs.OneTerm.{HasSymbol, OneTerm, one-reads, reads-one}
 
 -- The tag is the symbol's.
 symbol-tag : (z tag value : ℕ) {s : Symbol} → withZero z (symbolOf tag value) ≡ some s → tagOf s ≡ tag

@@ -1,27 +1,53 @@
--- Decisions and answers put together.
+-- Deciding: decisions put together, and what the answers of tests say.
 use mathlib.Core.Path.{_≡_, refl}
 use mathlib.Core.Bool.{Bool, true, false}
+use mathlib.Core.Logic.{_⊎_, inl, inr}
 use Prim.Native.Nat.{ℕ, _<_}
 use lib.Dec.{ltb, eqb}
 use borrow.Author.Tests.{ltb-true, ltb-false, eqb-true, eqb-false}
 use native.Mathlib.Omega.{arith}
 use Rattle.terms.specs.Solve.{Says}
 
--- Both.
-abbrev pub both? : {P Q : Type 0} → Dec P → Dec Q → Dec (P × Q)
-both? (yes p) (yes q) = yes (p, q)
-both? (yes p) (no n) = no (λ h. n (h .1))
-both? (no n) d = no (λ h. n (h .0))
+-- Decisions put together: the second question is asked only if the first leaves it open.
+unfoldable pub dec-map : {A B : Type 0} → (A → B) → (B → A) → Dec A → Dec B
+dec-map f g (yes a) = yes (f a)
+dec-map f g (no n) = no (λ b. n (g b))
 
--- Not.
-abbrev pub not? : {P : Type 0} → Dec P → Dec (P → ⊥)
-not? (yes p) = no (λ n. n p)
-not? (no n) = yes n
+unfoldable pub dec-not : {A : Type 0} → Dec A → Dec (A → ⊥)
+dec-not (yes a) = no (λ n. n a)
+dec-not (no n) = yes n
 
--- A claim that follows from another, and the other from it.
-abbrev pub via? : {P Q : Type 0} → (P → Q) → (Q → P) → Dec P → Dec Q
-via? f g (yes p) = yes (f p)
-via? f g (no n) = no (λ q. n (g q))
+unfoldable pub dec-and : {A B : Type 0} → Dec A → (A → Dec B) → Dec (A × B)
+unfolding dec-map
+dec-and (yes a) d = dec-map (λ b. (a, b)) (λ w. w .1) (d a)
+dec-and (no n) d = no (λ w. n (w .0))
+
+unfoldable pub dec-or : {A B : Type 0} → Dec A → ((A → ⊥) → Dec B) → Dec (A ⊎ B)
+dec-or (yes a) d = yes (inl a)
+dec-or {A} {B} (no n) d = second (d n)
+  where
+    neither : (B → ⊥) → A ⊎ B → ⊥
+    neither m (inl a) = n a
+    neither m (inr b) = m b
+
+    second : Dec B → Dec (A ⊎ B)
+    second (yes b) = yes (inr b)
+    second (no m) = no (neither m)
+
+unfoldable pub dec-implies : {A B : Type 0} → Dec A → (A → Dec B) → Dec (A → B)
+unfolding dec-map
+dec-implies (yes a) d = dec-map (λ b a′. b) (λ f. f a) (d a)
+dec-implies (no n) d = yes (λ a. absurd (n a))
+
+-- Everything that satisfies Q satisfies P, if nothing that satisfies Q fails it.
+unfoldable pub dec-all : {A : Type 0} {Q P : A → Type 0} → ((a : A) → Dec (P a)) → Dec ((a : A) × Q a × (P a → ⊥)) →
+    Dec ((a : A) → Q a → P a)
+dec-all {A} {Q} {P} d (yes w) = no (λ every. w .2 (every (w .0) (w .1)))
+dec-all {A} {Q} {P} d (no none′) = yes (λ a q. decided a q (d a))
+  where
+    decided : (a : A) → Q a → Dec (P a) → P a
+    decided a q (yes x) = x
+    decided a q (no n) = absurd (none′ (a, q, n))
 
 -- What the tests on numbers say.
 pub says-lt : (a b : ℕ) → Says (ltb a b) (a < b)

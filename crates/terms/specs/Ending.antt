@@ -6,13 +6,13 @@ use mathlib.Core.Logic.{_⊎_, inl, inr}
 use Prim.Native.Nat.{ℕ, zero, suc, _+_, _*_, _-_, _<_, _≤_}
 use native.Mathlib.Omega.{arith}
 use lib.Dec.{eqb, ltb}
-use borrow.Author.Tests.{eqb-true, eqb-false, eq-eqb, ne-eqb, ltb-true, ltb-false, lt-ltb, le-ltb}
-use lib.ListN.{length, getD, set, length-set}
-use lib.Seq.{getD-set-same, getD-set-other}
+use borrow.Author.Tests.{eqb-true, eqb-false, ne-eqb, ltb-true, ltb-false, lt-ltb, le-ltb}
+use lib.ListN.{length, getD, set}
+use lib.Seq.{getD-set-other}
 use Rattle.terms.specs.Term.{Message}
-use Rattle.terms.specs.Graph.{Node, free, pairNode, encryptionNode, Child, Valid, Respects, Classes, Finite, finite}
+use Rattle.terms.specs.Graph.{free, pairNode, encryptionNode, Child, Valid, Respects, Classes, Finite, finite}
 use Rattle.terms.specs.GraphLaws.{endless}
-use Rattle.terms.specs.TermGraph.{third, region, nodeTag, nodeBy, nodeOf, firstChild, secondChild, nodeValue}
+use Rattle.terms.specs.TermGraph.{third, nodeTag, nodeBy, nodeOf, firstChild, secondChild, nodeValue}
 use Rattle.terms.specs.UniteLaws.{node-by}
 use Rattle.terms.specs.Names.{nameOf, name-read}
 
@@ -100,7 +100,8 @@ module _ (s t c d : List ℕ) (i : ℕ) (inside : i < length d) (sound : Sound s
   pub mark-sound : Readiness s t c d i true → Sound s t c (set d i 1)
   mark-sound r = record { ends = λ k h m. go k h m (eqb k i) refl }
     where
-      go : (k : ℕ) → k < 128 → isMarked (getD (set d i 1) k 0) ≡ true → (b : Bool) → eqb k i ≡ b → (j : ℕ) → Child j (nodeOf s t k) → Finite (nodeOf s t) (nameOf c) j
+      go : (k : ℕ) → k < 128 → isMarked (getD (set d i 1) k 0) ≡ true → (b : Bool) → eqb k i ≡ b → (j : ℕ) → Child j (nodeOf s t k)
+          → Finite (nodeOf s t) (nameOf c) j
       go k h m true q j child =
           let e : k ≡ i = eqb-true k i q in
           ended-finite s t c d sound j (r .ready refl j (subst (λ (n : ℕ). Child j (nodeOf s t n)) e child))
@@ -206,13 +207,15 @@ pub no-more-zeros : {S : Type 0} {z z₀ : ℕ} (b : Bool) → (b ≡ true → z
 no-more-zeros true less same = let q = less refl in omega arith
 no-more-zeros false less same = let q = same refl .0 in omega arith
 
-pub stuck-down : (s t c d : List ℕ) (left : ℕ) → 0 < left → StuckFrom s t c d left → (isMarked (getD d (left - 1) 0) ≡ false → Readiness s t c d (left - 1) false) → StuckFrom s t c d (left - 1)
+pub stuck-down : (s t c d : List ℕ) (left : ℕ) → 0 < left → StuckFrom s t c d left
+    → (isMarked (getD d (left - 1) 0) ≡ false → Readiness s t c d (left - 1) false) → StuckFrom s t c d (left - 1)
 stuck-down s t c d left some stuck here =
     let up : left ≡ left - 1 + 1 = omega arith in
     stuck-more s t c d (left - 1) (subst (StuckFrom s t c d) up stuck) here
 
 -- Every node up to i is marked, and the next one.
-pub marked-more : (d : List ℕ) (i : ℕ) → ((k : ℕ) → k < i → isMarked (getD d k 0) ≡ true) → (getD d i 0 ≡ 0 → ⊥) → (k : ℕ) → k < i + 1 → isMarked (getD d k 0) ≡ true
+pub marked-more : (d : List ℕ) (i : ℕ) → ((k : ℕ) → k < i → isMarked (getD d k 0) ≡ true) → (getD d i 0 ≡ 0 → ⊥) → (k : ℕ) → k < i + 1
+    → isMarked (getD d k 0) ≡ true
 marked-more d i all here k h = go (eqb k i) refl
   where
     go : (b : Bool) → eqb k i ≡ b → isMarked (getD d k 0) ≡ true

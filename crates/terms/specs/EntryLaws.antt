@@ -1,17 +1,17 @@
 -- Laws of entries: what stands first, and what is left after it.
-use mathlib.Core.Path.{_≡_, refl, sym, ap, _∙_}
+use mathlib.Core.Path.{_≡_, refl, ap}
 use mathlib.Core.Bool.{Bool, true, false}
-use mathlib.Core.List.{List, [], _∷_, _++_}
+use mathlib.Core.List.{List, [], _∷_}
 use mathlib.Core.Option.{Option, none, some}
-use Prim.Native.Nat.{ℕ, zero, suc, _+_, _*_, _-_, _<_, _≤_}
+use Prim.Native.Nat.{ℕ, zero, suc, _+_, _*_, _<_, _≤_}
 use native.Mathlib.Omega.{arith}
-use native.Mathlib.Nat.{add-zero}
 use lib.Dec.{ltb}
 use borrow.Author.Tests.{ltb-true}
-use lib.ListN.{length, getD, take, drop, length-drop}
+use lib.ListN.{length, drop, length-drop}
 use lib.Seq.{drop-drop}
 use Rattle.terms.specs.Term.{Term, Variable, variable, atom, pair, encrypted, plain, marked}
-use Rattle.terms.specs.Entry.{Symbol, atomSymbol, pairSymbol, encryptionSymbol, variableSymbol, symbolOf, numbered, before, beforeAll, withZero, termsOf, termOf, firstOf, tagAt, valueAt, size, Reads, Begins}
+use Rattle.terms.specs.Entry.{Symbol, atomSymbol, pairSymbol, encryptionSymbol, variableSymbol, symbolOf, numbered, before, beforeAll, withZero}
+use Rattle.terms.specs.Entry.{termsOf, termOf, firstOf, tagAt, valueAt, size, Reads, Begins}
 
 -- The entry of this tag and value, before these entries, makes these terms.
 pub data First (tag n : ℕ) (rest : List ℕ) (l : List (Term Variable)) : Type 0 where
@@ -43,13 +43,15 @@ module _ (rest : List ℕ) (l : List (Term Variable)) where
   encryptedCase n (some []) q r = absurd (none≢some _ r)
   encryptedCase n (some (t ∷ m)) q r = first-encrypted {t = t} {m = m} refl (cc) (record { is = q })
 
-  plainCase : (n : ℕ) (b : Bool) (o : Option (List (Term Variable))) → termsOf rest ≡ o → ltb n 8 ≡ b → beforeAll (numbered b (plain n)) o ≡ some l → First 4 n rest l
+  plainCase : (n : ℕ) (b : Bool) (o : Option (List (Term Variable))) → termsOf rest ≡ o → ltb n 8 ≡ b → beforeAll (numbered b (plain n)) o ≡ some l
+      → First 4 n rest l
   unfolding beforeAll before
   plainCase n false o q b r = absurd (none≢some _ r)
   plainCase n true none q b r = absurd (none≢some _ r)
   plainCase n true (some m) q b r = first-plain {m = m} refl (ltb-true n 8 b) (cc) (record { is = q })
 
-  markedCase : (n : ℕ) (b : Bool) (o : Option (List (Term Variable))) → termsOf rest ≡ o → ltb n 8 ≡ b → beforeAll (numbered b (marked n)) o ≡ some l → First 5 n rest l
+  markedCase : (n : ℕ) (b : Bool) (o : Option (List (Term Variable))) → termsOf rest ≡ o → ltb n 8 ≡ b → beforeAll (numbered b (marked n)) o ≡ some l
+      → First 5 n rest l
   unfolding beforeAll before
   markedCase n false o q b r = absurd (none≢some _ r)
   markedCase n true none q b r = absurd (none≢some _ r)
@@ -207,8 +209,8 @@ rest-reads {e} {t} {l} r = go (first r)
     go (first-plain {m} g n q k) = (m, k)
     go (first-marked {m} g n q k) = (m, k)
 
--- Entries that are no terms at all are no entries.
-never-empty : (s : Option Symbol) (o : Option (List (Term Variable))) → beforeAll s o ≡ some [] → ⊥
+-- An entry makes at least one term.
+pub never-empty : (s : Option Symbol) (o : Option (List (Term Variable))) → beforeAll s o ≡ some [] → ⊥
 unfolding beforeAll before
 never-empty none o r = none≢some _ r
 never-empty (some s) none r = none≢some _ r
@@ -220,6 +222,7 @@ never-empty (some pairSymbol) (some (t ∷ u ∷ l)) r = let z : _≡_ {A = ℕ}
 never-empty (some (encryptionSymbol k)) (some []) r = none≢some _ r
 never-empty (some (encryptionSymbol k)) (some (t ∷ l)) r = let z : _≡_ {A = ℕ} 0 1 = cc in omega arith
 
+-- Entries that are no terms at all are no entries.
 no-terms : (e : List ℕ) → Reads e [] → 0 < length e → ⊥
 unfolding termsOf
 no-terms [] r h = omega arith

@@ -4,7 +4,7 @@ use mathlib.Core.Path.{_≡_, refl, sym, ap, _∙_, subst}
 use mathlib.Core.Bool.{true, not}
 use mathlib.Core.List.{List}
 use mathlib.Core.Logic.{_⊎_, inl, inr}
-use Prim.Native.Nat.{ℕ, zero, suc, _+_, _*_, _-_, _%_, _<_, _≤_}
+use Prim.Native.Nat.{ℕ, zero, suc, _+_, _*_, _-_, _<_, _≤_}
 use native.Mathlib.Omega.{arith}
 use native.Mathlib.Decide.{decLt}
 use lib.Dec.{eqb}
@@ -98,6 +98,22 @@ module _ {s t : List ℕ} (two : TwoTerms s t) where
 
 -- ---- every way down ends
 
+-- The entries of a side end where its variables do: an entry's children are later entries or variables of that side.
+module _ {node : ℕ → Node} {name : ℕ → ℕ} (first slots : ℕ) (own : (i : ℕ) → first ≤ i → i < first + 64 → name i ≡ i)
+    (later : (i j : ℕ) → first ≤ i → i < first + 64 → Child j (node i) → Later first slots i j)
+    (ends : (v : ℕ) → slots ≤ v → v < slots + 16 → Finite node name v) where
+  entry-ends : (fuel i : ℕ) → first ≤ i → i < first + 64 → first + 64 ≤ i + fuel → Finite node name i
+  entry-ends zero i h g f = absurd (omega arith)
+  entry-ends (suc fuel) i h g f =
+      finite (λ j child. go j (later i j h g (subst (λ (n : ℕ). Child j (node n)) (own i h g) child)) (λ q r. entry-ends fuel j q r))
+    where
+      go : (j : ℕ) → Later first slots i j → (first ≤ j → j < first + 64 → first + 64 ≤ j + fuel → Finite node name j) → Finite node name j
+      go j (inl w) ih = let l = w .0 in ih (omega arith) (w .1) (omega arith)
+      go j (inr w) ih = ends j (w .0) (w .1)
+
+  side-ends : (i : ℕ) → first ≤ i → i < first + 64 → Finite node name i
+  side-ends i h g = entry-ends 64 i h g (omega arith)
+
 -- Of two sides, the variables of one stand for nodes without children, those of the other for entries of the first too.
 record Sides (node : ℕ → Node) (name : ℕ → ℕ) (low up low-slots up-slots : ℕ) : Type 0 where
   low-own : (i : ℕ) → low ≤ i → i < low + 64 → name i ≡ i
@@ -111,16 +127,8 @@ module _ {node : ℕ → Node} {name : ℕ → ℕ} {low up low-slots up-slots :
   low-variable : (v : ℕ) → low-slots ≤ v → v < low-slots + 16 → Finite node name v
   low-variable v h g = finite (λ j child. absurd (sides .leaf v h g j child))
 
-  low-entry : (fuel i : ℕ) → low ≤ i → i < low + 64 → low + 64 ≤ i + fuel → Finite node name i
-  low-entry zero i h g f = absurd (omega arith)
-  low-entry (suc fuel) i h g f = finite (λ j child. go j (sides .low-later i j h g (subst (λ (n : ℕ). Child j (node n)) (sides .low-own i h g) child)) (λ q r. low-entry fuel j q r))
-    where
-      go : (j : ℕ) → Later low low-slots i j → (low ≤ j → j < low + 64 → low + 64 ≤ j + fuel → Finite node name j) → Finite node name j
-      go j (inl w) ih = let l = w .0 in ih (omega arith) (w .1) (omega arith)
-      go j (inr w) ih = low-variable j (w .0) (w .1)
-
   low-ends : (i : ℕ) → low ≤ i → i < low + 64 → Finite node name i
-  low-ends i h g = low-entry 64 i h g (omega arith)
+  low-ends = side-ends low low-slots (sides .low-own) (sides .low-later) low-variable
 
   up-variable : (v : ℕ) → up-slots ≤ v → v < up-slots + 16 → Finite node name v
   up-variable v h g = finite (λ j child. go j child (sides .bound v h g))
@@ -133,16 +141,8 @@ module _ {node : ℕ → Node} {name : ℕ → ℕ} {low up low-slots up-slots :
           step j (inl q) = let l = q .0 in low-ends j (omega arith) (q .1)
           step j (inr q) = low-variable j (q .0) (q .1)
 
-  up-entry : (fuel i : ℕ) → up ≤ i → i < up + 64 → up + 64 ≤ i + fuel → Finite node name i
-  up-entry zero i h g f = absurd (omega arith)
-  up-entry (suc fuel) i h g f = finite (λ j child. go j (sides .up-later i j h g (subst (λ (n : ℕ). Child j (node n)) (sides .up-own i h g) child)) (λ q r. up-entry fuel j q r))
-    where
-      go : (j : ℕ) → Later up up-slots i j → (up ≤ j → j < up + 64 → up + 64 ≤ j + fuel → Finite node name j) → Finite node name j
-      go j (inl w) ih = let l = w .0 in ih (omega arith) (w .1) (omega arith)
-      go j (inr w) ih = up-variable j (w .0) (w .1)
-
   up-ends : (i : ℕ) → up ≤ i → i < up + 64 → Finite node name i
-  up-ends i h g = up-entry 64 i h g (omega arith)
+  up-ends = side-ends up up-slots (sides .up-own) (sides .up-later) up-variable
 
 module _ (s t c : List ℕ) (two : TwoTerms s t) (long : length c ≡ 256) (entries : EachFrom (Own c) 0 128) (others : EachFrom (Own c) 160 256) where
   own : (i : ℕ) → i < 128 → nameOf c i ≡ i
@@ -162,7 +162,8 @@ module _ (s t c : List ℕ) (two : TwoTerms s t) (long : length c ≡ 256) (entr
   leaf-ends k h l j child =
       childless s t (getD c k 0) (l .no-pair) (l .no-encryption) j (subst (λ (n : ℕ). Child j (nodeOf s t n)) (sym (name-read c k (omega arith))) child)
 
-  bound-ends : (side k : ℕ) → k < 256 → BoundTo s t c side k → ((j : ℕ) → Child j (nodeOf s t (nameOf c k)) → ⊥) ⊎ ((side ≤ nameOf c k) × (nameOf c k < side + 64))
+  bound-ends : (side k : ℕ) → k < 256 → BoundTo s t c side k
+      → ((j : ℕ) → Child j (nodeOf s t (nameOf c k)) → ⊥) ⊎ ((side ≤ nameOf c k) × (nameOf c k < side + 64))
   bound-ends side k h (inl l) = inl (leaf-ends k h l)
   bound-ends side k h (inr w) = inr (let e = name-read c k (omega arith) in (rw e at (w .0), rw e at (w .1)))
 

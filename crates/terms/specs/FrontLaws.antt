@@ -12,8 +12,10 @@ use lib.ListN.{length, take, drop, length-drop}
 use lib.Seq.{drop-drop}
 use borrow.Rule.Slice.PartAt.{part-to-end}
 use Rattle.terms.specs.Term.{Term, Variable, variable, atom, pair, encrypted, plain, marked, replace}
-use Rattle.terms.specs.Entry.{Symbol, atomSymbol, pairSymbol, encryptionSymbol, variableSymbol, tagOf, valueOf, before, termOf, tagAt, valueAt, size, Reads, Begins}
-use Rattle.terms.specs.EntryLaws.{First, first-atom, first-pair, first-encrypted, first-plain, first-marked, first, none≢some, termOf-reads, past, fits, begins, size-positive}
+use Rattle.terms.specs.Entry.{Symbol, atomSymbol, pairSymbol, encryptionSymbol, variableSymbol, tagOf, valueOf, before, termOf, tagAt, valueAt}
+use Rattle.terms.specs.Entry.{size, Reads, Begins}
+use Rattle.terms.specs.EntryLaws.{First, first-atom, first-pair, first-encrypted, first-plain, first-marked, first, none≢some, termOf-reads}
+use Rattle.terms.specs.EntryLaws.{past, fits, begins, size-positive}
 use Rattle.terms.specs.WalkLaws.{from}
 use Rattle.terms.specs.Occurs.{replace-none}
 use Rattle.terms.specs.Solve.{Says, says-same}

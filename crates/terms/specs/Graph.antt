@@ -1,11 +1,9 @@
 -- Two terms as one graph of nodes, and classes of nodes that must get equal messages: what the steps of the test for a
 -- shared instance promise. A node is a number; a class is named by one of its own nodes.
 use mathlib.Core.Path.{_≡_}
-use mathlib.Core.List.{List, [], _∷_}
 use mathlib.Core.Logic.{_⊎_}
 use mathlib.Core.Bool.{Bool, true, false}
-use Prim.Native.Nat.{ℕ, _<_}
-use lib.ListN.{length, getD}
+use Prim.Native.Nat.{ℕ}
 use Rattle.terms.specs.Term.{Message, atom, pair, encrypted}
 
 -- What stands at a node: a free node (a variable, or nothing), or a symbol with its children's nodes.

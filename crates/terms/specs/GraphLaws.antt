@@ -1,15 +1,15 @@
 -- Laws of the graph: uniting two classes, and the valuation that closed and finite classes give.
 use mathlib.Core.Path.{_≡_, refl, sym, ap, ap₂, _∙_, subst, subst₂}
-use mathlib.Core.List.{List, [], _∷_}
-use mathlib.Core.Logic.{_⊎_, inl, inr}
+use mathlib.Core.Logic.{inl, inr}
 use mathlib.Core.Bool.{Bool, true, false, true≢false, false≢true}
-use Prim.Native.Nat.{ℕ, zero, suc, _+_, _<_, _≤_}
+use Prim.Native.Nat.{ℕ, zero, suc, _<_}
 use native.Mathlib.Omega.{arith}
 use lib.Dec.{eqb}
 use borrow.Author.Tests.{eqb-true, eqb-false, eq-eqb, ne-eqb}
-use Rattle.terms.specs.Term.{Term, Message, variable, atom, pair, encrypted}
+use Rattle.terms.specs.Term.{Message, atom, pair, encrypted}
 use Rattle.terms.specs.Entry.{size}
-use Rattle.terms.specs.Graph.{Node, free, atomNode, pairNode, encryptionNode, IsSymbol, made, Child, Valid, Respects, Closed, Classes, Step, Clash, Outcome, Finite, finite}
+use Rattle.terms.specs.Graph.{Node, free, atomNode, pairNode, encryptionNode, IsSymbol, made, Child, Valid, Respects, Closed, Classes, Step}
+use Rattle.terms.specs.Graph.{Clash, Outcome, Finite, finite}
 
 -- a is renamed to b.
 abbrev pub pick : Bool → ℕ → ℕ → ℕ
@@ -121,10 +121,12 @@ pub restate-clash : {node : ℕ → Node} {name : ℕ → ℕ} {P P′ : (ℕ �
 restate-clash to t = record { never = λ v x r q. t .never v x r (to v x q) }
 
 -- A step made, a clash found.
-pub done : {node : ℕ → Node} {Q : (ℕ → Message) → Type 0} {name next : ℕ → ℕ} {P : (ℕ → Message) → Type 0} → Step node Q name next P → Outcome node Q name next P true
+pub done : {node : ℕ → Node} {Q : (ℕ → Message) → Type 0} {name next : ℕ → ℕ} {P : (ℕ → Message) → Type 0} → Step node Q name next P
+    → Outcome node Q name next P true
 done s = record { stepped = λ e. s; clashed = λ e. absurd (true≢false e) }
 
-pub failed : {node : ℕ → Node} {Q : (ℕ → Message) → Type 0} {name next : ℕ → ℕ} {P : (ℕ → Message) → Type 0} → Clash node name P → Outcome node Q name next P false
+pub failed : {node : ℕ → Node} {Q : (ℕ → Message) → Type 0} {name next : ℕ → ℕ} {P : (ℕ → Message) → Type 0} → Clash node name P
+    → Outcome node Q name next P false
 failed c = record { stepped = λ e. absurd (false≢true e); clashed = λ e. c }
 
 abbrev pub Any : (ℕ → Message) → Type 0

@@ -19,7 +19,8 @@ use Rattle.terms.specs.WalkLaws.{from}
 use Rattle.terms.specs.Solve.{Says, says-same}
 use Rattle.terms.specs.Decide.{answer, yes-of, no-of, says-answer, variable?, term?, match?}
 use Rattle.terms.specs.Front.{childrenOf, Front, Takes, slotOf, inSlot, inHalf, Bound, Agrees, SameFirst, Comparable, Bindable, Ready, Made}
-use Rattle.terms.specs.FrontLaws.{from-from, from-length, front-begins, parted, opened, next, next-term, next-symbol, other-symbol, KeepsFirst, none-left, front-few, one-term, same-term}
+use Rattle.terms.specs.FrontLaws.{from-from, from-length, front-begins, parted, opened, next, next-term, next-symbol, other-symbol, KeepsFirst}
+use Rattle.terms.specs.FrontLaws.{none-left, front-few, one-term, same-term}
 
 -- The slot of a term that stands first, by its tag and value.
 pub record Slotted (tag n : ℕ) (t : Term Variable) : Type 0 where

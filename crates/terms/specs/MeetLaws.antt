@@ -1,23 +1,25 @@
 -- Laws of the walk over two terms side by side: entry i of s against entry j of t.
-use mathlib.Core.Path.{_≡_, refl, sym, ap, ap₂, _∙_, subst, subst₂}
-use mathlib.Core.Bool.{Bool, true, false, true≢false}
-use mathlib.Core.List.{List, _∷_}
+use mathlib.Core.Path.{_≡_, refl, sym, ap, ap₂, _∙_, subst}
+use mathlib.Core.Bool.{Bool, false, true≢false}
+use mathlib.Core.List.{List}
 use Prim.Native.Nat.{ℕ, zero, suc, _+_, _*_, _<_, _≤_}
 use native.Mathlib.Omega.{arith}
 use lib.ListN.{length, drop}
-use Rattle.terms.specs.Term.{Term, Variable, Message, variable, atom, pair, encrypted}
-use Rattle.terms.specs.Entry.{Reads, Begins, tagAt, valueAt}
+use Rattle.terms.specs.Term.{Term, Variable, Message, atom, pair, encrypted}
+use Rattle.terms.specs.Entry.{Begins, tagAt, valueAt}
 use Rattle.terms.specs.EntryLaws.{First, first, first-atom, first-pair, first-encrypted, first-plain, first-marked, suffix}
-use Rattle.terms.specs.Graph.{Node, free, atomNode, pairNode, encryptionNode, IsSymbol, made, Valid, Respects, Classes, Step, Clash, Outcome}
-use Rattle.terms.specs.GraphLaws.{Any, done, failed, stay, restate, restate-clash, moved}
+use Rattle.terms.specs.Graph.{Node, IsSymbol, made, Valid, Classes, Step, Clash, Outcome}
+use Rattle.terms.specs.GraphLaws.{Any, stay, restate, restate-clash}
 use Rattle.terms.specs.TermGraph.{TwoTerms, tagIn, valueIn, home, rightIn, nodeBy, nodeOf, freeTag}
 use Rattle.terms.specs.TermGraphLaws.{tag-in, home-own, left-side, right-side}
-use Rattle.terms.specs.UniteLaws.{form, number, made-form, made-number, only-atom}
+use Rattle.terms.specs.UniteLaws.{form, number, made-form, made-number}
 
 -- A step that supposes nothing, as one that supposes a valid valuation.
-pub supposing : {node : ℕ → Node} {name next : ℕ → ℕ} {P : (ℕ → Message) → Type 0} {r : Bool} → Outcome node Any name next P r → Outcome node (Valid node) name next P r
+pub supposing : {node : ℕ → Node} {name next : ℕ → ℕ} {P : (ℕ → Message) → Type 0} {r : Bool} → Outcome node Any name next P r
+    → Outcome node (Valid node) name next P r
 supposing o = record {
-  stepped = λ e. let s = o .stepped e in record { classes = s .classes; forth = s .forth; back = s .back; holds = λ v r q. s .holds v r tt; closes = s .closes };
+  stepped =
+      λ e. let s = o .stepped e in record { classes = s .classes; forth = s .forth; back = s .back; holds = λ v r q. s .holds v r tt; closes = s .closes };
   clashed = o .clashed;
 }
 
@@ -46,7 +48,11 @@ makes-tag {x = x} {l = l} {r = r} s e {v} w = makes s w ∙ ap (λ (k : ℕ). ma
 
 module _ {node : ℕ → Node} {a b m n x y l r l′ r′ : ℕ} (p : SymbolAt node a m x l r) (q : SymbolAt node b n y l′ r′) where
   pub tags-differ : {name : ℕ → ℕ} → (m ≡ n → ⊥) → Clash node name (λ v. v a ≡ v b)
-  tags-differ off = record { never = λ v w h e. off (sym (made-form v m x l r (p .isSymbol)) ∙ ap form (sym (makes p w) ∙ e ∙ makes q w) ∙ made-form v n y l′ r′ (q .isSymbol)) }
+  tags-differ off =
+      record {
+        never = λ v w h e. off (sym (made-form v m x l r (p .isSymbol)) ∙ ap form (sym (makes p w) ∙ e ∙ makes q w) ∙ made-form v n y l′ r′
+            (q .isSymbol));
+      }
 
   pub values-differ : {name : ℕ → ℕ} → (m ≡ 2 → ⊥) → (n ≡ 2 → ⊥) → (x ≡ y → ⊥) → Clash node name (λ v. v a ≡ v b)
   values-differ no-pair no-pair′ off = record {
@@ -59,13 +65,15 @@ module _ {node : ℕ → Node} {a b m n x y l r l′ r′ : ℕ} (p : SymbolAt n
   atoms-met cs one one′ same = restate (λ v w e. tt) (λ v w h. makes-tag p one w ∙ ap atom same ∙ sym (makes-tag q one′ w)) (stay node (Valid node) cs)
 
   module _ {name next : ℕ → ℕ} {answer : Bool} where
-    pub encryptions-met : m ≡ 3 → n ≡ 3 → x ≡ y → Outcome node (Valid node) name next (λ v. v l ≡ v l′) answer → Outcome node (Valid node) name next (λ v. v a ≡ v b) answer
+    pub encryptions-met : m ≡ 3 → n ≡ 3 → x ≡ y → Outcome node (Valid node) name next (λ v. v l ≡ v l′) answer
+        → Outcome node (Valid node) name next (λ v. v a ≡ v b) answer
     unfolding nodeBy made
     encryptions-met three three′ same o = restated
         (λ v w e. let k : encrypted x (v l) ≡ encrypted y (v l′) = sym (makes-tag p three w) ∙ e ∙ makes-tag q three′ w in cc)
         (λ v w h. makes-tag p three w ∙ ap₂ encrypted same h ∙ sym (makes-tag q three′ w)) o
 
-    pub pairs-met : m ≡ 2 → n ≡ 2 → Outcome node (Valid node) name next (λ v. (v l ≡ v l′) × (v r ≡ v r′)) answer → Outcome node (Valid node) name next (λ v. v a ≡ v b) answer
+    pub pairs-met : m ≡ 2 → n ≡ 2 → Outcome node (Valid node) name next (λ v. (v l ≡ v l′) × (v r ≡ v r′)) answer
+        → Outcome node (Valid node) name next (λ v. v a ≡ v b) answer
     unfolding nodeBy made
     pairs-met two two′ o = restated
         (λ v w e. let k : pair (v l) (v r) ≡ pair (v l′) (v r′) = sym (makes-tag p two w) ∙ e ∙ makes-tag q two′ w in (cc, cc))
@@ -87,13 +95,15 @@ no-variable {e} k b h low = let there = suffix k b h in go (first (there .reads)
     go (first-marked g n q r) = absurd (omega (arith, tag-in e k))
 
 module _ (s t : List ℕ) (both : TwoTerms s t) where
-  pub left-symbol : (i : ℕ) → 4 * i < length s → tagIn s i ≤ 3 → SymbolAt (nodeOf s t) (home s 0 128 i) (tagIn s i) (valueIn s i) (home s 0 128 (i + 1)) (home s 0 128 (rightIn s i))
+  pub left-symbol : (i : ℕ) → 4 * i < length s → tagIn s i ≤ 3
+      → SymbolAt (nodeOf s t) (home s 0 128 i) (tagIn s i) (valueIn s i) (home s 0 128 (i + 1)) (home s 0 128 (rightIn s i))
   left-symbol i h low =
       let short = both .left-short in
       let own : 0 + i ≡ home s 0 128 i = home-own s 0 128 i (λ g. omega arith) (λ g. omega arith) in
       record { is = ap (nodeOf s t) (sym own) ∙ left-side s t i (omega arith); isSymbol = no-variable i (both .left) h low }
 
-  pub right-symbol : (j : ℕ) → 4 * j < length t → tagIn t j ≤ 3 → SymbolAt (nodeOf s t) (home t 64 144 j) (tagIn t j) (valueIn t j) (home t 64 144 (j + 1)) (home t 64 144 (rightIn t j))
+  pub right-symbol : (j : ℕ) → 4 * j < length t → tagIn t j ≤ 3
+      → SymbolAt (nodeOf s t) (home t 64 144 j) (tagIn t j) (valueIn t j) (home t 64 144 (j + 1)) (home t 64 144 (rightIn t j))
   right-symbol j h low =
       let short = both .right-short in
       let own : 64 + j ≡ home t 64 144 j = home-own t 64 144 j (λ g. omega arith) (λ g. omega arith) in

@@ -1,5 +1,5 @@
 -- The names of the classes in an array of 256 bytes: entry i is the name of node i's class.
-use mathlib.Core.Path.{_≡_, refl, sym, ap, _∙_, fun-ext, subst}
+use mathlib.Core.Path.{_≡_, refl, sym, ap, _∙_, fun-ext}
 use mathlib.Core.Bool.{Bool, true, false}
 use mathlib.Core.List.{List, [], _∷_, _++_, map, map-append, append-nil}
 use Prim.Native.Nat.{ℕ, zero, suc, _+_, _<_, _≤_}
@@ -7,7 +7,7 @@ use native.Mathlib.Omega.{arith}
 use lib.Dec.{eqb, ltb}
 use borrow.Author.Tests.{eqb-true, eqb-false, eq-eqb, ne-eqb, ltb-true, ltb-false}
 use lib.ListN.{length, getD, take, drop, set, length-map, List·getD-eq-default, drop-of-length-le}
-use lib.Seq.{drop-cons, take-suc, length-take-le, getD-at, set-at, set-getD, append-snoc, take-all, getD-set-same, getD-set-other}
+use lib.Seq.{drop-cons, take-suc, length-take-le, getD-at, set-at, append-snoc, take-all, getD-set-same, getD-set-other}
 use native.Mathlib.Numerals.{add-one}
 use Rattle.terms.specs.GraphLaws.{rename, rename-hit, rename-miss, merge}
 
@@ -105,7 +105,8 @@ module _ (a b : ℕ) (apart : a ≡ b → ⊥) where
       omega arith
 
 -- One class less.
-pub fewer : (c : List ℕ) (a b : ℕ) → (a ≡ b → ⊥) → nameOf c a ≡ a → nameOf c b ≡ b → a < length c → b < length c → classCount (map (rename a b) c) < classCount c
+pub fewer : (c : List ℕ) (a b : ℕ) → (a ≡ b → ⊥) → nameOf c a ≡ a → nameOf c b ≡ b → a < length c → b < length c
+    → classCount (map (rename a b) c) < classCount c
 unfolding classCount nameOf
 fewer c a b apart a-named b-named ha hb =
     count-less a b apart 0 c (λ k h e. let q : k ≡ b = omega arith in rw q (getD-any c b 0 b hb ∙ b-named)) a ha (omega arith) (getD-any c a 0 a ha ∙ a-named)

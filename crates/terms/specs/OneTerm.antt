@@ -8,8 +8,8 @@ use native.Mathlib.Decide.{ℕ-discrete}
 use borrow.Author.Tests.{lt-ltb}
 use lib.ListN.{getD}
 use Rattle.terms.specs.Term.{Term, Variable, variable, atom, pair, encrypted, plain, marked}
-use Rattle.terms.specs.Entry.{Symbol, atomSymbol, pairSymbol, encryptionSymbol, variableSymbol, tagOf, valueOf, symbolOf, numbered, before, beforeAll, withZero, entryOf, entriesOf, termsOf, Reads}
-use Rattle.terms.specs.EntryLaws.{First, first-atom, first-pair, first-encrypted, first-plain, first-marked, first, none≢some}
+use Rattle.terms.specs.Entry.{Symbol, pairSymbol, tagOf, valueOf, symbolOf, before, beforeAll, withZero, entryOf, entriesOf, termsOf, Reads}
+use Rattle.terms.specs.EntryLaws.{First, first-atom, first-pair, first-encrypted, first-plain, first-marked, first, none≢some, never-empty}
 
 -- The variables of a file's terms are numbered 0 to 7.
 unfoldable pub Numbered : Term Variable → Type 0
@@ -54,19 +54,7 @@ unfoldable pub AllOf : (Term Variable → Type 0) → List (Term Variable) → T
 AllOf Q [] = Unit {0}
 AllOf Q (t ∷ l) = Q t × AllOf Q l
 
--- An entry makes at least one term, and its second byte is zero.
-pub never-empty : (s : Option Symbol) (o : Option (List (Term Variable))) → beforeAll s o ≡ some [] → ⊥
-unfolding beforeAll before
-never-empty none o e = none≢some _ e
-never-empty (some s) none e = none≢some _ e
-never-empty (some (atomSymbol a)) (some l) e = let z : _≡_ {A = ℕ} 0 1 = cc in omega arith
-never-empty (some (variableSymbol x)) (some l) e = let z : _≡_ {A = ℕ} 0 1 = cc in omega arith
-never-empty (some pairSymbol) (some []) e = none≢some _ e
-never-empty (some pairSymbol) (some (t ∷ [])) e = none≢some _ e
-never-empty (some pairSymbol) (some (t ∷ u ∷ l)) e = let z : _≡_ {A = ℕ} 0 1 = cc in omega arith
-never-empty (some (encryptionSymbol k)) (some []) e = none≢some _ e
-never-empty (some (encryptionSymbol k)) (some (t ∷ l)) e = let z : _≡_ {A = ℕ} 0 1 = cc in omega arith
-
+-- The second byte of an entry is zero.
 zero-byte : (z : ℕ) (s : Option Symbol) (o : Option (List (Term Variable))) {l : List (Term Variable)} → beforeAll (withZero z s) o ≡ some l → z ≡ 0
 unfolding withZero beforeAll
 zero-byte zero s o e = refl

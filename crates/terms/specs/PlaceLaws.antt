@@ -1,9 +1,9 @@
 -- Places and entries: entry k of a term's entries stands at its k-th place.
-use mathlib.Core.Path.{_≡_, refl, sym, ap, subst, _∙_}
-use mathlib.Core.Bool.{Bool, true, false}
+use mathlib.Core.Path.{_≡_, refl, sym, ap, _∙_}
+use mathlib.Core.Bool.{true, false}
 use mathlib.Core.List.{List, [], _∷_, _++_, map, nil≢cons}
-use mathlib.Core.Logic.{_⊎_, inl, inr, _↔_}
-use mathlib.Core.Option.{Option, none, some, Option·none-ne-some}
+use mathlib.Core.Logic.{_↔_}
+use mathlib.Core.Option.{some, Option·none-ne-some}
 use Prim.Native.Nat.{ℕ, zero, suc, _+_, _*_, _-_, _<_, _≤_}
 use native.Mathlib.Omega.{arith}
 use native.Mathlib.Decide.{decLt}
@@ -150,7 +150,8 @@ entry-reads : (p : Place) (t : Term Variable) {s : Term Variable} → subtermAt 
     → (m : List (Term Variable)) × Reads (drop (4 * entryAt p t) e) (s ∷ m)
 unfolding entryAt size
 entry-reads =
-    by-turns (λ (p : Place) (t s : Term Variable). (e : List ℕ) (l : List (Term Variable)) → Reads e (t ∷ l) → (m : List (Term Variable)) × Reads (drop (4 * entryAt p t) e) (s ∷ m))
+    by-turns (λ (p : Place) (t s : Term Variable). (e : List ℕ) (l : List (Term Variable)) → Reads e (t ∷ l)
+    → (m : List (Term Variable)) × Reads (drop (4 * entryAt p t) e) (s ∷ m))
     (λ t e l r. (l, r))
     (λ p t u s h e l r. further e 4 (entryAt p t) (suc (entryAt p t)) (omega arith) (h _ _ (reads-pair r .2)))
     (λ p t u s h e l r. further e 4 (size t + entryAt p u) (suc (size t + entryAt p u)) (omega arith)
@@ -166,10 +167,12 @@ pub placed-reads : {t s : Term Variable} {k : ℕ} {p : Place} {e : List ℕ} {l
 placed-reads {t} {p = p} {e} {l} w r = rw (w .number) at (entry-reads p t (w .stands) e l r)
 
 -- The same, of a part `&e[4 * k..]`.
-pub placed-begins : {t s : Term Variable} {k : ℕ} {p : Place} {e : List ℕ} {l : List (Term Variable)} → Placed t k p s → Reads e (t ∷ l) → Begins (from (4 * k) e)
+pub placed-begins : {t s : Term Variable} {k : ℕ} {p : Place} {e : List ℕ} {l : List (Term Variable)} → Placed t k p s → Reads e (t ∷ l)
+    → Begins (from (4 * k) e)
 placed-begins w r = rw part-to-end (begins (placed-reads w r .1))
 
-pub subterm-at : {t s : Term Variable} {k : ℕ} {p : Place} {e : List ℕ} {l : List (Term Variable)} → Placed t k p s → Reads e (t ∷ l) → termOf (from (4 * k) e) ≡ s
+pub subterm-at : {t s : Term Variable} {k : ℕ} {p : Place} {e : List ℕ} {l : List (Term Variable)} → Placed t k p s → Reads e (t ∷ l)
+    → termOf (from (4 * k) e) ≡ s
 subterm-at w r = rw part-to-end (termOf-reads (placed-reads w r .1))
 
 -- Below the root the entries are others.

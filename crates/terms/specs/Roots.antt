@@ -2,36 +2,24 @@
 use mathlib.Core.Path.{_≡_, sym, ap, _∙_}
 use mathlib.Core.Bool.{true, not, false≢true}
 use mathlib.Core.List.{List, _∷_}
-use Prim.Native.Nat.{ℕ, _<_, _≤_}
+use Prim.Native.Nat.{ℕ, _≤_}
 use native.Mathlib.Omega.{arith}
 use lib.Dec.{eqb}
 use borrow.Author.Tests.{eq-eqb}
 use lib.ListN.{drop}
-use Rattle.terms.specs.Term.{Term, Message, Variable, variable, atom, pair, encrypted, replace}
+use Rattle.terms.specs.Term.{Term, Message, Variable, atom, pair, encrypted, replace}
 use Rattle.terms.specs.Instance.{Share}
 use Rattle.terms.specs.Entry.{Begins, termOf, tagAt, valueAt}
 use Rattle.terms.specs.EntryLaws.{First, first, first-atom, first-pair, first-encrypted, first-plain, first-marked, termOf-reads}
-
--- The tag and the value that a message's root would have as an entry.
-unfoldable rootTag : Message → ℕ
-rootTag (variable x) = 0
-rootTag (atom a) = 1
-rootTag (pair m n) = 2
-rootTag (encrypted k m) = 3
-
-unfoldable rootValue : Message → ℕ
-rootValue (variable x) = 0
-rootValue (atom a) = a
-rootValue (pair m n) = 0
-rootValue (encrypted k m) = k
+use Rattle.terms.specs.UniteLaws.{form, number}
 
 -- Replacing variables leaves a symbol at the root as it is.
 record Root (tag value : ℕ) (t : Term Variable) : Type 0 where
-  tagged : tag ≤ 3 → (by : Variable → Message) → rootTag (replace by t) ≡ tag
-  valued : tag ≤ 3 → (by : Variable → Message) → rootValue (replace by t) ≡ value
+  tagged : tag ≤ 3 → (by : Variable → Message) → form (replace by t) ≡ tag
+  valued : tag ≤ 3 → (by : Variable → Message) → number (replace by t) ≡ value
 
 root : {e : List ℕ} → Begins e → Root (tagAt e) (valueAt e) (termOf e)
-unfolding replace rootTag rootValue
+unfolding replace form number
 root {e} b = go (first (b .reads)) (termOf-reads (b .reads))
   where
     go : {tag n : ℕ} {t : Term Variable} → First tag n (drop 4 e) (b .term ∷ b .others) → t ≡ b .term → Root tag n t
@@ -47,11 +35,11 @@ root {e} b = go (first (b .reads)) (termOf-reads (b .reads))
 module _ {s t : List ℕ} (left : Begins s) (right : Begins t) (symbol : tagAt s ≤ 3) (other : tagAt t ≤ 3) where
   pub tags-apart : (tagAt s ≡ tagAt t → ⊥) → Share (termOf s) (termOf t) → ⊥
   tags-apart off h = off
-      (sym (root left .tagged symbol (h .left .by)) ∙ ap rootTag (h .left .same ∙ sym (h .right .same)) ∙ root right .tagged other (h .right .by))
+      (sym (root left .tagged symbol (h .left .by)) ∙ ap form (h .left .same ∙ sym (h .right .same)) ∙ root right .tagged other (h .right .by))
 
   pub values-apart : (valueAt s ≡ valueAt t → ⊥) → Share (termOf s) (termOf t) → ⊥
   values-apart off h = off
-      (sym (root left .valued symbol (h .left .by)) ∙ ap rootValue (h .left .same ∙ sym (h .right .same)) ∙ root right .valued other (h .right .by))
+      (sym (root left .valued symbol (h .left .by)) ∙ ap number (h .left .same ∙ sym (h .right .same)) ∙ root right .valued other (h .right .by))
 
 -- Two numbers that the code found to differ.
 pub told-apart : {a b x y : ℕ} → a ≡ x → b ≡ y → not (eqb a b) ≡ true → x ≡ y → ⊥

@@ -1,20 +1,20 @@
 -- Two terms share an instance if and only if their graph has a valid valuation that gives both roots one message.
 use mathlib.Core.Path.{_≡_, refl, sym, ap, _∙_, subst}
 use mathlib.Core.Bool.{Bool, true, false}
-use mathlib.Core.List.{List, _∷_}
+use mathlib.Core.List.{List}
 use Prim.Native.Nat.{ℕ, _+_, _*_, _-_, _<_, _≤_}
 use native.Mathlib.Omega.{arith}
 use native.Mathlib.Nat.{zero-add}
 use lib.Dec.{ltb}
 use borrow.Author.Tests.{lt-ltb, le-ltb, ltb-true, ltb-false}
 use lib.ListN.{length, getD, drop}
-use Rattle.terms.specs.Term.{Term, Message, Variable, plain, marked, replace}
-use Rattle.terms.specs.Instance.{Matches, Share}
-use Rattle.terms.specs.Entry.{termOf, Reads, Begins}
+use Rattle.terms.specs.Term.{Message, Variable, plain, marked, replace}
+use Rattle.terms.specs.Instance.{Share}
+use Rattle.terms.specs.Entry.{termOf, Begins}
 use Rattle.terms.specs.EntryLaws.{termOf-reads}
-use Rattle.terms.specs.Graph.{Node, free, IsSymbol, made, Valid, Respects, Closed, Classes, Step, Clash, Outcome, Finite}
-use Rattle.terms.specs.GraphLaws.{alone, Valued, valued}
-use Rattle.terms.specs.TermGraph.{home, nodeBy, third, region, nodeTag, nodeValue, firstChild, secondChild, nodeOf, TwoTerms}
+use Rattle.terms.specs.Graph.{free, IsSymbol, made, Valid, Respects, Classes, Step, Clash, Outcome, Finite}
+use Rattle.terms.specs.GraphLaws.{alone, valued}
+use Rattle.terms.specs.TermGraph.{home, nodeBy, third, region, nodeTag, nodeOf, TwoTerms}
 use Rattle.terms.specs.TermGraphLaws.{values, home-value, side-makes, left-side, right-side}
 use Rattle.terms.specs.Solve.{Says}
 use Rattle.terms.specs.Decide.{answer, share?, variable?, says-answer}
@@ -36,7 +36,8 @@ slot by x = third (ltb x 8) (by (plain x)) (by (marked (x - 8)))
 
 -- The valuation of two replacements.
 abbrev given : List ℕ → List ℕ → (Variable → Message) → (Variable → Message) → ℕ → Message
-given s t f g i = region i (replace f (termOf (drop (4 * i) s))) (replace g (termOf (drop (4 * (i - 64)) t))) (third (ltb i 144) (slot f (i - 128)) (slot g (i - 144)))
+given s t f g i =
+    region i (replace f (termOf (drop (4 * i) s))) (replace g (termOf (drop (4 * (i - 64)) t))) (third (ltb i 144) (slot f (i - 128)) (slot g (i - 144)))
 
 module _ (s t : List ℕ) (bs : Begins s) (bt : Begins t) (ss : length s ≤ 252) (st : length t ≤ 252) where
   pub share-of : {v : ℕ → Message} → Agrees s t v → Share (termOf s) (termOf t)
@@ -115,11 +116,15 @@ module _ (s t : List ℕ) (bs : Begins s) (bt : Begins t) (ss : length s ≤ 252
   share-to c =
       let f = c .left .by in
       let g = c .right .by in
-      let left = home-value (nodeOf s t) s 0 128 ss (left-side s t) (given s t f g) f (left-plain f g) (left-marked f g) (given-left f g) 0 (bs .term) (omega arith) (bs .reads) in
-      let right = home-value (nodeOf s t) t 64 144 st (right-side s t) (given s t f g) g (right-plain f g) (right-marked f g) (given-right f g) 0 (bt .term) (omega arith) (bt .reads) in
+      let left = home-value (nodeOf s t) s 0 128 ss (left-side s t) (given s t f g) f (left-plain f g) (left-marked f g) (given-left f g) 0 (bs .term)
+      (omega arith) (bs .reads) in
+      let right = home-value (nodeOf s t) t 64 144 st (right-side s t) (given s t f g) g (right-plain f g) (right-marked f g) (given-right f g) 0
+      (bt .term) (omega arith) (bt .reads) in
       record {
         valid = given-valid f g;
-        roots = left ∙ ap (replace f) (sym (termOf-reads (bs .reads))) ∙ c .left .same ∙ sym (ap (replace g) (sym (termOf-reads (bt .reads))) ∙ c .right .same) ∙ sym right;
+        roots =
+            left ∙ ap (replace f) (sym (termOf-reads (bs .reads))) ∙ c .left .same
+            ∙ sym (ap (replace g) (sym (termOf-reads (bt .reads))) ∙ c .right .same) ∙ sym right;
       }
 
   -- What the walk and the test for finite classes answer, together.
@@ -151,7 +156,8 @@ module _ (s t c : List ℕ) (two : TwoTerms s t) (size : length c ≡ 256) (own 
     pub clash-answer : r ≡ false → false ≡ answer (share? variable? variable? (termOf s) (termOf t))
     clash-answer e =
         let clash = rw names-own at (met .clashed e) in
-        says-answer false (sharing-no s t (two .left) (two .right) (two .left-short) (two .right-short) clash) (share? variable? variable? (termOf s) (termOf t))
+        says-answer false (sharing-no s t (two .left) (two .right) (two .left-short) (two .right-short) clash)
+        (share? variable? variable? (termOf s) (termOf t))
 
     -- The walk went through: then every way down has to end.
     pub ending-answer : r ≡ true → (b : Bool) → (b ≡ true → (i : ℕ) → Finite (nodeOf s t) next i)
@@ -159,7 +165,8 @@ module _ (s t c : List ℕ) (two : TwoTerms s t) (size : length c ≡ 256) (own 
     ending-answer e b ends never =
         let step = rw names-own at (met .stepped e) in
         says-answer b (said b (λ q. sharing-yes s t (two .left) (two .right) (two .left-short) (two .right-short) step (ends q))
-        (λ q. sharing-endless s t (two .left) (two .right) (two .left-short) (two .right-short) step (never q))) (share? variable? variable? (termOf s) (termOf t))
+        (λ q. sharing-endless s t (two .left) (two .right) (two .left-short) (two .right-short) step (never q)))
+        (share? variable? variable? (termOf s) (termOf t))
       where
         said : {P : Type 0} (b : Bool) → (b ≡ true → P) → (b ≡ false → P → ⊥) → Says b P
         said true holds fails = holds refl

@@ -1,5 +1,4 @@
 -- Messages and terms (document 01, "Messages, intruder, runs").
-use mathlib.Core.Path.{_≡_}
 use Prim.Native.Nat.{ℕ, _≤_}
 
 -- A term over the variables X: a variable, an atom by its number, a pair (t, u), or {t}k, t encrypted under the key

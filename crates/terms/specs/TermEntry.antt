@@ -7,7 +7,7 @@ use lib.ListN.{length, getD, drop}
 use Rattle.terms.specs.declared.valid.Found.{Found}
 use Rattle.terms.specs.Entry.{tagAt, valueAt}
 use Rattle.terms.specs.Atom.{Atom, IsKey, isKey?}
-use Rattle.terms.specs.Decisions.{both?, not?, via?}
+use Rattle.terms.specs.Decisions.{dec-map, dec-not, dec-and}
 use Rattle.terms.specs.First.{firstNot}
 use Rattle.terms.specs.Each.{EntryIs}
 
@@ -56,21 +56,21 @@ module _ (atoms : List Atom) (kind value : ℕ) where
   tagRight (suc (suc (suc (suc (suc (suc t)))))) a = absurd a
 
   asked? : (tag : ℕ) → Dec (Asked tag)
-  unfolding Asked ℕ-discrete decLt isKey?
+  unfolding Asked ℕ-discrete decLt isKey? dec-not dec-and
   asked? zero = no (λ h. h)
   asked? (suc zero) = decLt value (length atoms)
   asked? (suc (suc zero)) = ℕ-discrete value 0
   asked? (suc (suc (suc zero))) = isKey? atoms value
-  asked? (suc (suc (suc (suc zero)))) = both? (decLt value 8) (not? (ℕ-discrete kind 2))
-  asked? (suc (suc (suc (suc (suc zero))))) = both? (decLt value 8) (ℕ-discrete kind 3)
+  asked? (suc (suc (suc (suc zero)))) = dec-and (decLt value 8) (λ l. dec-not (ℕ-discrete kind 2))
+  asked? (suc (suc (suc (suc (suc zero))))) = dec-and (decLt value 8) (λ l. ℕ-discrete kind 3)
   asked? (suc (suc (suc (suc (suc (suc t)))))) = no (λ h. h)
 
 -- Is the entry right?
 unfoldable pub entryRight? : (atoms : List Atom) (kind tag zeroByte value : ℕ) → Dec (EntryRight atoms kind tag zeroByte value)
-unfolding asked? ℕ-discrete
-entryRight? atoms kind tag zeroByte value = via?
+unfolding asked? ℕ-discrete dec-map dec-and
+entryRight? atoms kind tag zeroByte value = dec-map
     (λ h. record { blank = h .0; tagged = tagRight atoms kind value tag (h .1) }) (λ r. (r .blank, asked atoms kind value (r .tagged)))
-    (both? (ℕ-discrete zeroByte 0) (asked? atoms kind value tag))
+    (dec-and (ℕ-discrete zeroByte 0) (λ z. asked? atoms kind value tag))
 
 -- Is entry n right?
 abbrev pub rightAt? : (atoms : List Atom) (kind : ℕ) (e : List ℕ) (n : ℕ) → Dec (EntryIs (EntryRight atoms kind) e n)

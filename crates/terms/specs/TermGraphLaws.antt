@@ -2,7 +2,7 @@
 -- instance.
 use mathlib.Core.Path.{_≡_, refl, sym, ap, ap₂, _∙_, subst}
 use mathlib.Core.Bool.{Bool, true, false}
-use mathlib.Core.List.{List, [], _∷_}
+use mathlib.Core.List.{List, _∷_}
 use Prim.Native.Nat.{ℕ, zero, suc, _+_, _*_, _-_, _%_, _<_, _≤_}
 use native.Mathlib.Omega.{arith}
 use native.Mathlib.Nat.{zero-add}
@@ -11,13 +11,12 @@ use borrow.Author.Tests.{lt-ltb, le-ltb, ltb-true, ltb-false, eq-eqb}
 use lib.ListN.{length, getD, drop, length-drop, List·getD-eq-default}
 use lib.Seq.{drop-drop, getD-drop}
 use Rattle.terms.specs.Term.{Term, Message, Variable, variable, atom, pair, encrypted, plain, marked, replace}
-use Rattle.terms.specs.Instance.{Matches, Share}
-use Rattle.terms.specs.Entry.{termsOf, termOf, tagAt, valueAt, size, Reads, Begins}
-use Rattle.terms.specs.EntryLaws.{termOf-reads, past, fits, begins, four, suffix, reads-atom, reads-pair, reads-encrypted, reads-plain, reads-marked, size-positive}
+use Rattle.terms.specs.Entry.{termOf, tagAt, valueAt, size, Reads, Begins}
+use Rattle.terms.specs.EntryLaws.{termOf-reads, past, begins, four, suffix, reads-atom, reads-pair, reads-encrypted, reads-plain, reads-marked}
 use Rattle.terms.specs.WalkLaws.{from, pair-first, encryption-first}
 use borrow.Rule.Slice.PartAt.{part-to-end}
-use Rattle.terms.specs.Graph.{Node, free, atomNode, pairNode, encryptionNode, IsSymbol, made, Valid}
-use Rattle.terms.specs.TermGraph.{tagIn, valueIn, homeBy, home, rightIn, nodeBy, third, region, nodeTag, nodeValue, firstChild, secondChild, nodeOf, freeTag}
+use Rattle.terms.specs.Graph.{Node, atomNode, pairNode, encryptionNode, IsSymbol, made, Valid}
+use Rattle.terms.specs.TermGraph.{tagIn, valueIn, homeBy, home, rightIn, nodeBy, nodeTag, nodeValue, firstChild, secondChild, nodeOf, freeTag}
 
 -- The first entry of what is left from entry k on is entry k.
 pub tag-in : (e : List ℕ) (k : ℕ) → tagIn e k ≡ tagAt (drop (4 * k) e)
@@ -68,7 +67,8 @@ pub record EncryptionIn (e : List ℕ) (k q : ℕ) (t : Term Variable) (l : List
   pub content : Reads (drop (4 * (k + 1)) e) (t ∷ l)
   pub content-fits : 4 * (k + 1) < length e
 
-pub encryption-in : (e : List ℕ) (k : ℕ) {q : ℕ} {t : Term Variable} {l : List (Term Variable)} → Reads (drop (4 * k) e) (encrypted q t ∷ l) → EncryptionIn e k q t l
+pub encryption-in : (e : List ℕ) (k : ℕ) {q : ℕ} {t : Term Variable} {l : List (Term Variable)} → Reads (drop (4 * k) e) (encrypted q t ∷ l)
+    → EncryptionIn e k q t l
 encryption-in e k {q} {t} {l} r =
     let f = reads-encrypted r in
     let below : Reads (drop (4 * (k + 1)) e) (t ∷ l) = rw next-entry at (f .2) in
@@ -100,7 +100,8 @@ module _ (node : ℕ → Node) (e : List ℕ) (base slots : ℕ) (short : length
         ap v (home-tag k (tag-in e k ∙ f .0)) ∙ ap (λ (m : ℕ). v (slots + 8 + m)) n ∙ markeds x (f .2)
 
     -- A valid valuation gives every entry's node the instance of the term that stands there.
-    pub values : Valid node v → (t : Term Variable) (k : ℕ) {l : List (Term Variable)} → k < 64 → Reads (drop (4 * k) e) (t ∷ l) → v (home e base slots k) ≡ replace by t
+    pub values : Valid node v → (t : Term Variable) (k : ℕ) {l : List (Term Variable)} → k < 64 → Reads (drop (4 * k) e) (t ∷ l)
+        → v (home e base slots k) ≡ replace by t
     unfolding replace homeBy nodeBy made
     values valid (variable x) k h r = variable-value k x r
     values valid (atom a) k h r =
@@ -122,7 +123,8 @@ module _ (node : ℕ → Node) (e : List ℕ) (base slots : ℕ) (short : length
 
     -- The other way round: where every entry's own node has the instance of its term, the valuation is valid there.
     module _ (own : (k : ℕ) → k < 64 → v (base + k) ≡ replace by (termOf (drop (4 * k) e))) where
-      own-value : (k : ℕ) {n : ℕ} → k < 64 → tagIn e k ≡ n → homeBy n (valueIn e k) slots (base + k) ≡ base + k → v (home e base slots k) ≡ replace by (termOf (drop (4 * k) e))
+      own-value : (k : ℕ) {n : ℕ} → k < 64 → tagIn e k ≡ n → homeBy n (valueIn e k) slots (base + k) ≡ base + k
+          → v (home e base slots k) ≡ replace by (termOf (drop (4 * k) e))
       own-value k h g q = ap v (home-tag k g ∙ q) ∙ own k h
 
       pub home-value : (k : ℕ) (t : Term Variable) {l : List (Term Variable)} → k < 64 → Reads (drop (4 * k) e) (t ∷ l) → v (home e base slots k) ≡ replace by t
@@ -132,7 +134,8 @@ module _ (node : ℕ → Node) (e : List ℕ) (base slots : ℕ) (short : length
       home-value k (pair t u) h r = own-value k h (tag-in e k ∙ reads-pair r .0) refl ∙ ap (replace by) (termOf-reads r)
       home-value k (encrypted q t) h r = own-value k h (tag-in e k ∙ reads-encrypted r .0) refl ∙ ap (replace by) (termOf-reads r)
 
-      made-there : (k : ℕ) (t : Term Variable) {l : List (Term Variable)} → k < 64 → Reads (drop (4 * k) e) (t ∷ l) → IsSymbol (node (base + k)) → v (base + k) ≡ made v (node (base + k))
+      made-there : (k : ℕ) (t : Term Variable) {l : List (Term Variable)} → k < 64 → Reads (drop (4 * k) e) (t ∷ l) → IsSymbol (node (base + k))
+          → v (base + k) ≡ made v (node (base + k))
       unfolding replace nodeBy made
       made-there k (variable (plain x)) h r is = absurd (subst IsSymbol (node-tag h (tag-in e k ∙ reads-plain r .0)) is)
       made-there k (variable (marked x)) h r is = absurd (subst IsSymbol (node-tag h (tag-in e k ∙ reads-marked r .0)) is)

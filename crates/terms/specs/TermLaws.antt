@@ -15,13 +15,16 @@ use Rattle.terms.specs.Term.{Term, Variable, Message, Foreign, variable,
 use Rattle.terms.specs.Occurs.{Occurs}
 use Rattle.terms.specs.Instance.{Share}
 use Rattle.terms.specs.Proper.{Built, BuiltShare, built-share}
-use Rattle.terms.specs.Entry.{Symbol, atomSymbol, pairSymbol, encryptionSymbol, variableSymbol, tagOf, valueOf, symbolOf, numbered, withZero, entryOf, entriesOf, termsOf, termOf, Reads, Begins}
-use Rattle.terms.specs.EntryLaws.{First, first-atom, first-pair, first-encrypted, first-plain, first-marked, first, none≢some, begins, termOf-reads}
+use Rattle.terms.specs.Entry.{Symbol, atomSymbol, pairSymbol, encryptionSymbol, variableSymbol, tagOf, valueOf, symbolOf, numbered, withZero}
+use Rattle.terms.specs.Entry.{entryOf, entriesOf, termsOf, termOf, Reads, Begins}
+use Rattle.terms.specs.EntryLaws.{First, first-atom, first-pair, first-encrypted, first-plain, first-marked, first, none≢some, begins}
+use Rattle.terms.specs.EntryLaws.{termOf-reads, never-empty}
 use Rattle.terms.specs.First.{first-none}
 use Rattle.terms.specs.Atom.{Atom, IsKey, isKey?}
-use Rattle.terms.specs.TermEntry.{TagRight, atomEntry, pairEntry, encryptionEntry, plainEntry, markedEntry, EntryRight, Asked, asked, rightAt?, wrongEntry}
+use Rattle.terms.specs.TermEntry.{TagRight, atomEntry, pairEntry, encryptionEntry, plainEntry, markedEntry, EntryRight, Asked, asked, rightAt?}
+use Rattle.terms.specs.TermEntry.{wrongEntry}
 use Rattle.terms.specs.Each.{Each, none-left, one-more, each-of, each-map}
-use Rattle.terms.specs.OneTerm.{Numbered, OneTerm, HasSymbol, AllOf, never-empty, one-reads, reads-one}
+use Rattle.terms.specs.OneTerm.{Numbered, OneTerm, HasSymbol, AllOf, one-reads, reads-one}
 
 -- Nothing found: each entry is right. By `each-part` and `each-from`, so is each of a part.
 pub right-each : (atoms : List Atom) (kind : ℕ) (e : List ℕ) → length e % 4 ≡ 0

@@ -1,15 +1,12 @@
 -- Laws of uniting two classes, branch by branch: i's class is named a, j's class b.
 use mathlib.Core.Path.{_≡_, refl, sym, ap, ap₂, _∙_, subst}
 use mathlib.Core.Bool.{Bool, true, false, true≢false, false≢true}
-use mathlib.Core.List.{List, map}
-use Prim.Native.Nat.{ℕ, zero, suc, _<_, _≤_}
-use native.Mathlib.Omega.{arith}
-use lib.ListN.{length}
-use Rattle.terms.specs.Term.{Term, Message, variable, atom, pair, encrypted}
-use Rattle.terms.specs.Graph.{Node, free, atomNode, pairNode, encryptionNode, IsSymbol, made, Valid, Respects, Closed, Classes, Step, Clash, Outcome}
-use Rattle.terms.specs.GraphLaws.{rename, merge, Any, done, stay, restate, restate-clash, already, united, united-clash, apart-clash, united-classes}
+use mathlib.Core.List.{List}
+use Prim.Native.Nat.{ℕ, zero, suc}
+use Rattle.terms.specs.Term.{Message, variable, atom, pair, encrypted}
+use Rattle.terms.specs.Graph.{atomNode, pairNode, encryptionNode, IsSymbol, made, Valid, Classes, Step, Clash, Outcome}
+use Rattle.terms.specs.GraphLaws.{merge, Any, done, stay, already, united, united-clash, apart-clash, united-classes}
 use Rattle.terms.specs.TermGraph.{nodeTag, nodeValue, firstChild, secondChild, nodeBy, nodeOf, freeTag}
-use Rattle.terms.specs.Names.{nameOf, names-merge}
 
 module _ (s t : List ℕ) where
   -- What stands at a node, by its tag.
@@ -41,14 +38,14 @@ module _ (s t : List ℕ) where
   unfolding nodeOf
   is-symbol i f = symbol-node (nodeTag s t i) (nodeValue s t i) (firstChild s t i) (secondChild s t i) f
 
--- The form of a message, and the number in it.
-pub form : Message → ℕ
+-- The form of a message and the number in it: its root's tag and value as an entry.
+unfoldable pub form : Message → ℕ
 form (variable x) = 0
 form (atom a) = 1
 form (pair m n) = 2
 form (encrypted k m) = 3
 
-pub number : Message → ℕ
+unfoldable pub number : Message → ℕ
 number (variable x) = 0
 number (atom a) = a
 number (pair m n) = 0
@@ -85,7 +82,8 @@ module _ (s t : List ℕ) (name : ℕ → ℕ) (cs : Classes (nodeOf s t) name) 
       → Outcome (nodeOf s t) Any (merge a b name) next P r → Outcome (nodeOf s t) Any name next (λ v. v i ≡ v j) r
   as-named {next} {P} {r} needed enough o = record {
     stepped = λ e. united (nodeOf s t) name cs i j wanted
-        (λ v p is. ap (λ (n : ℕ). made v (nodeOf s t n)) (sym ea) ∙ enough v p (subst (λ (n : ℕ). IsSymbol (nodeOf s t n)) (sym ea) is) ∙ ap (λ (n : ℕ). made v (nodeOf s t n)) eb)
+        (λ v p is. ap (λ (n : ℕ). made v (nodeOf s t n)) (sym ea) ∙ enough v p (subst (λ (n : ℕ). IsSymbol (nodeOf s t n)) (sym ea) is)
+        ∙ ap (λ (n : ℕ). made v (nodeOf s t n)) eb)
         (subst (λ (f : ℕ → ℕ). Step (nodeOf s t) Any f next P) one (o .stepped e));
     clashed = λ e. united-clash (nodeOf s t) name cs i j wanted (subst (λ (f : ℕ → ℕ). Clash (nodeOf s t) f P) one (o .clashed e));
   }
@@ -139,31 +137,37 @@ module _ (s t : List ℕ) (name : ℕ → ℕ) (cs : Classes (nodeOf s t) name) 
           ∙ ap number (both-make v x e)
           ∙ made-number v (nodeTag s t b) (nodeValue s t b) (firstChild s t b) (secondChild s t b) fb (λ p. not-pair (tags ∙ p))))
 
-      pub equal-atoms : (a ≡ b → ⊥) → (nodeTag s t a ≡ 2 → ⊥) → (nodeTag s t a ≡ 3 → ⊥) → nodeValue s t a ≡ nodeValue s t b → Step (nodeOf s t) Any name (merge a b name) (λ v. v i ≡ v j)
+      pub equal-atoms : (a ≡ b → ⊥) → (nodeTag s t a ≡ 2 → ⊥) → (nodeTag s t a ≡ 3 → ⊥) → nodeValue s t a ≡ nodeValue s t b
+          → Step (nodeOf s t) Any name (merge a b name) (λ v. v i ≡ v j)
       unfolding nodeBy
       equal-atoms apart not-pair not-encryption same =
           let one = only-atom (nodeTag s t a) fa not-pair not-encryption in
           let first : nodeOf s t a ≡ atomNode (nodeValue s t a) = node-by s t a one in
           let second : nodeOf s t b ≡ atomNode (nodeValue s t b) = node-by s t b (sym tags ∙ one) in
-          (as-named (λ v x e. tt) (λ v p is. ap (made v) (first ∙ ap atomNode same ∙ sym second)) (done (stay (nodeOf s t) Any (symbols-merge apart)))) .stepped refl
+          (as-named (λ v x e. tt) (λ v p is. ap (made v) (first ∙ ap atomNode same ∙ sym second))
+          (done (stay (nodeOf s t) Any (symbols-merge apart)))) .stepped refl
 
       pub equal-encryptions : {next : ℕ → ℕ} {r : Bool} → nodeTag s t a ≡ 3 → nodeValue s t a ≡ nodeValue s t b
-          → Outcome (nodeOf s t) Any (merge a b name) next (λ v. v (firstChild s t a) ≡ v (firstChild s t b)) r → Outcome (nodeOf s t) Any name next (λ v. v i ≡ v j) r
+          → Outcome (nodeOf s t) Any (merge a b name) next (λ v. v (firstChild s t a) ≡ v (firstChild s t b)) r
+          → Outcome (nodeOf s t) Any name next (λ v. v i ≡ v j) r
       unfolding nodeBy made
       equal-encryptions three same o =
           let first : nodeOf s t a ≡ encryptionNode (nodeValue s t a) (firstChild s t a) = node-by s t a three in
           let second : nodeOf s t b ≡ encryptionNode (nodeValue s t b) (firstChild s t b) = node-by s t b (sym tags ∙ three) in
           as-named
-          (λ v x e. let q : encrypted (nodeValue s t a) (v (firstChild s t a)) ≡ encrypted (nodeValue s t b) (v (firstChild s t b)) = sym (ap (made v) first) ∙ both-make v x e ∙ ap (made v) second in cc)
+          (λ v x e. let q : encrypted (nodeValue s t a) (v (firstChild s t a)) ≡ encrypted (nodeValue s t b) (v (firstChild s t b)) =
+          sym (ap (made v) first) ∙ both-make v x e ∙ ap (made v) second in cc)
           (λ v p is. ap (made v) first ∙ ap₂ encrypted same p ∙ sym (ap (made v) second)) o
 
       pub equal-pairs : {next : ℕ → ℕ} {r : Bool} → nodeTag s t a ≡ 2
-          → Outcome (nodeOf s t) Any (merge a b name) next (λ v. (v (firstChild s t a) ≡ v (firstChild s t b)) × (v (secondChild s t a) ≡ v (secondChild s t b))) r
+          → Outcome (nodeOf s t) Any (merge a b name) next
+          (λ v. (v (firstChild s t a) ≡ v (firstChild s t b)) × (v (secondChild s t a) ≡ v (secondChild s t b))) r
           → Outcome (nodeOf s t) Any name next (λ v. v i ≡ v j) r
       unfolding nodeBy made
       equal-pairs two o =
           let first : nodeOf s t a ≡ pairNode (firstChild s t a) (secondChild s t a) = node-by s t a two in
           let second : nodeOf s t b ≡ pairNode (firstChild s t b) (secondChild s t b) = node-by s t b (sym tags ∙ two) in
           as-named
-          (λ v x e. let q : pair (v (firstChild s t a)) (v (secondChild s t a)) ≡ pair (v (firstChild s t b)) (v (secondChild s t b)) = sym (ap (made v) first) ∙ both-make v x e ∙ ap (made v) second in (cc, cc))
+          (λ v x e. let q : pair (v (firstChild s t a)) (v (secondChild s t a)) ≡ pair (v (firstChild s t b)) (v (secondChild s t b)) =
+          sym (ap (made v) first) ∙ both-make v x e ∙ ap (made v) second in (cc, cc))
           (λ v p is. ap (made v) first ∙ ap₂ pair (p .0) (p .1) ∙ sym (ap (made v) second)) o

@@ -17,8 +17,11 @@ use Rattle.terms.specs.WalkLaws.{from, encryption-first}
 use Rattle.terms.specs.Solve.{Says, says-same}
 use Rattle.terms.specs.Decisions.{says-lt, says-eq, says-yes, says-no}
 use Rattle.terms.specs.First.{fails, holds, first-only}
-use Rattle.terms.specs.Atom.{Atom, atomsOf, kindOf, knownOf, partnerOf, IsKey, key-kind, kind-key, key-listed, NamedBack, PartnerRight, principal, nonce, publicKey, privateKey, symmetricKey, AtomRight, Wanted, partner-wanted, partner-right, atomRight?, wrongAtom, length-atoms, atom-bytes}
-use Rattle.terms.specs.TermEntry.{TagRight, atomEntry, pairEntry, encryptionEntry, plainEntry, markedEntry, EntryRight, Asked, asked, tagRight, rightAt?, wrongEntry}
+use Rattle.terms.specs.Atom.{Atom, atomsOf, kindOf, knownOf, partnerOf, IsKey, key-kind, kind-key, key-listed, NamedBack, PartnerRight}
+use Rattle.terms.specs.Atom.{principal, nonce, publicKey, privateKey, symmetricKey, AtomRight, Wanted, partner-wanted, partner-right}
+use Rattle.terms.specs.Atom.{atomRight?, wrongAtom, length-atoms, atom-bytes}
+use Rattle.terms.specs.TermEntry.{TagRight, atomEntry, pairEntry, encryptionEntry, plainEntry, markedEntry, EntryRight, Asked, asked, tagRight}
+use Rattle.terms.specs.TermEntry.{rightAt?, wrongEntry}
 use Rattle.terms.specs.Each.{EntryIs}
 use Rattle.terms.specs.OneTerm.{IsEncryption}
 

@@ -1,15 +1,14 @@
 -- Laws of the walk over the entries left: what a tag says of the term that stands first.
-use mathlib.Core.Path.{_≡_, refl, sym, ap, _∙_}
-use mathlib.Core.List.{List, [], _∷_, _++_}
-use mathlib.Core.Option.{Option, none, some}
-use Prim.Native.Nat.{ℕ, zero, suc, _+_, _*_, _-_, _<_, _≤_}
+use mathlib.Core.Path.{_≡_, refl, ap, _∙_}
+use mathlib.Core.List.{List, _∷_}
+use Prim.Native.Nat.{ℕ, _+_, _*_, _-_, _≤_}
 use native.Mathlib.Omega.{arith}
-use lib.ListN.{length, getD, take, drop, length-drop}
+use lib.ListN.{length, take, drop}
 use lib.Seq.{drop-drop}
 use borrow.Rule.Slice.PartAt.{part-to-end}
 use Rattle.terms.specs.Term.{Term, Variable, variable, atom, pair, encrypted, plain, marked}
-use Rattle.terms.specs.Entry.{termsOf, termOf, tagAt, valueAt, size, Reads, Begins}
-use Rattle.terms.specs.EntryLaws.{First, first-atom, first-pair, first-encrypted, first-plain, first-marked, first, four, termOf-reads, past, fits, begins}
+use Rattle.terms.specs.Entry.{termOf, tagAt, valueAt, size, Reads, Begins}
+use Rattle.terms.specs.EntryLaws.{First, first-atom, first-pair, first-encrypted, first-plain, first-marked, first, termOf-reads, past, fits}
 
 -- The entries from byte n on, as a part `&e[n..]` has them.
 abbrev pub from : ℕ → List ℕ → List ℕ

@@ -1,6 +1,6 @@
 -- `blocks::zero_from` meets its contract: what is left to look at answers as the whole does. Assumes nothing.
 use mathlib.Core.Path.{_≡_, sym, _∙_}
-use Prim.Native.Nat.{ℕ, _-_}
+use Prim.Native.Nat.{_-_}
 use Rattle.blocks.specs.Layout.{zeroFrom}
 use Rattle.blocks.proofs.Layouts.{zero-more, zero-stop, zero-end}
 use borrow.Author.Needs.{needs}

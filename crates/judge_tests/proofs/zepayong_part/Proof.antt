@@ -12,7 +12,7 @@ zepayong-part-spec = tie.close (tie.spec
     (λ c κs. room _ _ (c .before .if1 .left))  -- put-requires
     (λ c. search needs)  -- cast-result
     (λ c. search needs)  -- same-length
-    (λ c.
-    let start = c .before .before .before .before in
-    copied _ _ (start .before .before .verdict-from .ensures) (start .before .refused-part .ensures) (start .if1 .left) (c .before .before .put .ensures))  -- returns-2
+    (λ c. let start = c .before .before .before .before in
+    copied _ _ (start .before .before .verdict-from .ensures) (start .before .refused-part .ensures) (start .if1 .left)
+    (c .before .before .put .ensures))  -- returns-2
     )

@@ -1,16 +1,12 @@
+-- `term_tests::is_term` meets its contract. Assumes nothing.
 use mathlib.Core.Path.{sym, ap, _∙_}
 use mathlib.Core.Bool.{false}
 use Rattle.terms.specs.OneTerm.{oneTerm?}
 use Rattle.terms.specs.Decide.{answer}
 use Rattle.term_tests.specs.Asked.{keys, then, nothingFound, too-long, not-whole, by-entries, found-symbols}
-use native.Mathlib.Omega.{arith}
 use borrow.Author.Needs.{needs}
 use Rattle.term_tests.proofs.is_term.Statement.{statement}
 use Rattle.term_tests.proofs.is_term.Tie as tie
-use Rattle.term_tests.proofs.is_term.Reads as reads
-use Rattle.term_tests.proofs.is_term.Lts as lts
-use Rattle.terms.proofs.valid.is_one_term.Reads as is-one-term-reads
-use Rattle.terms.proofs.valid.wrong_entry.Reads as wrong-entry-reads
 
 pub is-term-spec : {M : Type 1} → statement M
 unfolding keys
@@ -21,7 +17,15 @@ is-term-spec = tie.close (tie.spec
     (λ c κs. search needs)  -- wrong-entry-requires
     (λ c. search needs)  -- enum-told
     (λ c. search needs)  -- enum-told-2
-    (λ c κs. found-symbols (c .before .before .before .before .before .before .before .args .e .now) (c .before .before .before .before .if2 .left) (c .before .before .wrong-entry .ensures) (c .enum-told2 .given .1))  -- is-one-term-requires
-    (λ c. by-entries (c .before .before .before .before .before .before .before .args .e .now) false (c .before .before .before .before .before .if1 .left) (c .before .before .before .before .if2 .left) (c .before .before .wrong-entry .ensures) (sym (ap (λ g. then (nothingFound g) (answer (oneTerm? (c .before .before .before .before .before .before .before .args .e .now)))) (c .enum-told .given .1))))  -- returns-3
-    (λ c. by-entries (c .before .before .before .before .before .before .before .before .args .e .now) (c .is-one-term .result) (c .before .before .before .before .before .before .if1 .left) (c .before .before .before .before .before .if2 .left) (c .before .before .before .wrong-entry .ensures) (c .is-one-term .ensures ∙ sym (ap (λ g. then (nothingFound g) (answer (oneTerm? (c .before .before .before .before .before .before .before .before .args .e .now)))) (c .before .enum-told2 .given .1))))  -- returns-4
+    (λ c κs. let args = c .before .before .before .before .before .before .before .args in let if2 = c .before .before .before .before .if2 in
+    found-symbols (args .e .now) (if2 .left) (c .before .before .wrong-entry .ensures) (c .enum-told2 .given .1))  -- is-one-term-requires
+    (λ c. let args = c .before .before .before .before .before .before .before .args in let if1 = c .before .before .before .before .before .if1 in
+    let if2 = c .before .before .before .before .if2 in
+    by-entries (args .e .now) false (if1 .left) (if2 .left) (c .before .before .wrong-entry .ensures)
+    (sym (ap (λ g. then (nothingFound g) (answer (oneTerm? (args .e .now)))) (c .enum-told .given .1))))  -- returns-3
+    (λ c. let args = c .before .before .before .before .before .before .before .before .args in
+    let if1 = c .before .before .before .before .before .before .if1 in let if2 = c .before .before .before .before .before .if2 in
+    let wrong-entry = c .before .before .before .wrong-entry in
+    by-entries (args .e .now) (c .is-one-term .result) (if1 .left) (if2 .left) (wrong-entry .ensures)
+    (c .is-one-term .ensures ∙ sym (ap (λ g. then (nothingFound g) (answer (oneTerm? (args .e .now)))) (c .before .enum-told2 .given .1))))  -- returns-4
     )

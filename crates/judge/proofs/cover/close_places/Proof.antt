@@ -1,3 +1,4 @@
+-- `judge::cover::close_places` meets its contract: before entry h the flags are on where an entry is open as far as the first h entries go. Assumes nothing.
 use borrow.Author.Needs.{needs}
 use Prim.Native.Nat.{_≤_, _-_}
 use Rattle.terms.specs.Entry.{termOf, size}
@@ -18,7 +19,8 @@ pub close-places-spec : {M : Type 1} → statement M
 close-places-spec = tie.close (tie.spec Inv-loop μ-loop
     (λ c κs. search needs)  -- term-size-requires
     (λ c. (search needs, c .before .before .before .pre .3))  -- loop-holds
-    (λ c κs. (let pre = c .before .before .before .before .before .before .pre in (standing-at (pre .0) (pre .1) (pre .2) (search needs), c .before .before .loop .inv .1 .long)))  -- close-below-requires
+    (λ c κs. let pre = c .before .before .before .before .before .before .pre in
+    (standing-at (pre .0) (pre .1) (pre .2) (search needs), c .before .before .loop .inv .1 .long))  -- close-below-requires
     (λ c. search needs)  -- add-h
     (λ c. search needs)  -- loop-less
     (λ c. (search needs, open-more (c .before .before .before .loop .inv .1) (c .close-below .ensures)))  -- loop-again

@@ -1,3 +1,4 @@
+-- `judge::cover::first_uncovered` meets its contract: the entries before entry k are covered where they are risky. Assumes nothing.
 use borrow.Author.Needs.{needs}
 use native.Mathlib.Omega.{arith}
 use mathlib.Core.Path.{refl}
@@ -14,7 +15,8 @@ use Rattle.judge.proofs.cover.first_uncovered.Statement.{statement}
 use Rattle.judge.proofs.cover.first_uncovered.Tie as tie
 
 abbrev Inv-loop : tie.InvT-loop
-Inv-loop file roots premise opened conclusion cover count k₀ k = (k ≤ size (termOf conclusion)) × ((j : ℕ) → j < k → FineEntry (certificateOf file) premise opened conclusion cover j)
+Inv-loop file roots premise opened conclusion cover count k₀ k =
+    (k ≤ size (termOf conclusion)) × ((j : ℕ) → j < k → FineEntry (certificateOf file) premise opened conclusion cover j)
 
 abbrev μ-loop : tie.MeasureT-loop
 μ-loop file roots premise opened conclusion cover count k₀ k = size (termOf conclusion) - k
@@ -23,10 +25,18 @@ pub first-uncovered-spec : {M : Type 1} → statement M
 first-uncovered-spec = tie.close (tie.spec Inv-loop μ-loop
     (λ c κs. search needs)  -- term-size-requires
     (λ c. (search needs, below-none _))  -- loop-holds
-    (λ c κs. let pre = c .before .before .before .before .before .before .pre in (pre .0, conclusion-inside (pre .0 .term) (search needs), pre .1))  -- is-fine-requires
-    (λ c. (let b = c .before .is-fine in fails refl (search needs) (says-no (b .result) (b .ensures) (not-true (b .result) (c .if1 .taken))) (c .before .before .before .loop .inv .1)))  -- returns
+    (λ c κs. let pre = c .before .before .before .before .before .before .pre in
+    (pre .0, conclusion-inside (pre .0 .term) (search needs), pre .1))  -- is-fine-requires
+    (λ c. let loop = c .before .before .before .loop in
+    (let b = c .before .is-fine in fails refl (search needs) (says-no (b .result) (b .ensures) (not-true (b .result) (c .if1 .taken)))
+    (loop .inv .1)))  -- returns
     (λ c. search needs)  -- add-k
     (λ c. search needs)  -- loop-less
-    (λ c. (let b = c .before .is-fine in (search needs, below-more _ _ (c .before .before .before .loop .inv .1) (says-yes (b .result) (b .ensures) (not-false (b .result) (c .if1 .left))))))  -- loop-again
+    (λ c. let loop = c .before .before .before .loop in
+    (let b = c .before .is-fine in (
+      search needs,
+      below-more _ _ (loop .inv .1)
+          (says-yes (b .result) (b .ensures) (not-false (b .result) (c .if1 .left))),
+    )))  -- loop-again
     (λ c. holds refl (λ j l. c .before .loop .inv .1 j (omega arith)))  -- returns-2
     )

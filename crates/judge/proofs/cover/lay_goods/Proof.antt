@@ -1,3 +1,4 @@
+-- `judge::cover::lay_goods` meets its contract: before block i the flags are raised by the good patterns of the blocks before it. Assumes nothing.
 use borrow.Author.Needs.{needs}
 use Prim.Native.Nat.{_≤_, _-_}
 use Rattle.judge.specs.File.{blockCount}

@@ -1,3 +1,4 @@
+-- `judge::cover::lay_hat` meets its contract. Assumes nothing.
 use borrow.Author.Needs.{needs}
 use mathlib.Core.Path.{sym, _∙_}
 use borrow.Author.Tests.{not-true, not-false}
@@ -18,8 +19,12 @@ lay-hat-spec = tie.close (tie.spec
     (λ c κs. searching-at (c .before .before .before .before .before .pre .0) (search needs) (search needs))  -- is-listed-match-requires
     (λ c κs. searching-at (c .before .before .before .before .before .before .before .pre .0) (search needs) (search needs))  -- shares-listed-requires
     (λ c κs. search needs)  -- lay-goods-requires
-    (λ c. hat-raised (no-of (shares-listed? _ _ _) (sym (c .before .before .before .shares-listed .ensures) ∙ not-true (c .before .before .before .shares-listed .result) (c .before .before .if3 .taken))) (c .lay-goods .ensures))  -- returns
-    (λ c. shares-bad (c .before .before .before .before .before .before .before .before .before .pre .1) (yes-of (shares-listed? _ _ _) (sym (c .before .shares-listed .ensures) ∙ not-false (c .before .shares-listed .result) (c .if3 .left))))  -- returns-2
-    (λ c. no-good (c .before .before .before .before .before .before .before .pre .1) (no-of (matches-listed? _ _ _) (sym (c .before .is-listed-match .ensures) ∙ c .if2 .left)))  -- returns-3
+    (λ c. let shares-listed = c .before .before .before .shares-listed in
+    hat-raised (no-of (shares-listed? _ _ _) (sym (shares-listed .ensures) ∙ not-true (shares-listed .result) (c .before .before .if3 .taken)))
+    (c .lay-goods .ensures))  -- returns
+    (λ c. let pre = c .before .before .before .before .before .before .before .before .before .pre in let shares-listed = c .before .shares-listed in
+    shares-bad (pre .1) (yes-of (shares-listed? _ _ _) (sym (shares-listed .ensures) ∙ not-false (shares-listed .result) (c .if3 .left))))  -- returns-2
+    (λ c. let pre = c .before .before .before .before .before .before .before .pre in
+    no-good (pre .1) (no-of (matches-listed? _ _ _) (sym (c .before .is-listed-match .ensures) ∙ c .if2 .left)))  -- returns-3
     (λ c. no-encryption (c .before .before .before .before .pre .0) (c .if1 .left) (c .before .before .before .before .pre .1))  -- returns-4
     )

@@ -1,3 +1,4 @@
+-- `judge::cover::no_hat` meets its contract. Assumes nothing.
 use borrow.Author.Needs.{needs}
 use mathlib.Core.Path.{sym, _∙_}
 use Rattle.terms.specs.Decide.{yes-of, no-of}
@@ -11,6 +12,8 @@ pub no-hat-spec : {M : Type 1} → statement M
 no-hat-spec = tie.close (tie.spec
     (λ c κs. search needs)  -- shares-listed-requires
     (λ c κs. search needs)  -- is-listed-match-requires
-    (λ c. by-bad (yes-of (shares-listed? _ _ _) (sym (c .before .before .shares-listed .ensures) ∙ c .before .if1 .taken)) (c .is-listed-match .result) (answer-says (c .is-listed-match .result) (matches-listed? _ _ _) (c .is-listed-match .ensures)))  -- returns
+    (λ c.
+    by-bad (yes-of (shares-listed? _ _ _) (sym (c .before .before .shares-listed .ensures) ∙ c .before .if1 .taken)) (c .is-listed-match .result)
+    (answer-says (c .is-listed-match .result) (matches-listed? _ _ _) (c .is-listed-match .ensures)))  -- returns
     (λ c. no-good-shares (no-of (shares-listed? _ _ _) (sym (c .before .shares-listed .ensures) ∙ c .if1 .left)))  -- returns-2
     )

@@ -1,3 +1,4 @@
+-- `judge::cover::open_places` meets its contract. Assumes nothing.
 use borrow.Author.Needs.{needs}
 use Rattle.judge.proofs.Opens.{open-none, open-term, open-empty}
 use Rattle.judge.proofs.cover.open_places.Statement.{statement}
@@ -7,7 +8,12 @@ pub open-places-spec : {M : Type 1} → statement M
 open-places-spec = tie.close (tie.spec
     (λ c κs. c .before .before .before .before .pre .1 .some-term (c .before .if1 .taken))  -- term-size-requires
     (λ c κs. search needs)  -- paint-requires
-    (λ c κs. (let pre = c .before .before .before .before .before .before .before .pre in (pre .0, pre .1 .some-term (c .before .before .before .before .if1 .taken), pre .1 .short, open-none (c .before .before .term-size .ensures .0) (c .before .paint .ensures))))  -- close-places-requires
+    (λ c κs. let pre = c .before .before .before .before .before .before .before .pre in let if1 = c .before .before .before .before .if1 in (
+      pre .0,
+      pre .1 .some-term (if1 .taken),
+      pre .1 .short,
+      open-none (c .before .before .term-size .ensures .0) (c .before .paint .ensures),
+    ))  -- close-places-requires
     (λ c. open-term (c .before .before .before .before .before .if1 .taken) (c .close-places .ensures))  -- returns
     (λ c. open-empty (search needs))  -- returns-2
     )

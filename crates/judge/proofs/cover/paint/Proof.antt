@@ -1,3 +1,4 @@
+-- `judge::cover::paint` meets its contract: the flags before flag k are painted. Assumes nothing.
 use borrow.Author.Needs.{needs}
 use Prim.Native.Nat.{_≤_, _-_}
 use Rattle.judge.specs.CoverEntries.{Painted}

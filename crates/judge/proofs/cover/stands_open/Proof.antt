@@ -1,3 +1,4 @@
+-- `judge::cover::stands_open` meets its contract: no open entry before entry k is the term. Assumes nothing.
 use borrow.Author.Needs.{needs}
 use Prim.Native.Nat.{ℕ, _≤_, _<_, _-_}
 use borrow.Author.Count.{below-none, below-more}
@@ -24,6 +25,7 @@ stands-open-spec = tie.close (tie.spec Inv-loop μ-loop
     (λ c. open-found (says-yes (c .before .same-at .result) (c .before .same-at .ensures) (c .if1 .taken)))  -- returns
     (λ c. search needs)  -- add-k
     (λ c. search needs)  -- loop-less
-    (λ c. (search needs, below-more _ _ (c .before .before .before .loop .inv .1) (says-no (c .before .same-at .result) (c .before .same-at .ensures) (c .if1 .left))))  -- loop-again
+    (λ c. let loop = c .before .before .before .loop in let same-at = c .before .same-at in
+    (search needs, below-more _ _ (loop .inv .1) (says-no (same-at .result) (same-at .ensures) (c .if1 .left))))  -- loop-again
     (λ c. none-open (c .before .before .before .before .pre .0) (c .loop-test .left) (c .before .loop .inv .1))  -- returns-2
     )

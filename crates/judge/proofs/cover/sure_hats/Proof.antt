@@ -1,3 +1,4 @@
+-- `judge::cover::sure_hats` meets its contract: before entry h the flags are on where a hat among the first h entries covers an entry. Assumes nothing.
 use borrow.Author.Needs.{needs}
 use Prim.Native.Nat.{_≤_, _-_}
 use Rattle.terms.specs.Entry.{termOf, size}
@@ -17,7 +18,8 @@ pub sure-hats-spec : {M : Type 1} → statement M
 sure-hats-spec = tie.close (tie.spec Inv-loop μ-loop
     (λ c κs. search needs)  -- term-size-requires
     (λ c. (search needs, hats-none))  -- loop-holds
-    (λ c κs. (let pre = c .before .before .before .before .before .before .pre in (standing-at (pre .0) (pre .1) (pre .2) (search needs), c .before .before .loop .inv .1 .long)))  -- lay-hat-requires
+    (λ c κs. let pre = c .before .before .before .before .before .before .pre in
+    (standing-at (pre .0) (pre .1) (pre .2) (search needs), c .before .before .loop .inv .1 .long))  -- lay-hat-requires
     (λ c. search needs)  -- add-h
     (λ c. search needs)  -- loop-less
     (λ c. (search needs, hats-more (c .before .before .before .loop .inv .1) (c .lay-hat .ensures)))  -- loop-again

@@ -15,7 +15,8 @@ certificate-fault-spec = tie.close (tie.spec
     (λ c.
     let at = c .before .before .before in
     record { fits = found-block (at .before .before .pre) _ (at .known-secret .ensures .1) (c .before .i .given .1) })  -- cast-t6
-    (λ c. judged-some (certificate-known _ _ (found-some KnownSecret (c .before .before .before .known-secret .ensures .0) (c .before .i .given .1))))  -- returns
+    (λ c. let known-secret = c .before .before .before .known-secret in
+    judged-some (certificate-known _ _ (found-some KnownSecret (known-secret .ensures .0) (c .before .i .given .1))))  -- returns
     (λ c. search needs)  -- enum-told
     (λ c κs. search needs)  -- not-closed-requires
     (λ c. search needs)  -- enum-known-i-2
@@ -29,9 +30,11 @@ certificate-fault-spec = tie.close (tie.spec
     (λ c. search needs)  -- enum-told-2
     (λ c κs. search needs)  -- key-not-kept-requires
     (λ c. search needs)  -- enum-known-i-3
-    (λ c.
-    let at = c .before .before .before in
-    record { fits = found-block (at .before .before .before .before .before .before .before .before .pre) _ (at .key-not-kept .ensures .1) (c .before .i3 .given .1) })  -- cast-t12
+    (λ c. let at = c .before .before .before in
+    record {
+      fits = found-block (at .before .before .before .before .before .before .before .before .pre) _ (at .key-not-kept .ensures .1)
+          (c .before .i3 .given .1);
+    })  -- cast-t12
     (λ c.
     let at = c .before .before .before in
     let past = at .before .before .before in

@@ -1,6 +1,6 @@
 -- `judge::judging::leading` meets its contract: from n on there are only rules. Assumes nothing.
 use mathlib.Core.Path.{_≡_, sym, ap, _∙_}
-use Prim.Native.Nat.{ℕ, _-_, _<_, _≤_}
+use Prim.Native.Nat.{ℕ, _<_, _≤_}
 use native.Mathlib.Omega.{arith}
 use Rattle.blocks.specs.Block.{blockAt, kindOf}
 use Rattle.judge.specs.File.{blockCount}

@@ -1,6 +1,6 @@
 -- `judge::judging::rule_fault` meets its contract: what is left answers as the whole does. Assumes nothing.
 use mathlib.Core.Path.{_≡_, sym, _∙_}
-use Prim.Native.Nat.{ℕ, _-_, _≤_}
+use Prim.Native.Nat.{_-_, _≤_}
 use Rattle.judge.specs.File.{blockCount, certificateOf}
 use Rattle.judge.specs.Verdict.{firstFault, onKind, openRule, ruleFault}
 use Rattle.judge.proofs.Heads.{heads}

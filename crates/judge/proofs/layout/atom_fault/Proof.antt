@@ -9,11 +9,11 @@ atom-fault-spec = tie.close (tie.spec
     (λ c κs. search needs)  -- first-entries-requires
     (λ c κs. search needs)  -- wrong-atom-requires
     (λ c. search needs)  -- enum-known-n
-    (λ c.
-    let at = c .before .before .before in
-    let i = at .before .before .before .args .i in
-    let b = at .before .before .before .args .block .now in
-    record { fits = atom-small i b (at .before .first-entries .ensures .0) (at .wrong-atom .ensures) (at .before .before .before .pre) (c .before .n .given .1) })  -- cast-t7
+    (λ c. let at = c .before .before .before in let i = at .before .before .before .args .i in let b = at .before .before .before .args .block .now in
+    record {
+      fits = atom-small i b (at .before .first-entries .ensures .0) (at .wrong-atom .ensures) (at .before .before .before .pre)
+          (c .before .n .given .1);
+    })  -- cast-t7
     (λ c. search needs)  -- enum-told
     (λ c.
     let at = c .before .before .before in

@@ -11,7 +11,7 @@ conclusion-fault-spec = tie.close (tie.spec
     (λ c κs. search needs)  -- first-count-requires
     (λ c. search needs)  -- cast-t7
     (λ c. conclusion-fine _ _ (c .before .before .second-entries .ensures .0) (c .before .is-one-term .ensures) (c .if1 .taken))  -- returns
-    (λ c.
-    let at = c .before in
-    conclusion-broken _ _ (at .before .before .second-entries .ensures .0) (at .before .is-one-term .ensures) (at .if1 .left) (c .first-count .ensures .0))  -- returns-2
+    (λ c. let at = c .before in
+    conclusion-broken _ _ (at .before .before .second-entries .ensures .0) (at .before .is-one-term .ensures) (at .if1 .left)
+    (c .first-count .ensures .0))  -- returns-2
     )

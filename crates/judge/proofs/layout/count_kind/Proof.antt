@@ -1,7 +1,7 @@
 -- `judge::layout::count_kind` meets its contract: what is counted and what is left make the whole. Assumes nothing.
 use mathlib.Core.Path.{_≡_, sym, ap, _∙_}
 use mathlib.Core.Logic.{⊎-elim}
-use Prim.Native.Nat.{ℕ, _+_, _-_, _≤_}
+use Prim.Native.Nat.{_+_, _-_, _≤_}
 use native.Mathlib.Omega.{arith}
 use Rattle.blocks.specs.Block.{kindOf}
 use Rattle.judge.specs.File.{blockCount}

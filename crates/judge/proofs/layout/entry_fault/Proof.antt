@@ -30,11 +30,14 @@ entry-fault-spec = tie.close (tie.spec
     (λ c. search needs)  -- part-wrong-entry-end
     (λ c κs. search needs)  -- wrong-entry-requires
     (λ c. search needs)  -- enum-known-n
-    (λ c.
-    let at = c .before .before .before in
-    let start = at .before .before .before .before .before .before .before in
-    record { fits = entry-small _ (start .args .i) _ (at .before .before .kind .ensures) (part at) (at .wrong-entry .ensures) (start .pre) (c .before .n .given .1) })  -- cast-t16
+    (λ c. let at = c .before .before .before in let start = at .before .before .before .before .before .before .before in
+    record {
+      fits = entry-small _ (start .args .i) _ (at .before .before .kind .ensures) (part at) (at .wrong-entry .ensures) (start .pre)
+          (c .before .n .given .1);
+    })  -- cast-t16
     (λ c. search needs)  -- enum-told
-    (λ c. let at = c .before .before .before in entry-found _ _ _ (at .before .before .kind .ensures) (part at) (at .wrong-entry .ensures) (c .before .n .given .1))  -- returns
-    (λ c. let at = c .before .before in entry-fine _ _ _ (at .before .before .kind .ensures) (part at) (at .wrong-entry .ensures) (c .enum-told .given .1))  -- returns-2
+    (λ c. let at = c .before .before .before in
+    entry-found _ _ _ (at .before .before .kind .ensures) (part at) (at .wrong-entry .ensures) (c .before .n .given .1))  -- returns
+    (λ c. let at = c .before .before in
+    entry-fine _ _ _ (at .before .before .kind .ensures) (part at) (at .wrong-entry .ensures) (c .enum-told .given .1))  -- returns-2
     )

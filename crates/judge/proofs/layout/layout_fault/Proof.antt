@@ -1,6 +1,6 @@
 -- `judge::layout::layout_fault` meets its contract: what is left answers as the whole does. Assumes nothing.
 use mathlib.Core.Path.{_≡_, sym, _∙_}
-use Prim.Native.Nat.{ℕ, _-_, _<_, _≤_}
+use Prim.Native.Nat.{_-_, _<_, _≤_}
 use native.Mathlib.Omega.{arith}
 use Rattle.blocks.specs.Block.{blockAt, Fitting}
 use Rattle.judge.specs.File.{blockCount}

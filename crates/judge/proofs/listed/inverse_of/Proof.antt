@@ -1,3 +1,4 @@
+-- `judge::listed::inverse_of` meets its contract. Assumes nothing.
 use borrow.Author.Needs.{needs}
 use Rattle.judge.proofs.Numbers.{inverse-at, inverse-none}
 use Rattle.judge.proofs.listed.inverse_of.Statement.{statement}
@@ -11,6 +12,7 @@ inverse-of-spec = tie.close (tie.spec
     (λ c. search needs)  -- part-value-start
     (λ c. search needs)  -- part-value-end
     (λ c κs. search needs)  -- value-requires
-    (λ c. (inverse-at (c .before .before .before .before .before .args .file .now) (c .before .before .before .atom-entries .ensures) (c .before .before .if1 .taken) (c .value .ensures .0), search needs))  -- returns
+    (λ c. let args = c .before .before .before .before .before .args in let atom-entries = c .before .before .before .atom-entries in
+    (inverse-at (args .file .now) (atom-entries .ensures) (c .before .before .if1 .taken) (c .value .ensures .0), search needs))  -- returns
     (λ c. (inverse-none (c .before .before .before .args .file .now) (c .before .atom-entries .ensures) (c .if1 .left), search needs))  -- returns-2
     )

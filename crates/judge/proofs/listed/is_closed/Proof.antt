@@ -1,3 +1,4 @@
+-- `judge::listed::is_closed` meets its contract. Assumes nothing.
 use borrow.Author.Needs.{needs}
 use Rattle.terms.specs.EntryLaws.{begins}
 use Rattle.terms.specs.WalkLaws.{pair-first, encryption-first, right-begins}
@@ -13,29 +14,46 @@ is-closed-spec = tie.close (tie.spec
     (λ c. search needs)  -- sub-is-listed-secret
     (λ c. search needs)  -- part-is-listed-secret-start
     (λ c. search needs)  -- part-is-listed-secret-end
-    (λ c κs. search-part 4 (c .before .before .before .before .before .pre) (begins (pair-first (c .before .before .before .before .before .pre .term) (c .before .if1 .taken) .below)))  -- is-listed-secret-requires
-    (λ c. λ m message. closed-left (certificateOf (c .before .before .before .before .before .before .before .args .file .now)) (c .before .before .before .before .before .before .before .pre .term) m message (c .before .before .before .if1 .taken) (c .before .is-listed-secret .ensures) (c .if2 .taken))  -- returns
+    (λ c κs. let pre = c .before .before .before .before .before .pre in
+    search-part 4 pre (begins (pair-first (pre .term) (c .before .if1 .taken) .below)))  -- is-listed-secret-requires
+    (λ c. let start = c .before .before .before .before .before .before .before in let args = start .args in let pre = start .pre in
+    let if1 = c .before .before .before .if1 in
+    λ m message. closed-left (certificateOf (args .file .now)) (pre .term) m message (if1 .taken) (c .before .is-listed-secret .ensures)
+    (c .if2 .taken))  -- returns
     (λ c. search needs)  -- sub-term-size
     (λ c. search needs)  -- part-term-size-start
     (λ c. search needs)  -- part-term-size-end
-    (λ c κs. begins (pair-first (c .before .before .before .before .before .before .before .before .pre .term) (c .before .before .before .before .if1 .taken) .below))  -- term-size-requires
+    (λ c κs. let pre = c .before .before .before .before .before .before .before .before .pre in let if1 = c .before .before .before .before .if1 in
+    begins (pair-first (pre .term) (if1 .taken) .below))  -- term-size-requires
     (λ c. search needs)  -- add-right
     (λ c. search needs)  -- mul-is-listed-secret
     (λ c. search needs)  -- sub-is-listed-secret-2
     (λ c. search needs)  -- part-is-listed-secret-start-2
     (λ c. search needs)  -- part-is-listed-secret-end-2
-    (λ c κs. let p = pair-first (c .before .before .before .before .before .before .before .before .before .before .pre .term) (c .before .before .before .before .before .before .if1 .taken) in
-    search-part _ (c .before .before .before .before .before .before .before .before .before .before .pre) (begins (right-begins p (c .before .term-size .ensures .0))))  -- is-listed-secret-requires-2
-    (λ c. λ m message. closed-right (certificateOf (c .before .before .before .before .before .before .before .before .before .before .before .args .file .now)) (c .before .before .before .before .before .before .before .before .before .before .before .pre .term) m message (c .before .before .before .before .before .before .before .if1 .taken) (c .before .before .before .before .before .is-listed-secret .ensures) (c .before .before .before .before .if2 .left)
+    (λ c κs. let pre = c .before .before .before .before .before .before .before .before .before .before .pre in
+    let if1 = c .before .before .before .before .before .before .if1 in let p = pair-first (pre .term) (if1 .taken) in
+    search-part _ pre (begins (right-begins p (c .before .term-size .ensures .0))))  -- is-listed-secret-requires-2
+    (λ c. let start = c .before .before .before .before .before .before .before .before .before .before .before in
+    let args = start .args in let pre = start .pre in let if1 = c .before .before .before .before .before .before .before .if1 in
+    let is-listed-secret = c .before .before .before .before .before .is-listed-secret in let if2 = c .before .before .before .before .if2 in
+    λ m message. closed-right (certificateOf (args .file .now)) (pre .term) m message (if1 .taken) (is-listed-secret .ensures) (if2 .left)
     (c .before .before .term-size .ensures .0) (c .is-listed-secret2 .result) (c .is-listed-secret2 .ensures))  -- returns-2
     (λ c. search needs)  -- sub-is-listed-secret-3
     (λ c. search needs)  -- part-is-listed-secret-start-3
     (λ c. search needs)  -- part-is-listed-secret-end-3
-    (λ c κs. search-part 4 (c .before .before .before .before .before .before .pre) (begins (encryption-first (c .before .before .before .before .before .before .pre .term) (c .before .if3 .taken) .below)))  -- is-listed-secret-requires-3
-    (λ c. λ m message. closed-content (certificateOf (c .before .before .before .before .before .before .before .before .args .file .now)) (c .before .before .before .before .before .before .before .before .pre .term) m message (c .before .before .before .if3 .taken) (c .before .is-listed-secret3 .ensures) (c .if4 .taken))  -- returns-3
+    (λ c κs. let pre = c .before .before .before .before .before .before .pre in
+    search-part 4 pre (begins (encryption-first (pre .term) (c .before .if3 .taken) .below)))  -- is-listed-secret-requires-3
+    (λ c. let start = c .before .before .before .before .before .before .before .before in let args = start .args in let pre = start .pre in
+    let if3 = c .before .before .before .if3 in
+    λ m message. closed-content (certificateOf (args .file .now)) (pre .term) m message (if3 .taken) (c .before .is-listed-secret3 .ensures)
+    (c .if4 .taken))  -- returns-3
     (λ c κs. search needs)  -- value-requires
     (λ c κs. search needs)  -- is-listed-atom-requires
-    (λ c. λ m message. closed-key (certificateOf (c .before .before .before .before .before .before .before .before .before .before .args .file .now)) (c .before .before .before .before .before .before .before .before .before .before .pre .term) m message (c .before .before .before .before .before .if3 .taken) (c .before .before .before .is-listed-secret3 .ensures) (c .before .before .if4 .left)
-    (c .before .value .ensures .0) (c .is-listed-atom .result) (c .is-listed-atom .ensures))  -- returns-4
-    (λ c. λ m message. closed-atom (certificateOf (c .before .before .before .before .before .args .file .now)) (c .before .before .before .before .before .pre .term) m message (c .before .if1 .left) (c .if3 .left))  -- returns-5
+    (λ c. let start = c .before .before .before .before .before .before .before .before .before .before in
+    let args = start .args in let pre = start .pre in let if3 = c .before .before .before .before .before .if3 in
+    let is-listed-secret3 = c .before .before .before .is-listed-secret3 in
+    λ m message. closed-key (certificateOf (args .file .now)) (pre .term) m message (if3 .taken) (is-listed-secret3 .ensures)
+    (c .before .before .if4 .left) (c .before .value .ensures .0) (c .is-listed-atom .result) (c .is-listed-atom .ensures))  -- returns-4
+    (λ c. let start = c .before .before .before .before .before in let args = start .args in let pre = start .pre in
+    λ m message. closed-atom (certificateOf (args .file .now)) (pre .term) m message (c .before .if1 .left) (c .if3 .left))  -- returns-5
     )

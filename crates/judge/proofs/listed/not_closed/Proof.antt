@@ -1,18 +1,15 @@
-use mathlib.Core.Path.{_≡_}
-use mathlib.Core.Option.{none}
-use Prim.Native.Nat.{ℕ, _≤_, _<_, _-_}
+-- `judge::listed::not_closed` meets its contract: no block before block i has the fault. Assumes nothing.
+use Prim.Native.Nat.{_-_}
 use borrow.Author.Needs.{needs}
-use borrow.Author.Count.{below-none, below-more}
 use Rattle.judge.specs.declared.verdict.Fault.the-variants.{NotClosed}
 use Rattle.judge.specs.File.{blockCount, certificateOf}
 use Rattle.judge.specs.Verdict.{onKind, openSecret, kindFault, closedFault}
-use Rattle.judge.proofs.Numbers.{first-fault, passed, no-fault}
+use Rattle.judge.proofs.Numbers.{FaultFree, none-yet, one-on, first-fault, no-fault}
 use Rattle.judge.proofs.listed.not_closed.Statement.{statement}
 use Rattle.judge.proofs.listed.not_closed.Tie as tie
 
 abbrev Inv-loop : tie.InvT-loop
-Inv-loop file count i₀ i =
-    (i ≤ blockCount file) × ((k : ℕ) → k < i → onKind 2 (openSecret (certificateOf file)) file k ≡ none)
+Inv-loop file count i₀ i = FaultFree (onKind 2 (openSecret (certificateOf file)) file) (blockCount file) i
 
 abbrev μ-loop : tie.MeasureT-loop
 μ-loop file count i₀ i = blockCount file - i
@@ -20,11 +17,13 @@ abbrev μ-loop : tie.MeasureT-loop
 pub not-closed-spec : {M : Type 1} → statement M
 unfolding closedFault kindFault
 not-closed-spec = tie.close (tie.spec Inv-loop μ-loop
-    (λ c. (search needs, below-none _))  -- loop-holds
+    (λ c. none-yet)  -- loop-holds
     (λ c κs. search needs)  -- open-at-requires
-    (λ c. (first-fault (c .before .before .loop-test .taken) (c .before .before .before .loop .inv .1) (c .before .open-at .result) (c .before .open-at .ensures) (c .if1 .taken), c .before .before .loop-test .taken))  -- returns
+    (λ c. let at = c .before .open-at in
+    first-fault (c .before .before .loop-test .taken) (c .before .before .before .loop .inv) (at .result) (at .ensures) (c .if1 .taken))  -- returns
     (λ c. search needs)  -- add-i
     (λ c. search needs)  -- loop-less
-    (λ c. (search needs, below-more _ _ (c .before .before .before .loop .inv .1) (passed (NotClosed _) (c .before .open-at .result) (c .before .open-at .ensures) (c .if1 .left))))  -- loop-again
-    (λ c. (no-fault (c .loop-test .left) (c .before .loop .inv .1), tt))  -- returns-2
+    (λ c. let at = c .before .open-at in
+    one-on (NotClosed _) (c .before .before .loop-test .taken) (c .before .before .before .loop .inv) (at .result) (at .ensures) (c .if1 .left))  -- loop-again
+    (λ c. (no-fault (c .loop-test .left) (c .before .loop .inv), tt))  -- returns-2
     )

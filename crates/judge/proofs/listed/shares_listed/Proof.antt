@@ -1,4 +1,5 @@
-use Prim.Native.Nat.{ℕ, _≤_, _<_, _-_}
+-- `judge::listed::shares_listed` meets its contract: no block from `left` on holds one. Assumes nothing.
+use Prim.Native.Nat.{ℕ, _≤_, _<_}
 use native.Mathlib.Omega.{arith}
 use borrow.Author.Needs.{needs}
 use Rattle.terms.specs.Instance.{Share}
@@ -22,12 +23,12 @@ shares-listed-spec = tie.close (tie.spec Inv-loop μ-loop
     (λ c. (search needs, λ k low high. absurd (omega arith)))  -- loop-holds
     (λ c. search needs)  -- sub-shares-at
     (λ c κs. search needs)  -- shares-at-requires
-    (λ c. let s = c .before .before .before .before .before .before in
-    found-answer (s .pre .laid) (s .args .kind) (λ p. Share p (termOf (s .args .e .now))) (s .pre .low) (s .pre .high) (search needs)
-    (c .before .shares-at .result) (c .before .shares-at .ensures) (c .if1 .taken) (shares-listed? _ _ _))  -- returns
+    (λ c. let s = c .before .before .before .before .before .before in let at = c .before .shares-at in
+    found-answer (s .pre) (λ p. Share p (termOf (s .args .e .now))) (search needs) (at .result) (at .ensures) (c .if1 .taken) (shares-listed? _ _ _))  -- returns
     (λ c. search needs)  -- sub-left
     (λ c. search needs)  -- loop-less
-    (λ c. (search needs, above-more _ _ (c .before .before .before .loop .inv .1) (says-no (c .before .shares-at .result) (c .before .shares-at .ensures) (c .if1 .left))))  -- loop-again
+    (λ c. let at = c .before .shares-at in
+    (search needs, above-more _ _ (c .before .before .before .loop .inv .1) (says-no (at .result) (at .ensures) (c .if1 .left))))  -- loop-again
     (λ c. let s = c .before .before .before .before in
-    none-answer (s .pre .laid) (s .args .kind) (λ p. Share p (termOf (s .args .e .now))) (λ k l. c .before .loop .inv .1 k (omega arith) l) (shares-listed? _ _ _))  -- returns-2
+    none-answer (s .pre) (λ p. Share p (termOf (s .args .e .now))) (λ k l. c .before .loop .inv .1 k (omega arith) l) (shares-listed? _ _ _))  -- returns-2
     )

@@ -1,7 +1,8 @@
+-- `terms::ending::all_marked` meets its contract: the nodes before node i are marked. Assumes nothing.
 use mathlib.Core.Bool.{true≢false, false≢true}
 use Rattle.terms.specs.Ending.{zero-mark, marked-more}
 use mathlib.Core.Path.{_≡_}
-use mathlib.Core.Bool.{true, false}
+use mathlib.Core.Bool.{true}
 use Prim.Native.Nat.{ℕ, _≤_, _<_, _-_}
 use lib.ListN.{length, getD}
 use Rattle.terms.specs.Ending.{isMarked}
@@ -9,8 +10,6 @@ use borrow.Author.Needs.{needs}
 use native.Mathlib.Omega.{arith}
 use Rattle.terms.proofs.ending.all_marked.Statement.{statement}
 use Rattle.terms.proofs.ending.all_marked.Tie as tie
-use Rattle.terms.proofs.ending.all_marked.Reads as reads
-use Rattle.terms.proofs.ending.all_marked.Lts as lts
 
 abbrev Inv-loop : tie.InvT-loop
 Inv-loop done i₀ i = (i ≤ 128) × (length done ≡ 128) × ((k : ℕ) → k < i → isMarked (getD done k 0) ≡ true)
@@ -25,6 +24,7 @@ all-marked-spec = tie.close (tie.spec Inv-loop μ-loop
     (λ c. (λ e. absurd (false≢true e), λ e. (c .before .before .before .loop .i, search needs, zero-mark (c .if1 .taken))))  -- returns
     (λ c. search needs)  -- add-i
     (λ c. search needs)  -- loop-less
-    (λ c. (search needs, search needs, marked-more (c .before .before .before .before .args .done .now) (c .before .before .before .loop .i) (c .before .before .before .loop .inv .2) (c .if1 .left)))  -- loop-again
+    (λ c. let args = c .before .before .before .before .args in let loop = c .before .before .before .loop in
+    (search needs, search needs, marked-more (args .done .now) (loop .i) (loop .inv .2) (c .if1 .left)))  -- loop-again
     (λ c. (λ e i h. c .before .loop .inv .2 i (search needs), λ e. absurd (true≢false e)))  -- returns-2
     )

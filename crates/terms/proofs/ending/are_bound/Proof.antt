@@ -26,5 +26,6 @@ are-bound-spec = tie.close (tie.spec Inv-loop μ-loop
     (λ c.
     let one = c .before .is-bound in
     (search needs, search needs, each-more (c .before .before .before .loop .inv .2) (one .ensures (not-false (one .result) (c .if1 .left)))))  -- loop-again
-    (λ c. λ e. let all : c .before .loop .k ≡ c .before .before .before .before .args .low + 16 = omega arith in rw all at (c .before .loop .inv .2))  -- returns-2
+    (λ c. let args = c .before .before .before .before .args in let loop = c .before .loop in
+    λ e. let all : loop .k ≡ args .low + 16 = omega arith in rw all at (loop .inv .2))  -- returns-2
     )

@@ -22,12 +22,10 @@ is-flat-spec = tie.close (tie.spec
     let pre = first .before .before .before .pre in
     right-finite _ _ _ (pre .0) (pre .1) (first .moved .ensures (second .before .if1 .left)) (second .moved2 .ensures (leaves .before .if2 .left))
     (leaves .are-leaves .ensures (c .before .if3 .taken)) (c .are-bound .ensures e))  -- returns-3
-    (λ c. λ e.
-    let leaves = c .before .before in
-    let second = leaves .before .before .before .before in
-    let first = second .before .before in
-    let pre = first .before .before .before .pre in
-    left-finite _ _ _ (pre .0) (pre .1) (first .moved .ensures (second .before .if1 .left)) (second .moved2 .ensures (leaves .before .before .before .if2 .left))
-    (leaves .are-leaves2 .ensures (c .before .if4 .taken)) (c .are-bound2 .ensures e))  -- returns-4
+    (λ c.
+    λ e. let leaves = c .before .before in let second = leaves .before .before .before .before in let first = second .before .before in let
+    pre = first .before .before .before .pre in left-finite _ _ _ (pre .0) (pre .1) (first .moved .ensures (second .before .if1 .left))
+    (second .moved2 .ensures (leaves .before .before .before .if2 .left)) (leaves .are-leaves2 .ensures (c .before .if4 .taken))
+    (c .are-bound2 .ensures e))  -- returns-4
     (λ c. λ e. absurd (false≢true e))  -- returns-5
     )

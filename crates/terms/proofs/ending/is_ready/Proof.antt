@@ -1,28 +1,36 @@
+-- `terms::ending::is_ready` meets its contract. Assumes nothing.
 use mathlib.Core.Path.{sym, ap, _∙_}
 use Rattle.terms.specs.Ending.{endedAt, pair-ready, pair-waits, encryption-ready, childless-ready}
-use native.Mathlib.Omega.{arith}
 use borrow.Author.Needs.{needs}
 use Rattle.terms.proofs.ending.is_ready.Statement.{statement}
 use Rattle.terms.proofs.ending.is_ready.Tie as tie
-use Rattle.terms.proofs.ending.is_ready.Reads as reads
-use Rattle.terms.proofs.ending.is_ready.Lts as lts
-use Rattle.terms.proofs.ending.ended.Reads as ended-reads
-use Rattle.terms.proofs.node.first_child.Reads as first-child-reads
-use Rattle.terms.proofs.node.node_tag.Reads as node-tag-reads
-use Rattle.terms.proofs.node.second_child.Reads as second-child-reads
 
 pub is-ready-spec : {M : Type 1} → statement M
 is-ready-spec = tie.close (tie.spec
     (λ c κs. search needs)  -- node-tag-requires
     (λ c κs. search needs)  -- first-child-requires
     (λ c κs. search needs)  -- ended-requires
-    (λ c κs. (c .before .before .before .before .before .before .before .pre .0 .left, c .before .before .before .before .before .before .before .pre .0 .left-short, c .before .before .before .before .before .before .before .pre .0 .right, c .before .before .before .before .before .before .before .pre .0 .right-short, (sym (c .before .before .before .before .node-tag .ensures .0) ∙ c .before .before .before .if1 .taken)))  -- second-child-requires
+    (λ c κs. let pre = c .before .before .before .before .before .before .before .pre in let node-tag = c .before .before .before .before .node-tag in
+    let if1 = c .before .before .before .if1 in
+    (pre .0 .left, pre .0 .left-short, pre .0 .right, pre .0 .right-short, (sym (node-tag .ensures .0) ∙ if1 .taken)))  -- second-child-requires
     (λ c κs. search needs)  -- ended-requires-2
     (λ c κs. search needs)  -- first-child-requires-2
     (λ c κs. search needs)  -- ended-requires-3
-    (λ c. pair-ready (c .before .before .before .before .before .before .before .before .before .args .s .now) (c .before .before .before .before .before .before .before .before .before .args .t .now) (c .before .before .before .before .before .before .before .before .before .args .c .now) (c .before .before .before .before .before .before .before .before .before .args .done .now) (c .before .before .before .before .before .before .before .before .before .args .i) (sym (c .before .before .before .before .before .before .node-tag .ensures .0) ∙ c .before .before .before .before .before .if1 .taken) (ap (endedAt (c .before .before .before .before .before .before .before .before .before .args .c .now) (c .before .before .before .before .before .before .before .before .before .args .done .now)) (sym (c .before .before .before .before .first-child .ensures .0)) ∙ sym (c .before .before .before .ended .ensures) ∙ c .before .before .if2 .taken) (c .ended2 .result) (c .ended2 .ensures ∙ ap (endedAt (c .before .before .before .before .before .before .before .before .before .args .c .now) (c .before .before .before .before .before .before .before .before .before .args .done .now)) (c .before .second-child .ensures .0)))  -- returns
-    (λ c. pair-waits (c .before .before .before .before .before .before .before .args .s .now) (c .before .before .before .before .before .before .before .args .t .now) (c .before .before .before .before .before .before .before .args .c .now) (c .before .before .before .before .before .before .before .args .done .now) (c .before .before .before .before .before .before .before .args .i) (sym (c .before .before .before .before .node-tag .ensures .0) ∙ c .before .before .before .if1 .taken) (ap (endedAt (c .before .before .before .before .before .before .before .args .c .now) (c .before .before .before .before .before .before .before .args .done .now)) (sym (c .before .before .first-child .ensures .0)) ∙ sym (c .before .ended .ensures) ∙ c .if2 .left))  -- returns-2
-    (λ c. encryption-ready (c .before .before .before .before .before .before .before .args .s .now) (c .before .before .before .before .before .before .before .args .t .now) (c .before .before .before .before .before .before .before .args .c .now) (c .before .before .before .before .before .before .before .args .done .now) (c .before .before .before .before .before .before .before .args .i) (sym (c .before .before .before .before .node-tag .ensures .0) ∙ c .before .before .if3 .taken) (c .ended3 .result) (c .ended3 .ensures ∙ ap (endedAt (c .before .before .before .before .before .before .before .args .c .now) (c .before .before .before .before .before .before .before .args .done .now)) (c .before .first-child2 .ensures .0)))  -- returns-3
+    (λ c. let args = c .before .before .before .before .before .before .before .before .before .args in
+    let node-tag = c .before .before .before .before .before .before .node-tag in let if1 = c .before .before .before .before .before .if1 in
+    let first-child = c .before .before .before .before .first-child in let ended = c .before .before .before .ended in
+    pair-ready (args .s .now) (args .t .now) (args .c .now) (args .done .now) (args .i) (sym (node-tag .ensures .0) ∙ if1 .taken)
+    (ap (endedAt (args .c .now) (args .done .now)) (sym (first-child .ensures .0)) ∙ sym (ended .ensures) ∙ c .before .before .if2 .taken)
+    (c .ended2 .result) (c .ended2 .ensures ∙ ap (endedAt (args .c .now) (args .done .now)) (c .before .second-child .ensures .0)))  -- returns
+    (λ c. let args = c .before .before .before .before .before .before .before .args in let node-tag = c .before .before .before .before .node-tag in
+    let if1 = c .before .before .before .if1 in
+    pair-waits (args .s .now) (args .t .now) (args .c .now) (args .done .now) (args .i) (sym (node-tag .ensures .0) ∙ if1 .taken)
+    (ap (endedAt (args .c .now) (args .done .now)) (sym (c .before .before .first-child .ensures .0)) ∙ sym (c .before .ended .ensures) ∙
+    c .if2 .left))  -- returns-2
+    (λ c. let args = c .before .before .before .before .before .before .before .args in let node-tag = c .before .before .before .before .node-tag in
+    encryption-ready (args .s .now) (args .t .now) (args .c .now) (args .done .now) (args .i)
+    (sym (node-tag .ensures .0) ∙ c .before .before .if3 .taken) (c .ended3 .result)
+    (c .ended3 .ensures ∙ ap (endedAt (args .c .now) (args .done .now)) (c .before .first-child2 .ensures .0)))  -- returns-3
     (λ c.
     let at = c .before .before .before .before .before .args in
     childless-ready (at .s .now) (at .t .now) (at .i) (at .c .now) (at .done .now) (λ e. c .before .if1 .left (c .before .before .node-tag .ensures .0 ∙ e))

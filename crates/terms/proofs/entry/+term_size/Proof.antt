@@ -1,5 +1,5 @@
+-- `terms::entry::term_size` meets its contract; the measure is the length. Assumes nothing.
 use borrow.Author.Needs.{needs}
-use native.Mathlib.Omega.{arith}
 use lib.ListN.{length}
 use Rattle.terms.specs.EntryLaws.{begins}
 use Rattle.terms.specs.WalkLaws.{pair-first, encryption-first, leaf-first, right-begins, pair-size, encryption-size}
@@ -34,13 +34,17 @@ pub +term-size-spec : {M : Type 1} → statement M
     (λ c. search needs)  -- term-size-sub-term-size-2
     (λ c. search needs)  -- term-size-part-term-size-start-2
     (λ c. search needs)  -- term-size-part-term-size-end-2
-    (λ c κs. (search needs, begins (right-begins (pair-first (c .before .before .before .before .before .before .pre .1) (c .before .before .before .if1 .taken)) (c .before .term-size .ensures .0))))  -- term-size-term-size-requires-2
+    (λ c κs. let pre = c .before .before .before .before .before .before .pre in let if1 = c .before .before .before .if1 in
+    (search needs, begins (right-begins (pair-first (pre .1) (if1 .taken)) (c .before .term-size .ensures .0))))  -- term-size-term-size-requires-2
     (λ c. search needs)  -- term-size-add-result
     (λ c. search needs)  -- term-size-sub-term-size-3
     (λ c. search needs)  -- term-size-part-term-size-start-3
     (λ c. search needs)  -- term-size-part-term-size-end-3
-    (λ c κs. (search needs, begins (encryption-first (c .before .before .before .before .before .pre .1) (c .before .if2 .taken) .below)))  -- term-size-term-size-requires-3
+    (λ c κs. let pre = c .before .before .before .before .before .pre in
+    (search needs, begins (encryption-first (pre .1) (c .before .if2 .taken) .below)))  -- term-size-term-size-requires-3
     (λ c. search needs)  -- term-size-add-result-2
-    (λ c. pair-size (c .before .before .before .before .before .before .before .pre .1) (c .before .before .before .before .if1 .taken) (c .before .before .term-size .ensures .0) (c .term-size2 .ensures .0))  -- term-size-returns
-    (λ c. encryption-size (c .before .before .before .before .before .before .pre .1) (c .before .before .if2 .taken) (c .term-size3 .ensures .0))  -- term-size-returns-2
+    (λ c. let pre = c .before .before .before .before .before .before .before .pre in let if1 = c .before .before .before .before .if1 in
+    pair-size (pre .1) (if1 .taken) (c .before .before .term-size .ensures .0) (c .term-size2 .ensures .0))  -- term-size-returns
+    (λ c. let pre = c .before .before .before .before .before .before .pre in
+    encryption-size (pre .1) (c .before .before .if2 .taken) (c .term-size3 .ensures .0))  -- term-size-returns-2
     (λ c. (leaf-first (c .before .before .before .before .pre .1) (c .before .if1 .left) (c .if2 .left), search needs))  -- term-size-returns-3

@@ -1,7 +1,9 @@
+-- `terms::matching::match_front` meets its contract; the measure is the length. Assumes nothing.
 use borrow.Author.Needs.{needs}
 use lib.ListN.{length}
 use Rattle.terms.specs.FrontLaws.{said, denied}
-use Rattle.terms.specs.MatchLaws.{made-none, pattern-begins, subject-begins, comparable, variable-ready, variable-step, variable-clash, symbol-ready, symbol-step, symbol-clash}
+use Rattle.terms.specs.MatchLaws.{made-none, pattern-begins, subject-begins, comparable, variable-ready, variable-step, variable-clash}
+use Rattle.terms.specs.MatchLaws.{symbol-ready, symbol-step, symbol-clash}
 use Prim.Native.Nat.{ℕ, _<_}
 use borrow.Fn.Kinds.{In}
 use borrow.Fn.PlainCycle.{Measures, is, falls, and}
@@ -29,24 +31,47 @@ match-front-below t =
     and 2 match-front-kinds.ps (falls 2 match-front-kinds.ps _<_ μ-match-front t) match-front.Pre
 
 pub +match-front-spec : {M : Type 1} → statement M
-+match-front-spec = close μ-match-front λ t. match-front-lts.spec (slot-reads.Asked, slot-reads.Learnt, bindable-reads.Asked, bindable-reads.Learnt, term-size-reads.Asked, term-size-reads.Learnt, bind-reads.Asked, bind-reads.Learnt, match-front-below t, match-front.Post, same-entry-reads.Asked, same-entry-reads.Learnt, children-reads.Asked, children-reads.Learnt) (match-front-at t) match-front.Post
++match-front-spec =
+    close μ-match-front λ t. match-front-lts.spec (
+      slot-reads.Asked,
+      slot-reads.Learnt,
+      bindable-reads.Asked,
+      bindable-reads.Learnt,
+      term-size-reads.Asked,
+      term-size-reads.Learnt,
+      bind-reads.Asked,
+      bind-reads.Learnt,
+      match-front-below t,
+      match-front.Post,
+      same-entry-reads.Asked,
+      same-entry-reads.Learnt,
+      children-reads.Asked,
+      children-reads.Learnt,
+    ) (match-front-at t) match-front.Post
     (λ c. made-none (c .if1 .taken))  -- match-front-returns
     (λ c κs. pattern-begins (c .before .before .before .pre .1) (c .if1 .left))  -- match-front-slot-requires
     (λ c. search needs)  -- match-front-array-read-bindable
     (λ c. search needs)  -- match-front-cast-bindable
-    (λ c κs. comparable (c .before .before .before .before .before .pre .1) (c .before .before .if1 .left) (c .before .slot .ensures) (c .if2 .taken) (search needs))  -- match-front-bindable-requires
+    (λ c κs. let pre = c .before .before .before .before .before .pre in
+    comparable (pre .1) (c .before .before .if1 .left) (c .before .slot .ensures) (c .if2 .taken) (search needs))  -- match-front-bindable-requires
     (λ c. search needs)  -- match-front-mul-term-size
     (λ c. search needs)  -- match-front-sub-term-size
     (λ c. search needs)  -- match-front-part-term-size-start
     (λ c. search needs)  -- match-front-part-term-size-end
-    (λ c κs. subject-begins (c .before .before .before .before .before .before .before .before .pre .1) (c .before .before .before .before .before .if1 .left))  -- match-front-term-size-requires
+    (λ c κs. let pre = c .before .before .before .before .before .before .before .before .pre in
+    let if1 = c .before .before .before .before .before .if1 in
+    subject-begins (pre .1) (if1 .left))  -- match-front-term-size-requires
     (λ c. search needs)  -- match-front-add-past
     (λ c. search needs)  -- match-front-sub-match-front
     (λ c. search needs)  -- match-front-part-match-front-start
     (λ c. search needs)  -- match-front-part-match-front-end
     (λ c. search needs)  -- match-front-sub-match-front-2
     (λ c κs. search needs)  -- match-front-bind-requires
-    (λ c κs. let v = c .before .before .before .before .before .before in (search needs, variable-ready (v .before .before .before .before .before .pre .1) (v .before .before .if1 .left) (v .before .slot .ensures) (v .if2 .taken) (search needs) (c .before .before .term-size .ensures .0) (c .bind .ensures)))  -- match-front-match-front-requires
+    (λ c κs. let v = c .before .before .before .before .before .before in (
+      search needs,
+      variable-ready (v .before .before .before .before .before .pre .1) (v .before .before .if1 .left) (v .before .slot .ensures)
+          (v .if2 .taken) (search needs) (c .before .before .term-size .ensures .0) (c .bind .ensures),
+    ))  -- match-front-match-front-requires
     (λ c. search needs)  -- match-front-mul-same-entry
     (λ c. search needs)  -- match-front-sub-same-entry
     (λ c. search needs)  -- match-front-part-same-entry-start
@@ -60,8 +85,24 @@ pub +match-front-spec : {M : Type 1} → statement M
     (λ c. search needs)  -- match-front-shared-slice-read-children
     (λ c κs. search needs)  -- match-front-children-requires
     (λ c. search needs)  -- match-front-add-match-front-2
-    (λ c κs. let v = c .before .before .before .before .before .before in (search needs, symbol-ready (v .before .before .before .before .before .pre .1) (v .before .before .if1 .left) (v .before .slot .ensures) (v .if2 .left) (said (c .before .before .before .if4 .taken) (c .before .before .before .before .same-entry .ensures)) (c .children .ensures .0)))  -- match-front-match-front-requires-2
-    (λ c. let v = c .before .before .before .before .before .before .before in variable-step (v .before .before .before .before .before .pre .1) (v .before .before .if1 .left) (v .before .slot .ensures) (v .if2 .taken) (search needs) (c .before .before .before .term-size .ensures .0) (c .before .bind .ensures) (said (c .before .before .before .before .before .if3 .taken) (c .before .before .before .before .before .before .bindable .ensures)) (c .match-front .result) (c .match-front .ensures))  -- match-front-returns-2
-    (λ c. let v = c .before .before in variable-clash (v .before .before .before .before .before .pre .1) (v .before .before .if1 .left) (v .before .slot .ensures) (v .if2 .taken) (search needs) (denied (c .if3 .left) (c .before .bindable .ensures)))  -- match-front-returns-3
-    (λ c. let v = c .before .before .before .before .before .before .before in symbol-step (v .before .before .before .before .before .pre .1) (v .before .before .if1 .left) (v .before .slot .ensures) (v .if2 .left) (said (c .before .before .before .before .if4 .taken) (c .before .before .before .before .before .same-entry .ensures)) (c .before .children .ensures .0) (c .match-front2 .result) (c .match-front2 .ensures))  -- match-front-returns-4
-    (λ c. let v = c .before .before .before in symbol-clash (v .before .before .before .before .before .pre .1) (v .before .before .if1 .left) (v .before .slot .ensures) (v .if2 .left) (denied (c .if4 .left) (c .before .same-entry .ensures)))  -- match-front-returns-5
+    (λ c κs. let same-entry = c .before .before .before .before .same-entry in let if4 = c .before .before .before .if4 in
+    let v = c .before .before .before .before .before .before in (
+      search needs,
+      symbol-ready (v .before .before .before .before .before .pre .1) (v .before .before .if1 .left) (v .before .slot .ensures)
+          (v .if2 .left) (said (if4 .taken) (same-entry .ensures)) (c .children .ensures .0),
+    ))  -- match-front-match-front-requires-2
+    (λ c. let bindable = c .before .before .before .before .before .before .bindable in let if3 = c .before .before .before .before .before .if3 in
+    let term-size = c .before .before .before .term-size in let v = c .before .before .before .before .before .before .before in
+    variable-step (v .before .before .before .before .before .pre .1) (v .before .before .if1 .left) (v .before .slot .ensures) (v .if2 .taken)
+    (search needs) (term-size .ensures .0) (c .before .bind .ensures) (said (if3 .taken) (bindable .ensures)) (c .match-front .result)
+    (c .match-front .ensures))  -- match-front-returns-2
+    (λ c. let v = c .before .before in
+    variable-clash (v .before .before .before .before .before .pre .1) (v .before .before .if1 .left) (v .before .slot .ensures) (v .if2 .taken)
+    (search needs) (denied (c .if3 .left) (c .before .bindable .ensures)))  -- match-front-returns-3
+    (λ c. let same-entry = c .before .before .before .before .before .same-entry in let if4 = c .before .before .before .before .if4 in
+    let v = c .before .before .before .before .before .before .before in
+    symbol-step (v .before .before .before .before .before .pre .1) (v .before .before .if1 .left) (v .before .slot .ensures) (v .if2 .left)
+    (said (if4 .taken) (same-entry .ensures)) (c .before .children .ensures .0) (c .match-front2 .result) (c .match-front2 .ensures))  -- match-front-returns-4
+    (λ c. let v = c .before .before .before in
+    symbol-clash (v .before .before .before .before .before .pre .1) (v .before .before .if1 .left) (v .before .slot .ensures) (v .if2 .left)
+    (denied (c .if4 .left) (c .before .same-entry .ensures)))  -- match-front-returns-5

@@ -1,3 +1,4 @@
+-- `terms::matching::same_front` meets its contract; the measure is the length. Assumes nothing.
 use borrow.Author.Needs.{needs}
 use lib.ListN.{length}
 use Rattle.terms.specs.FrontLaws.{none-left, same-below, same-step, same-clash, said, denied}
@@ -24,7 +25,15 @@ same-front-below t =
     and 2 same-front-kinds.ps (falls 2 same-front-kinds.ps _<_ μ-same-front t) same-front.Pre
 
 pub +same-front-spec : {M : Type 1} → statement M
-+same-front-spec = close μ-same-front λ t. same-front-lts.spec (same-entry-reads.Asked, same-entry-reads.Learnt, children-reads.Asked, children-reads.Learnt, same-front-below t, same-front.Post) (same-front-at t) same-front.Post
++same-front-spec =
+    close μ-same-front λ t. same-front-lts.spec (
+      same-entry-reads.Asked,
+      same-entry-reads.Learnt,
+      children-reads.Asked,
+      children-reads.Learnt,
+      same-front-below t,
+      same-front.Post,
+    ) (same-front-at t) same-front.Post
     (λ c κs. search needs)  -- same-front-same-entry-requires
     (λ c. search needs)  -- same-front-sub-same-front
     (λ c. search needs)  -- same-front-part-same-front-start
@@ -36,7 +45,15 @@ pub +same-front-spec : {M : Type 1} → statement M
     (λ c. search needs)  -- same-front-shared-slice-read-children
     (λ c κs. search needs)  -- same-front-children-requires
     (λ c. search needs)  -- same-front-add-same-front
-    (λ c κs. (search needs, same-below (c .before .before .before .before .before .before .before .before .before .pre .1) (c .before .before .before .before .before .before .if1 .left) (said (c .before .before .before .before .if2 .taken) (c .before .before .before .before .before .same-entry .ensures)) (c .children .ensures .0)))  -- same-front-same-front-requires
+    (λ c κs. let pre = c .before .before .before .before .before .before .before .before .before .pre in
+    let if1 = c .before .before .before .before .before .before .if1 in let same-entry = c .before .before .before .before .before .same-entry in
+    let if2 = c .before .before .before .before .if2 in
+    (search needs, same-below (pre .1) (if1 .left) (said (if2 .taken) (same-entry .ensures)) (c .children .ensures .0)))  -- same-front-same-front-requires
     (λ c. none-left _ _ _ (c .if1 .taken))  -- same-front-returns
-    (λ c. same-step (c .before .before .before .before .before .before .before .before .before .before .pre .1) (c .before .before .before .before .before .before .before .if1 .left) (said (c .before .before .before .before .before .if2 .taken) (c .before .before .before .before .before .before .same-entry .ensures)) (c .before .children .ensures .0) (c .same-front .result) (c .same-front .ensures))  -- same-front-returns-2
-    (λ c. same-clash (c .before .before .before .before .before .pre .1) (c .before .before .if1 .left) (denied (c .if2 .left) (c .before .same-entry .ensures)))  -- same-front-returns-3
+    (λ c. let pre = c .before .before .before .before .before .before .before .before .before .before .pre in
+    let if1 = c .before .before .before .before .before .before .before .if1 in
+    let same-entry = c .before .before .before .before .before .before .same-entry in let if2 = c .before .before .before .before .before .if2 in
+    same-step (pre .1) (if1 .left) (said (if2 .taken) (same-entry .ensures)) (c .before .children .ensures .0) (c .same-front .result)
+    (c .same-front .ensures))  -- same-front-returns-2
+    (λ c. let pre = c .before .before .before .before .before .pre in
+    same-clash (pre .1) (c .before .before .if1 .left) (denied (c .if2 .left) (c .before .same-entry .ensures)))  -- same-front-returns-3

@@ -1,3 +1,4 @@
+-- `terms::matching::bindable` meets its contract. Assumes nothing.
 use native.Mathlib.Omega.{arith}
 use borrow.Author.Needs.{needs}
 use Rattle.terms.specs.Decide.{term?, variable?}
@@ -17,5 +18,6 @@ bindable-spec = tie.close (tie.spec
     (λ c. search needs)  -- part-same-end-2
     (λ c κs. search (needs, c .before .before .before .before .pre .held))  -- same-requires
     (λ c. free-slot (c .if1 .taken))  -- returns
-    (λ c. held-slot (c .before .before .before .before .before .pre) (c .before .before .before .if1 .left) (c .same .result) (term? variable? _ _) (c .same .ensures))  -- returns-2
+    (λ c. let pre = c .before .before .before .before .before .pre in let if1 = c .before .before .before .if1 in
+    held-slot pre (if1 .left) (c .same .result) (term? variable? _ _) (c .same .ensures))  -- returns-2
     )

@@ -1,3 +1,4 @@
+-- `terms::matching::children` meets its contract. Assumes nothing.
 use borrow.Author.Needs.{needs}
 use Rattle.terms.specs.FrontLaws.{no-children, two-children, one-child}
 use Rattle.terms.proofs.matching.children.Statement.{statement}

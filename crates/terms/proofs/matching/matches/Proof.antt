@@ -1,3 +1,4 @@
+-- `terms::matching::matches` meets its contract. Assumes nothing.
 use borrow.Author.Needs.{needs}
 use Rattle.terms.specs.MatchLaws.{match-ready, match-answer}
 use Rattle.terms.proofs.matching.matches.Statement.{statement}

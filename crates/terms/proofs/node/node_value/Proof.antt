@@ -1,12 +1,9 @@
+-- `terms::node::node_value` meets its contract. Assumes nothing.
 use borrow.Author.Tests.{lt-ltb, le-ltb}
 use Rattle.terms.specs.TermGraph as graph
-use native.Mathlib.Omega.{arith}
 use borrow.Author.Needs.{needs}
 use Rattle.terms.proofs.node.node_value.Statement.{statement}
 use Rattle.terms.proofs.node.node_value.Tie as tie
-use Rattle.terms.proofs.node.node_value.Reads as reads
-use Rattle.terms.proofs.node.node_value.Lts as lts
-use Rattle.terms.proofs.node.value_in.Reads as value-in-reads
 
 pub node-value-spec : {M : Type 1} → statement M
 unfolding graph.nodeValue

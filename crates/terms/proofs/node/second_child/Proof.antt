@@ -1,24 +1,25 @@
+-- `terms::node::second_child` meets its contract. Assumes nothing.
 use borrow.Author.Tests.{lt-ltb, le-ltb}
 use Rattle.terms.specs.TermGraph as graph
 use mathlib.Core.Path.{sym, _∙_}
 use Rattle.terms.specs.TermGraphLaws.{left-tag, right-tag}
-use native.Mathlib.Omega.{arith}
 use borrow.Author.Needs.{needs}
 use Rattle.terms.proofs.node.second_child.Statement.{statement}
 use Rattle.terms.proofs.node.second_child.Tie as tie
-use Rattle.terms.proofs.node.second_child.Reads as reads
-use Rattle.terms.proofs.node.second_child.Lts as lts
-use Rattle.terms.proofs.node.home.Reads as home-reads
-use Rattle.terms.proofs.node.right_in.Reads as right-in-reads
 
 pub second-child-spec : {M : Type 1} → statement M
 unfolding graph.secondChild
 second-child-spec = tie.close (tie.spec
-    (λ c κs. (c .before .before .before .pre .0, c .before .before .before .pre .1, sym (left-tag (c .before .before .before .args .s .now) (c .before .before .before .args .t .now) (c .if1 .taken)) ∙ c .before .before .before .pre .4))  -- right-in-requires
+    (λ c κs. let start = c .before .before .before in let args = start .args in let pre = start .pre in
+    (pre .0, pre .1, sym (left-tag (args .s .now) (args .t .now) (c .if1 .taken)) ∙ pre .4))  -- right-in-requires
     (λ c κs. search needs)  -- home-requires
-    (λ c κs. (c .before .before .before .before .pre .2, c .before .before .before .before .pre .3, sym (right-tag (c .before .before .before .before .args .s .now) (c .before .before .before .before .args .t .now) (c .before .if1 .left) (c .if2 .taken)) ∙ c .before .before .before .before .pre .4))  -- right-in-requires-2
+    (λ c κs. let start = c .before .before .before .before in let args = start .args in let pre = start .pre in
+    (pre .2, pre .3, sym (right-tag (args .s .now) (args .t .now) (c .before .if1 .left) (c .if2 .taken)) ∙ pre .4))  -- right-in-requires-2
     (λ c κs. search needs)  -- home-requires-2
     (λ c. (rw (lt-ltb _ _ (c .before .before .if1 .taken), ← c .before .right-in .ensures .0) (c .home .ensures .0), c .home .ensures .1))  -- returns
-    (λ c. (rw (le-ltb _ _ (c .before .before .before .if1 .left), lt-ltb _ _ (c .before .before .if2 .taken), ← c .before .right-in2 .ensures .0) (c .home2 .ensures .0), c .home2 .ensures .1))  -- returns-2
+    (λ c. let if1 = c .before .before .before .if1 in (
+      rw (le-ltb _ _ (if1 .left), lt-ltb _ _ (c .before .before .if2 .taken), ← c .before .right-in2 .ensures .0) (c .home2 .ensures .0),
+      c .home2 .ensures .1,
+    ))  -- returns-2
     (λ c. (rw (le-ltb _ _ (c .before .if1 .left), le-ltb _ _ (c .if2 .left)), search needs))  -- returns-3
     )

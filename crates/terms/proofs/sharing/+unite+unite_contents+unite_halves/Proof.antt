@@ -1,8 +1,10 @@
+-- `terms::sharing::unite`, `unite_contents` and `unite_halves` meet their contracts; the measure is twice the number of
+-- classes, one more for the two that unite what lies below. Assumes nothing.
 use mathlib.Core.Path.{sym, ap, _∙_}
 use Rattle.terms.specs.TermGraph.{nodeTag}
 use Rattle.terms.specs.GraphLaws.{moved, both-answer, failed, first-clash}
-use lib.ListN.{getD}
-use Rattle.terms.specs.UniteAnswers.{met-at, same-answer, differ-answer, renamed-length, renamed-fewer, left-answer, atoms-answer, right-answer, renamed-classes, contents-answer, halves-answer}
+use Rattle.terms.specs.UniteAnswers.{uniting, other-way, taken, met-at, same-answer, differ-answer, renamed-length, renamed-fewer, left-answer}
+use Rattle.terms.specs.UniteAnswers.{atoms-answer, right-answer, renamed-classes, contents-answer, halves-answer}
 use borrow.Author.Needs.{needs}
 use native.Mathlib.Omega.{arith}
 use Prim.Native.Nat.{ℕ, _<_, _*_, _+_}
@@ -70,10 +72,25 @@ unite-halves-below t =
     unite-halves.Pre
 
 pub +unite+unite-contents+unite-halves-spec : {M : Type 1} → statement M
-+unite+unite-contents+unite-halves-spec = close μ-unite μ-unite-contents μ-unite-halves (λ t. unite-lts.spec (wide-reads.Asked, wide-reads.Learnt, meeting-reads.Asked, meeting-reads.Learnt, relabel-reads.Asked, relabel-reads.Learnt, unite-contents-below t, unite-contents.Post, unite-halves-below t, unite-halves.Post) (unite-at t) unite.Post
++unite+unite-contents+unite-halves-spec =
+    close μ-unite μ-unite-contents μ-unite-halves
+    (λ t. unite-lts.spec (
+      wide-reads.Asked,
+      wide-reads.Learnt,
+      meeting-reads.Asked,
+      meeting-reads.Learnt,
+      relabel-reads.Asked,
+      relabel-reads.Learnt,
+      unite-contents-below t,
+      unite-contents.Post,
+      unite-halves-below t,
+      unite-halves.Post,
+    ) (unite-at t) unite.Post
     (λ c. search needs)  -- unite-element-copy-out-a
     (λ c. search needs)  -- unite-element-copy-out-b
-    (λ c. (c .before .before .before .before .before .pre .1 .1, search needs, same-answer (c .before .before .before .before .before .args .s .now) (c .before .before .before .before .before .args .t .now) (c .before .before .before .before .before .args .c .now) (c .before .before .before .before .before .args .i) (c .before .before .before .before .before .args .j) (c .before .before .before .before .before .pre .1 .1) (c .before .before .before .before .before .pre .1 .2) (c .before .before .before .before .before .pre .1 .3) (c .before .before .before .before .before .pre .1 .4) (c .if1 .taken)))  -- unite-returns
+    (λ c. let start = c .before .before .before .before .before in let args = start .args in let pre = start .pre in
+    let u = uniting (args .s .now) (args .t .now) (args .c .now) (args .i) (args .j) (pre .1) in
+    (pre .1 .1, search needs, same-answer u (c .if1 .taken)))  -- unite-returns
     (λ c κs. search needs)  -- unite-wide-requires
     (λ c κs. search needs)  -- unite-wide-requires-2
     (λ c κs. search needs)  -- unite-meeting-requires
@@ -88,29 +105,156 @@ pub +unite+unite-contents+unite-halves-spec : {M : Type 1} → statement M
     (λ c κs. search needs)  -- unite-relabel-requires-4
     (λ c κs. search needs)  -- unite-wide-requires-3
     (λ c κs. search needs)  -- unite-wide-requires-4
-    (λ c κs. let w = c .before .before .before .relabel4 .ensures in let fall = renamed-fewer (c .before .before .before .before .before .before .before .before .before .before .before .before .before .before .before .args .s .now) (c .before .before .before .before .before .before .before .before .before .before .before .before .before .before .before .args .t .now) (c .before .before .before .before .before .before .before .before .before .before .before .before .before .before .before .args .c .now) (c .before .before .before .before .before .before .before .before .before .before .before .before .before .before .before .args .i) (c .before .before .before .before .before .before .before .before .before .before .before .before .before .before .before .args .j) (c .before .before .before .before .before .before .before .before .before .before .before .before .before .before .before .pre .1 .1) (c .before .before .before .before .before .before .before .before .before .before .before .before .before .before .before .pre .1 .2) (c .before .before .before .before .before .before .before .before .before .before .before .before .before .before .before .pre .1 .3) (c .before .before .before .before .before .before .before .before .before .before .before .before .before .before .before .pre .1 .4) (c .before .before .before .before .before .before .before .before .before .before .if1 .left) (omega (arith, c .before .before .before .before .before .before .before .before .before .wide .ensures)) (omega (arith, c .before .before .before .before .before .before .before .before .wide2 .ensures)) w in (omega (arith, c .before .before .before .before .before .before .before .before .before .before .before .before .before .before .before .pre .0), (c .before .before .before .before .before .before .before .before .before .before .before .before .before .before .before .pre .1 .0, renamed-length (c .before .before .before .before .before .before .before .before .before .before .before .before .before .before .before .args .s .now) (c .before .before .before .before .before .before .before .before .before .before .before .before .before .before .before .args .t .now) (c .before .before .before .before .before .before .before .before .before .before .before .before .before .before .before .args .c .now) (c .before .before .before .before .before .before .before .before .before .before .before .before .before .before .before .args .i) (c .before .before .before .before .before .before .before .before .before .before .before .before .before .before .before .args .j) (c .before .before .before .before .before .before .before .before .before .before .before .before .before .before .before .pre .1 .1) (c .before .before .before .before .before .before .before .before .before .before .before .before .before .before .before .pre .1 .2) (c .before .before .before .before .before .before .before .before .before .before .before .before .before .before .before .pre .1 .3) (c .before .before .before .before .before .before .before .before .before .before .before .before .before .before .before .pre .1 .4) (c .before .before .before .before .before .before .before .before .before .before .if1 .left) (omega (arith, c .before .before .before .before .before .before .before .before .before .wide .ensures)) (omega (arith, c .before .before .before .before .before .before .before .before .wide2 .ensures)) w, renamed-classes (c .before .before .before .before .before .before .before .before .before .before .before .before .before .before .before .args .s .now) (c .before .before .before .before .before .before .before .before .before .before .before .before .before .before .before .args .t .now) (c .before .before .before .before .before .before .before .before .before .before .before .before .before .before .before .args .c .now) (c .before .before .before .before .before .before .before .before .before .before .before .before .before .before .before .args .i) (c .before .before .before .before .before .before .before .before .before .before .before .before .before .before .before .args .j) (c .before .before .before .before .before .before .before .before .before .before .before .before .before .before .before .pre .1 .1) (c .before .before .before .before .before .before .before .before .before .before .before .before .before .before .before .pre .1 .2) (c .before .before .before .before .before .before .before .before .before .before .before .before .before .before .before .pre .1 .3) (c .before .before .before .before .before .before .before .before .before .before .before .before .before .before .before .pre .1 .4) (c .before .before .before .before .before .before .before .before .before .before .if1 .left) (omega (arith, c .before .before .before .before .before .before .before .before .before .wide .ensures)) (omega (arith, c .before .before .before .before .before .before .before .before .wide2 .ensures)) w ((met-at (c .before .before .before .before .before .before .before .before .before .before .before .before .before .before .before .args .s .now) (c .before .before .before .before .before .before .before .before .before .before .before .before .before .before .before .args .t .now) (c .before .before .before .before .before .before .before .meeting .ensures) (c .before .before .before .before .before .enum-told5 .given .1) (c .before .before .before .before .before .before .before .before .before .wide .ensures .0) (c .before .before .before .before .before .before .before .before .wide2 .ensures .0)) .0))))  -- unite-unite-contents-requires
+    (λ c κs. let there = c .before .before .before .before .before .before .before in
+    let start = there .before .before .before .before .before .before .before .before in
+    let if1 = there .before .before .before .if1 in let wide = there .before .before .wide in let wide2 = there .before .wide2 in
+    let args = start .args in let pre = start .pre in
+    let u = uniting (args .s .now) (args .t .now) (args .c .now) (args .i) (args .j) (pre .1) in
+    let m = met-at (args .s .now) (args .t .now) (there .meeting .ensures) (c .before .before .before .before .before .enum-told5 .given .1)
+    (wide .ensures .0) (wide2 .ensures .0) in
+    let w = taken u (if1 .left) (wide .ensures) (wide2 .ensures) (c .before .before .before .relabel4 .ensures) in
+    let fall = renamed-fewer w in
+    (omega (arith, pre .0), (pre .1 .0, renamed-length w, renamed-classes w (m .0))))  -- unite-unite-contents-requires
     (λ c. search needs)  -- unite-enum-told-6
     (λ c κs. search needs)  -- unite-relabel-requires-5
     (λ c κs. search needs)  -- unite-wide-requires-5
     (λ c κs. search needs)  -- unite-wide-requires-6
-    (λ c κs. let w = c .before .before .before .relabel5 .ensures in let fall = renamed-fewer (c .before .before .before .before .before .before .before .before .before .before .before .before .before .before .before .args .s .now) (c .before .before .before .before .before .before .before .before .before .before .before .before .before .before .before .args .t .now) (c .before .before .before .before .before .before .before .before .before .before .before .before .before .before .before .args .c .now) (c .before .before .before .before .before .before .before .before .before .before .before .before .before .before .before .args .i) (c .before .before .before .before .before .before .before .before .before .before .before .before .before .before .before .args .j) (c .before .before .before .before .before .before .before .before .before .before .before .before .before .before .before .pre .1 .1) (c .before .before .before .before .before .before .before .before .before .before .before .before .before .before .before .pre .1 .2) (c .before .before .before .before .before .before .before .before .before .before .before .before .before .before .before .pre .1 .3) (c .before .before .before .before .before .before .before .before .before .before .before .before .before .before .before .pre .1 .4) (c .before .before .before .before .before .before .before .before .before .before .if1 .left) (omega (arith, c .before .before .before .before .before .before .before .before .before .wide .ensures)) (omega (arith, c .before .before .before .before .before .before .before .before .wide2 .ensures)) w in let m = (met-at (c .before .before .before .before .before .before .before .before .before .before .before .before .before .before .before .args .s .now) (c .before .before .before .before .before .before .before .before .before .before .before .before .before .before .before .args .t .now) (c .before .before .before .before .before .before .before .meeting .ensures) (c .before .before .before .before .before .enum-told6 .given .1) (c .before .before .before .before .before .before .before .before .before .wide .ensures .0) (c .before .before .before .before .before .before .before .before .wide2 .ensures .0)) in (omega (arith, c .before .before .before .before .before .before .before .before .before .before .before .before .before .before .before .pre .0), (c .before .before .before .before .before .before .before .before .before .before .before .before .before .before .before .pre .1 .0, renamed-length (c .before .before .before .before .before .before .before .before .before .before .before .before .before .before .before .args .s .now) (c .before .before .before .before .before .before .before .before .before .before .before .before .before .before .before .args .t .now) (c .before .before .before .before .before .before .before .before .before .before .before .before .before .before .before .args .c .now) (c .before .before .before .before .before .before .before .before .before .before .before .before .before .before .before .args .i) (c .before .before .before .before .before .before .before .before .before .before .before .before .before .before .before .args .j) (c .before .before .before .before .before .before .before .before .before .before .before .before .before .before .before .pre .1 .1) (c .before .before .before .before .before .before .before .before .before .before .before .before .before .before .before .pre .1 .2) (c .before .before .before .before .before .before .before .before .before .before .before .before .before .before .before .pre .1 .3) (c .before .before .before .before .before .before .before .before .before .before .before .before .before .before .before .pre .1 .4) (c .before .before .before .before .before .before .before .before .before .before .if1 .left) (omega (arith, c .before .before .before .before .before .before .before .before .before .wide .ensures)) (omega (arith, c .before .before .before .before .before .before .before .before .wide2 .ensures)) w, renamed-classes (c .before .before .before .before .before .before .before .before .before .before .before .before .before .before .before .args .s .now) (c .before .before .before .before .before .before .before .before .before .before .before .before .before .before .before .args .t .now) (c .before .before .before .before .before .before .before .before .before .before .before .before .before .before .before .args .c .now) (c .before .before .before .before .before .before .before .before .before .before .before .before .before .before .before .args .i) (c .before .before .before .before .before .before .before .before .before .before .before .before .before .before .before .args .j) (c .before .before .before .before .before .before .before .before .before .before .before .before .before .before .before .pre .1 .1) (c .before .before .before .before .before .before .before .before .before .before .before .before .before .before .before .pre .1 .2) (c .before .before .before .before .before .before .before .before .before .before .before .before .before .before .before .pre .1 .3) (c .before .before .before .before .before .before .before .before .before .before .before .before .before .before .before .pre .1 .4) (c .before .before .before .before .before .before .before .before .before .before .if1 .left) (omega (arith, c .before .before .before .before .before .before .before .before .before .wide .ensures)) (omega (arith, c .before .before .before .before .before .before .before .before .wide2 .ensures)) w (m .0), ap (nodeTag (c .before .before .before .before .before .before .before .before .before .before .before .before .before .before .before .args .s .now) (c .before .before .before .before .before .before .before .before .before .before .before .before .before .before .before .args .t .now)) (c .before .wide5 .ensures .0) ∙ m .2, ap (nodeTag (c .before .before .before .before .before .before .before .before .before .before .before .before .before .before .before .args .s .now) (c .before .before .before .before .before .before .before .before .before .before .before .before .before .before .before .args .t .now)) (c .wide6 .ensures .0) ∙ sym (m .1) ∙ m .2)))  -- unite-unite-halves-requires
-    (λ c. let w = c .relabel .ensures in (renamed-length (c .before .before .before .before .before .before .before .before .before .before .before .before .args .s .now) (c .before .before .before .before .before .before .before .before .before .before .before .before .args .t .now) (c .before .before .before .before .before .before .before .before .before .before .before .before .args .c .now) (c .before .before .before .before .before .before .before .before .before .before .before .before .args .i) (c .before .before .before .before .before .before .before .before .before .before .before .before .args .j) (c .before .before .before .before .before .before .before .before .before .before .before .before .pre .1 .1) (c .before .before .before .before .before .before .before .before .before .before .before .before .pre .1 .2) (c .before .before .before .before .before .before .before .before .before .before .before .before .pre .1 .3) (c .before .before .before .before .before .before .before .before .before .before .before .before .pre .1 .4) (c .before .before .before .before .before .before .before .if1 .left) (omega (arith, c .before .before .before .before .before .before .wide .ensures)) (omega (arith, c .before .before .before .before .before .wide2 .ensures)) w, omega (arith, renamed-fewer (c .before .before .before .before .before .before .before .before .before .before .before .before .args .s .now) (c .before .before .before .before .before .before .before .before .before .before .before .before .args .t .now) (c .before .before .before .before .before .before .before .before .before .before .before .before .args .c .now) (c .before .before .before .before .before .before .before .before .before .before .before .before .args .i) (c .before .before .before .before .before .before .before .before .before .before .before .before .args .j) (c .before .before .before .before .before .before .before .before .before .before .before .before .pre .1 .1) (c .before .before .before .before .before .before .before .before .before .before .before .before .pre .1 .2) (c .before .before .before .before .before .before .before .before .before .before .before .before .pre .1 .3) (c .before .before .before .before .before .before .before .before .before .before .before .before .pre .1 .4) (c .before .before .before .before .before .before .before .if1 .left) (omega (arith, c .before .before .before .before .before .before .wide .ensures)) (omega (arith, c .before .before .before .before .before .wide2 .ensures)) w), left-answer (c .before .before .before .before .before .before .before .before .before .before .before .before .args .s .now) (c .before .before .before .before .before .before .before .before .before .before .before .before .args .t .now) (c .before .before .before .before .before .before .before .before .before .before .before .before .args .c .now) (c .before .before .before .before .before .before .before .before .before .before .before .before .args .i) (c .before .before .before .before .before .before .before .before .before .before .before .before .args .j) (c .before .before .before .before .before .before .before .before .before .before .before .before .pre .1 .1) (c .before .before .before .before .before .before .before .before .before .before .before .before .pre .1 .2) (c .before .before .before .before .before .before .before .before .before .before .before .before .pre .1 .3) (c .before .before .before .before .before .before .before .before .before .before .before .before .pre .1 .4) (c .before .before .before .before .before .before .before .if1 .left) (omega (arith, c .before .before .before .before .before .before .wide .ensures)) (omega (arith, c .before .before .before .before .before .wide2 .ensures)) w (met-at (c .before .before .before .before .before .before .before .before .before .before .before .before .args .s .now) (c .before .before .before .before .before .before .before .before .before .before .before .before .args .t .now) (c .before .before .before .before .meeting .ensures) (c .before .before .enum-told .given .1) (c .before .before .before .before .before .before .wide .ensures .0) (c .before .before .before .before .before .wide2 .ensures .0))))  -- unite-returns-2
-    (λ c. let w = c .relabel2 .ensures in (renamed-length (c .before .before .before .before .before .before .before .before .before .before .before .before .args .s .now) (c .before .before .before .before .before .before .before .before .before .before .before .before .args .t .now) (c .before .before .before .before .before .before .before .before .before .before .before .before .args .c .now) (c .before .before .before .before .before .before .before .before .before .before .before .before .args .j) (c .before .before .before .before .before .before .before .before .before .before .before .before .args .i) (c .before .before .before .before .before .before .before .before .before .before .before .before .pre .1 .1) (c .before .before .before .before .before .before .before .before .before .before .before .before .pre .1 .3) (c .before .before .before .before .before .before .before .before .before .before .before .before .pre .1 .2) (c .before .before .before .before .before .before .before .before .before .before .before .before .pre .1 .4) (λ e. c .before .before .before .before .before .before .before .if1 .left (sym e)) (omega (arith, c .before .before .before .before .before .wide2 .ensures)) (omega (arith, c .before .before .before .before .before .before .wide .ensures)) w, omega (arith, renamed-fewer (c .before .before .before .before .before .before .before .before .before .before .before .before .args .s .now) (c .before .before .before .before .before .before .before .before .before .before .before .before .args .t .now) (c .before .before .before .before .before .before .before .before .before .before .before .before .args .c .now) (c .before .before .before .before .before .before .before .before .before .before .before .before .args .j) (c .before .before .before .before .before .before .before .before .before .before .before .before .args .i) (c .before .before .before .before .before .before .before .before .before .before .before .before .pre .1 .1) (c .before .before .before .before .before .before .before .before .before .before .before .before .pre .1 .3) (c .before .before .before .before .before .before .before .before .before .before .before .before .pre .1 .2) (c .before .before .before .before .before .before .before .before .before .before .before .before .pre .1 .4) (λ e. c .before .before .before .before .before .before .before .if1 .left (sym e)) (omega (arith, c .before .before .before .before .before .wide2 .ensures)) (omega (arith, c .before .before .before .before .before .before .wide .ensures)) w), right-answer (c .before .before .before .before .before .before .before .before .before .before .before .before .args .s .now) (c .before .before .before .before .before .before .before .before .before .before .before .before .args .t .now) (c .before .before .before .before .before .before .before .before .before .before .before .before .args .c .now) (c .before .before .before .before .before .before .before .before .before .before .before .before .args .i) (c .before .before .before .before .before .before .before .before .before .before .before .before .args .j) (c .before .before .before .before .before .before .before .before .before .before .before .before .pre .1 .1) (c .before .before .before .before .before .before .before .before .before .before .before .before .pre .1 .2) (c .before .before .before .before .before .before .before .before .before .before .before .before .pre .1 .3) (c .before .before .before .before .before .before .before .before .before .before .before .before .pre .1 .4) (c .before .before .before .before .before .before .before .if1 .left) (omega (arith, c .before .before .before .before .before .before .wide .ensures)) (omega (arith, c .before .before .before .before .before .wide2 .ensures)) w (met-at (c .before .before .before .before .before .before .before .before .before .before .before .before .args .s .now) (c .before .before .before .before .before .before .before .before .before .before .before .before .args .t .now) (c .before .before .before .before .meeting .ensures) (c .before .before .enum-told2 .given .1) (c .before .before .before .before .before .before .wide .ensures .0) (c .before .before .before .before .before .wide2 .ensures .0))))  -- unite-returns-3
-    (λ c. (c .before .before .before .before .before .before .before .before .before .before .pre .1 .1, search needs, differ-answer (c .before .before .before .before .before .before .before .before .before .before .args .s .now) (c .before .before .before .before .before .before .before .before .before .before .args .t .now) (c .before .before .before .before .before .before .before .before .before .before .args .c .now) (c .before .before .before .before .before .before .before .before .before .before .args .i) (c .before .before .before .before .before .before .before .before .before .before .args .j) (c .before .before .before .before .before .before .before .before .before .before .pre .1 .1) (c .before .before .before .before .before .before .before .before .before .before .pre .1 .2) (c .before .before .before .before .before .before .before .before .before .before .pre .1 .3) (c .before .before .before .before .before .before .before .before .before .before .pre .1 .4) (met-at (c .before .before .before .before .before .before .before .before .before .before .args .s .now) (c .before .before .before .before .before .before .before .before .before .before .args .t .now) (c .before .before .meeting .ensures) (c .enum-told3 .given .1) (c .before .before .before .before .wide .ensures .0) (c .before .before .before .wide2 .ensures .0))))  -- unite-returns-4
-    (λ c. let w = c .relabel3 .ensures in (renamed-length (c .before .before .before .before .before .before .before .before .before .before .before .before .args .s .now) (c .before .before .before .before .before .before .before .before .before .before .before .before .args .t .now) (c .before .before .before .before .before .before .before .before .before .before .before .before .args .c .now) (c .before .before .before .before .before .before .before .before .before .before .before .before .args .i) (c .before .before .before .before .before .before .before .before .before .before .before .before .args .j) (c .before .before .before .before .before .before .before .before .before .before .before .before .pre .1 .1) (c .before .before .before .before .before .before .before .before .before .before .before .before .pre .1 .2) (c .before .before .before .before .before .before .before .before .before .before .before .before .pre .1 .3) (c .before .before .before .before .before .before .before .before .before .before .before .before .pre .1 .4) (c .before .before .before .before .before .before .before .if1 .left) (omega (arith, c .before .before .before .before .before .before .wide .ensures)) (omega (arith, c .before .before .before .before .before .wide2 .ensures)) w, omega (arith, renamed-fewer (c .before .before .before .before .before .before .before .before .before .before .before .before .args .s .now) (c .before .before .before .before .before .before .before .before .before .before .before .before .args .t .now) (c .before .before .before .before .before .before .before .before .before .before .before .before .args .c .now) (c .before .before .before .before .before .before .before .before .before .before .before .before .args .i) (c .before .before .before .before .before .before .before .before .before .before .before .before .args .j) (c .before .before .before .before .before .before .before .before .before .before .before .before .pre .1 .1) (c .before .before .before .before .before .before .before .before .before .before .before .before .pre .1 .2) (c .before .before .before .before .before .before .before .before .before .before .before .before .pre .1 .3) (c .before .before .before .before .before .before .before .before .before .before .before .before .pre .1 .4) (c .before .before .before .before .before .before .before .if1 .left) (omega (arith, c .before .before .before .before .before .before .wide .ensures)) (omega (arith, c .before .before .before .before .before .wide2 .ensures)) w), atoms-answer (c .before .before .before .before .before .before .before .before .before .before .before .before .args .s .now) (c .before .before .before .before .before .before .before .before .before .before .before .before .args .t .now) (c .before .before .before .before .before .before .before .before .before .before .before .before .args .c .now) (c .before .before .before .before .before .before .before .before .before .before .before .before .args .i) (c .before .before .before .before .before .before .before .before .before .before .before .before .args .j) (c .before .before .before .before .before .before .before .before .before .before .before .before .pre .1 .1) (c .before .before .before .before .before .before .before .before .before .before .before .before .pre .1 .2) (c .before .before .before .before .before .before .before .before .before .before .before .before .pre .1 .3) (c .before .before .before .before .before .before .before .before .before .before .before .before .pre .1 .4) (c .before .before .before .before .before .before .before .if1 .left) (omega (arith, c .before .before .before .before .before .before .wide .ensures)) (omega (arith, c .before .before .before .before .before .wide2 .ensures)) w (met-at (c .before .before .before .before .before .before .before .before .before .before .before .before .args .s .now) (c .before .before .before .before .before .before .before .before .before .before .before .before .args .t .now) (c .before .before .before .before .meeting .ensures) (c .before .before .enum-told4 .given .1) (c .before .before .before .before .before .before .wide .ensures .0) (c .before .before .before .before .before .wide2 .ensures .0))))  -- unite-returns-5
-    (λ c. let w = c .before .before .before .before .relabel4 .ensures in let fall = renamed-fewer (c .before .before .before .before .before .before .before .before .before .before .before .before .before .before .before .before .args .s .now) (c .before .before .before .before .before .before .before .before .before .before .before .before .before .before .before .before .args .t .now) (c .before .before .before .before .before .before .before .before .before .before .before .before .before .before .before .before .args .c .now) (c .before .before .before .before .before .before .before .before .before .before .before .before .before .before .before .before .args .i) (c .before .before .before .before .before .before .before .before .before .before .before .before .before .before .before .before .args .j) (c .before .before .before .before .before .before .before .before .before .before .before .before .before .before .before .before .pre .1 .1) (c .before .before .before .before .before .before .before .before .before .before .before .before .before .before .before .before .pre .1 .2) (c .before .before .before .before .before .before .before .before .before .before .before .before .before .before .before .before .pre .1 .3) (c .before .before .before .before .before .before .before .before .before .before .before .before .before .before .before .before .pre .1 .4) (c .before .before .before .before .before .before .before .before .before .before .before .if1 .left) (omega (arith, c .before .before .before .before .before .before .before .before .before .before .wide .ensures)) (omega (arith, c .before .before .before .before .before .before .before .before .before .wide2 .ensures)) w in (c .unite-contents .ensures .0, omega (arith, c .unite-contents .ensures .1), contents-answer (c .before .before .before .before .before .before .before .before .before .before .before .before .before .before .before .before .args .s .now) (c .before .before .before .before .before .before .before .before .before .before .before .before .before .before .before .before .args .t .now) (c .before .before .before .before .before .before .before .before .before .before .before .before .before .before .before .before .args .c .now) (c .before .before .before .before .before .before .before .before .before .before .before .before .before .before .before .before .args .i) (c .before .before .before .before .before .before .before .before .before .before .before .before .before .before .before .before .args .j) (c .before .before .before .before .before .before .before .before .before .before .before .before .before .before .before .before .pre .1 .1) (c .before .before .before .before .before .before .before .before .before .before .before .before .before .before .before .before .pre .1 .2) (c .before .before .before .before .before .before .before .before .before .before .before .before .before .before .before .before .pre .1 .3) (c .before .before .before .before .before .before .before .before .before .before .before .before .before .before .before .before .pre .1 .4) (c .before .before .before .before .before .before .before .before .before .before .before .if1 .left) (omega (arith, c .before .before .before .before .before .before .before .before .before .before .wide .ensures)) (omega (arith, c .before .before .before .before .before .before .before .before .before .wide2 .ensures)) w (c .before .before .wide3 .ensures .0) (c .before .wide4 .ensures .0) (met-at (c .before .before .before .before .before .before .before .before .before .before .before .before .before .before .before .before .args .s .now) (c .before .before .before .before .before .before .before .before .before .before .before .before .before .before .before .before .args .t .now) (c .before .before .before .before .before .before .before .before .meeting .ensures) (c .before .before .before .before .before .before .enum-told5 .given .1) (c .before .before .before .before .before .before .before .before .before .before .wide .ensures .0) (c .before .before .before .before .before .before .before .before .before .wide2 .ensures .0)) (c .unite-contents .ensures .2)))  -- unite-returns-6
-    (λ c. let w = c .before .before .before .before .relabel5 .ensures in let fall = renamed-fewer (c .before .before .before .before .before .before .before .before .before .before .before .before .before .before .before .before .args .s .now) (c .before .before .before .before .before .before .before .before .before .before .before .before .before .before .before .before .args .t .now) (c .before .before .before .before .before .before .before .before .before .before .before .before .before .before .before .before .args .c .now) (c .before .before .before .before .before .before .before .before .before .before .before .before .before .before .before .before .args .i) (c .before .before .before .before .before .before .before .before .before .before .before .before .before .before .before .before .args .j) (c .before .before .before .before .before .before .before .before .before .before .before .before .before .before .before .before .pre .1 .1) (c .before .before .before .before .before .before .before .before .before .before .before .before .before .before .before .before .pre .1 .2) (c .before .before .before .before .before .before .before .before .before .before .before .before .before .before .before .before .pre .1 .3) (c .before .before .before .before .before .before .before .before .before .before .before .before .before .before .before .before .pre .1 .4) (c .before .before .before .before .before .before .before .before .before .before .before .if1 .left) (omega (arith, c .before .before .before .before .before .before .before .before .before .before .wide .ensures)) (omega (arith, c .before .before .before .before .before .before .before .before .before .wide2 .ensures)) w in (c .unite-halves .ensures .0, omega (arith, c .unite-halves .ensures .1), halves-answer (c .before .before .before .before .before .before .before .before .before .before .before .before .before .before .before .before .args .s .now) (c .before .before .before .before .before .before .before .before .before .before .before .before .before .before .before .before .args .t .now) (c .before .before .before .before .before .before .before .before .before .before .before .before .before .before .before .before .args .c .now) (c .before .before .before .before .before .before .before .before .before .before .before .before .before .before .before .before .args .i) (c .before .before .before .before .before .before .before .before .before .before .before .before .before .before .before .before .args .j) (c .before .before .before .before .before .before .before .before .before .before .before .before .before .before .before .before .pre .1 .1) (c .before .before .before .before .before .before .before .before .before .before .before .before .before .before .before .before .pre .1 .2) (c .before .before .before .before .before .before .before .before .before .before .before .before .before .before .before .before .pre .1 .3) (c .before .before .before .before .before .before .before .before .before .before .before .before .before .before .before .before .pre .1 .4) (c .before .before .before .before .before .before .before .before .before .before .before .if1 .left) (omega (arith, c .before .before .before .before .before .before .before .before .before .before .wide .ensures)) (omega (arith, c .before .before .before .before .before .before .before .before .before .wide2 .ensures)) w (c .before .before .wide5 .ensures .0) (c .before .wide6 .ensures .0) (met-at (c .before .before .before .before .before .before .before .before .before .before .before .before .before .before .before .before .args .s .now) (c .before .before .before .before .before .before .before .before .before .before .before .before .before .before .before .before .args .t .now) (c .before .before .before .before .before .before .before .before .meeting .ensures) (c .before .before .before .before .before .before .enum-told6 .given .1) (c .before .before .before .before .before .before .before .before .before .before .wide .ensures .0) (c .before .before .before .before .before .before .before .before .before .wide2 .ensures .0)) (c .unite-halves .ensures .2)))  -- unite-returns-7
+    (λ c κs. let there = c .before .before .before .before .before .before .before in
+    let start = there .before .before .before .before .before .before .before .before in
+    let if1 = there .before .before .before .if1 in let wide = there .before .before .wide in let wide2 = there .before .wide2 in
+    let args = start .args in let pre = start .pre in
+    let u = uniting (args .s .now) (args .t .now) (args .c .now) (args .i) (args .j) (pre .1) in
+    let m = met-at (args .s .now) (args .t .now) (there .meeting .ensures) (c .before .before .before .before .before .enum-told6 .given .1)
+    (wide .ensures .0) (wide2 .ensures .0) in
+    let w = taken u (if1 .left) (wide .ensures) (wide2 .ensures) (c .before .before .before .relabel5 .ensures) in
+    let fall = renamed-fewer w in
+    let tag = nodeTag (args .s .now) (args .t .now) in (
+      omega (arith, pre .0),
+      (
+        pre .1 .0,
+        renamed-length w,
+        renamed-classes w (m .0),
+        ap tag (c .before .wide5 .ensures .0) ∙ m .2,
+        ap tag (c .wide6 .ensures .0) ∙ sym (m .1) ∙ m .2,
+      ),
+    ))  -- unite-unite-halves-requires
+    (λ c. let there = c .before .before .before .before in let start = there .before .before .before .before .before .before .before .before in
+    let if1 = there .before .before .before .if1 in let wide = there .before .before .wide in let wide2 = there .before .wide2 in
+    let args = start .args in let pre = start .pre in
+    let u = uniting (args .s .now) (args .t .now) (args .c .now) (args .i) (args .j) (pre .1) in
+    let m = met-at (args .s .now) (args .t .now) (there .meeting .ensures) (c .before .before .enum-told .given .1) (wide .ensures .0) (wide2 .ensures .0) in
+    let w = taken u (if1 .left) (wide .ensures) (wide2 .ensures) (c .relabel .ensures) in
+    (renamed-length w, omega (arith, renamed-fewer w), left-answer w m))  -- unite-returns-2
+    (λ c. let there = c .before .before .before .before in let start = there .before .before .before .before .before .before .before .before in
+    let if1 = there .before .before .before .if1 in let wide = there .before .before .wide in let wide2 = there .before .wide2 in
+    let args = start .args in let pre = start .pre in
+    let u = uniting (args .s .now) (args .t .now) (args .c .now) (args .i) (args .j) (pre .1) in
+    let m = met-at (args .s .now) (args .t .now) (there .meeting .ensures) (c .before .before .enum-told2 .given .1) (wide .ensures .0) (wide2 .ensures .0) in
+    let w = taken (other-way u) (λ e. if1 .left (sym e)) (wide2 .ensures) (wide .ensures) (c .relabel2 .ensures) in
+    (renamed-length w, omega (arith, renamed-fewer w), right-answer w m))  -- unite-returns-3
+    (λ c. let there = c .before .before in let start = there .before .before .before .before .before .before .before .before in
+    let wide = there .before .before .wide in let wide2 = there .before .wide2 in
+    let args = start .args in let pre = start .pre in
+    let u = uniting (args .s .now) (args .t .now) (args .c .now) (args .i) (args .j) (pre .1) in
+    let m = met-at (args .s .now) (args .t .now) (there .meeting .ensures) (c .enum-told3 .given .1) (wide .ensures .0) (wide2 .ensures .0) in
+    (pre .1 .1, search needs, differ-answer u m))  -- unite-returns-4
+    (λ c. let there = c .before .before .before .before in let start = there .before .before .before .before .before .before .before .before in
+    let if1 = there .before .before .before .if1 in let wide = there .before .before .wide in let wide2 = there .before .wide2 in
+    let args = start .args in let pre = start .pre in
+    let u = uniting (args .s .now) (args .t .now) (args .c .now) (args .i) (args .j) (pre .1) in
+    let m = met-at (args .s .now) (args .t .now) (there .meeting .ensures) (c .before .before .enum-told4 .given .1) (wide .ensures .0) (wide2 .ensures .0) in
+    let w = taken u (if1 .left) (wide .ensures) (wide2 .ensures) (c .relabel3 .ensures) in
+    (renamed-length w, omega (arith, renamed-fewer w), atoms-answer w m))  -- unite-returns-5
+    (λ c. let there = c .before .before .before .before .before .before .before .before in
+    let start = there .before .before .before .before .before .before .before .before in
+    let if1 = there .before .before .before .if1 in let wide = there .before .before .wide in let wide2 = there .before .wide2 in
+    let args = start .args in let pre = start .pre in
+    let u = uniting (args .s .now) (args .t .now) (args .c .now) (args .i) (args .j) (pre .1) in
+    let m = met-at (args .s .now) (args .t .now) (there .meeting .ensures) (c .before .before .before .before .before .before .enum-told5 .given .1)
+    (wide .ensures .0) (wide2 .ensures .0) in
+    let w = taken u (if1 .left) (wide .ensures) (wide2 .ensures) (c .before .before .before .before .relabel4 .ensures) in
+    let fall = renamed-fewer w in (
+      c .unite-contents .ensures .0,
+      omega (arith, c .unite-contents .ensures .1),
+      contents-answer w (c .before .before .wide3 .ensures .0) (c .before .wide4 .ensures .0) m (c .unite-contents .ensures .2),
+    ))  -- unite-returns-6
+    (λ c. let there = c .before .before .before .before .before .before .before .before in
+    let start = there .before .before .before .before .before .before .before .before in
+    let if1 = there .before .before .before .if1 in let wide = there .before .before .wide in let wide2 = there .before .wide2 in
+    let args = start .args in let pre = start .pre in
+    let u = uniting (args .s .now) (args .t .now) (args .c .now) (args .i) (args .j) (pre .1) in
+    let m = met-at (args .s .now) (args .t .now) (there .meeting .ensures) (c .before .before .before .before .before .before .enum-told6 .given .1)
+    (wide .ensures .0) (wide2 .ensures .0) in
+    let w = taken u (if1 .left) (wide .ensures) (wide2 .ensures) (c .before .before .before .before .relabel5 .ensures) in
+    let fall = renamed-fewer w in (
+      c .unite-halves .ensures .0,
+      omega (arith, c .unite-halves .ensures .1),
+      halves-answer w (c .before .before .wide5 .ensures .0) (c .before .wide6 .ensures .0) m (c .unite-halves .ensures .2),
+    ))  -- unite-returns-7
     ) (λ t. unite-contents-lts.spec (first-child-reads.Asked, first-child-reads.Learnt, unite-below t, unite.Post) (unite-contents-at t) unite-contents.Post
     (λ c κs. search needs)  -- unite-contents-first-child-requires
     (λ c κs. search needs)  -- unite-contents-first-child-requires-2
-    (λ c κs. (omega (arith, c .before .before .before .before .before .pre .0), (c .before .before .before .before .before .pre .1 .0, c .before .before .before .before .before .pre .1 .1, omega (arith, c .before .first-child .ensures .1), omega (arith, c .first-child2 .ensures .1), c .before .before .before .before .before .pre .1 .2)))  -- unite-contents-unite-requires
-    (λ c. (c .unite .ensures .0, c .unite .ensures .1, moved (c .before .before .first-child .ensures .0) (c .before .first-child2 .ensures .0) (c .unite .ensures .2)))  -- unite-contents-returns
-    ) λ t. unite-halves-lts.spec (first-child-reads.Asked, first-child-reads.Learnt, unite-below t, unite.Post, second-child-reads.Asked, second-child-reads.Learnt) (unite-halves-at t) unite-halves.Post
+    (λ c κs. let pre = c .before .before .before .before .before .pre in (
+      omega (arith, pre .0),
+      (
+        pre .1 .0,
+        pre .1 .1,
+        omega (arith, c .before .first-child .ensures .1),
+        omega (arith, c .first-child2 .ensures .1),
+        pre .1 .2,
+      ),
+    ))  -- unite-contents-unite-requires
+    (λ c. (
+      c .unite .ensures .0,
+      c .unite .ensures .1,
+      moved (c .before .before .first-child .ensures .0) (c .before .first-child2 .ensures .0)
+          (c .unite .ensures .2),
+    ))  -- unite-contents-returns
+    ) λ t. unite-halves-lts.spec (
+      first-child-reads.Asked,
+      first-child-reads.Learnt,
+      unite-below t,
+      unite.Post,
+      second-child-reads.Asked,
+      second-child-reads.Learnt,
+    ) (unite-halves-at t) unite-halves.Post
     (λ c κs. search needs)  -- unite-halves-first-child-requires
     (λ c κs. search needs)  -- unite-halves-first-child-requires-2
-    (λ c κs. (omega (arith, c .before .before .before .before .before .pre .0), (c .before .before .before .before .before .pre .1 .0, c .before .before .before .before .before .pre .1 .1, omega (arith, c .before .first-child .ensures .1), omega (arith, c .first-child2 .ensures .1), c .before .before .before .before .before .pre .1 .2)))  -- unite-halves-unite-requires
-    (λ c κs. (c .before .before .before .before .before .before .before .before .pre .1 .0 .left, c .before .before .before .before .before .before .before .before .pre .1 .0 .left-short, c .before .before .before .before .before .before .before .before .pre .1 .0 .right, c .before .before .before .before .before .before .before .before .pre .1 .0 .right-short, c .before .before .before .before .before .before .before .before .pre .1 .3))  -- unite-halves-second-child-requires
-    (λ c κs. (c .before .before .before .before .before .before .before .before .before .pre .1 .0 .left, c .before .before .before .before .before .before .before .before .before .pre .1 .0 .left-short, c .before .before .before .before .before .before .before .before .before .pre .1 .0 .right, c .before .before .before .before .before .before .before .before .before .pre .1 .0 .right-short, c .before .before .before .before .before .before .before .before .before .pre .1 .4))  -- unite-halves-second-child-requires-2
-    (λ c κs. (omega (arith, c .before .before .before .before .before .before .before .before .before .before .pre .0, c .before .before .before .before .unite .ensures .1), (c .before .before .before .before .before .before .before .before .before .before .pre .1 .0, c .before .before .before .before .unite .ensures .0, omega (arith, c .before .second-child .ensures .1), omega (arith, c .second-child2 .ensures .1), c .before .before .before .before .unite .ensures .2 .stepped (c .before .before .before .if1 .taken) .classes)))  -- unite-halves-unite-requires-2
-    (λ c. (c .unite2 .ensures .0, omega (arith, c .unite2 .ensures .1, c .before .before .before .before .before .unite .ensures .1), both-answer ((moved (c .before .before .before .before .before .before .before .first-child .ensures .0) (c .before .before .before .before .before .before .first-child2 .ensures .0) (c .before .before .before .before .before .unite .ensures .2)) .stepped (c .before .before .before .before .if1 .taken)) (moved (c .before .before .second-child .ensures .0) (c .before .second-child2 .ensures .0) (c .unite2 .ensures .2))))  -- unite-halves-returns
-    (λ c. (c .before .unite .ensures .0, c .before .unite .ensures .1, failed (first-clash ((moved (c .before .before .before .first-child .ensures .0) (c .before .before .first-child2 .ensures .0) (c .before .unite .ensures .2)) .clashed (c .if1 .left)))))  -- unite-halves-returns-2
+    (λ c κs. let pre = c .before .before .before .before .before .pre in (
+      omega (arith, pre .0),
+      (
+        pre .1 .0,
+        pre .1 .1,
+        omega (arith, c .before .first-child .ensures .1),
+        omega (arith, c .first-child2 .ensures .1),
+        pre .1 .2,
+      ),
+    ))  -- unite-halves-unite-requires
+    (λ c κs. let pre = c .before .before .before .before .before .before .before .before .pre in
+    (pre .1 .0 .left, pre .1 .0 .left-short, pre .1 .0 .right, pre .1 .0 .right-short, pre .1 .3))  -- unite-halves-second-child-requires
+    (λ c κs. let pre = c .before .before .before .before .before .before .before .before .before .pre in
+    (pre .1 .0 .left, pre .1 .0 .left-short, pre .1 .0 .right, pre .1 .0 .right-short, pre .1 .4))  -- unite-halves-second-child-requires-2
+    (λ c κs. let pre = c .before .before .before .before .before .before .before .before .before .before .pre in
+    let the-unite = c .before .before .before .before .unite in let if1 = c .before .before .before .if1 in (
+      omega (arith, pre .0, the-unite .ensures .1),
+      (
+        pre .1 .0,
+        the-unite .ensures .0,
+        omega (arith, c .before .second-child .ensures .1),
+        omega (arith, c .second-child2 .ensures .1),
+        the-unite .ensures .2 .stepped (if1 .taken) .classes,
+      ),
+    ))  -- unite-halves-unite-requires-2
+    (λ c. let first-child = c .before .before .before .before .before .before .before .first-child in
+    let first-child2 = c .before .before .before .before .before .before .first-child2 in
+    let the-unite = c .before .before .before .before .before .unite in let if1 = c .before .before .before .before .if1 in (
+      c .unite2 .ensures .0,
+      omega (arith, c .unite2 .ensures .1, the-unite .ensures .1),
+      both-answer ((moved (first-child .ensures .0) (first-child2 .ensures .0) (the-unite .ensures .2)) .stepped (if1 .taken))
+          (moved (c .before .before .second-child .ensures .0) (c .before .second-child2 .ensures .0) (c .unite2 .ensures .2)),
+    ))  -- unite-halves-returns
+    (λ c. let first-child = c .before .before .before .first-child in let the-unite = c .before .unite in (
+      the-unite .ensures .0,
+      the-unite .ensures .1,
+      failed (first-clash ((moved (first-child .ensures .0) (c .before .before .first-child2 .ensures .0) (the-unite .ensures .2)) .clashed (c .if1 .left))),
+    ))  -- unite-halves-returns-2

@@ -1,10 +1,7 @@
+-- `terms::sharing::is_free` meets its contract. Assumes nothing.
 use Rattle.terms.specs.TermGraphLaws.{free-zero, free-above}
-use borrow.Author.Needs.{needs}
-use native.Mathlib.Omega.{arith}
 use Rattle.terms.proofs.sharing.is_free.Statement.{statement}
 use Rattle.terms.proofs.sharing.is_free.Tie as tie
-use Rattle.terms.proofs.sharing.is_free.Reads as reads
-use Rattle.terms.proofs.sharing.is_free.Lts as lts
 
 pub is-free-spec : {M : Type 1} → statement M
 is-free-spec = tie.close (tie.spec

@@ -1,7 +1,6 @@
 -- `terms::sharing::relabel` meets its contract: after k turns the first k entries are renamed. Assumes nothing.
-use mathlib.Core.Path.{_≡_, refl, ap, _∙_}
+use mathlib.Core.Path.{_≡_, refl, _∙_}
 use Prim.Native.Nat.{_≤_, _-_}
-use native.Mathlib.Omega.{arith}
 use lib.ListN.{length, length-set}
 use borrow.Author.Needs.{needs}
 use Rattle.terms.specs.Names.{renamedUpTo, renamed-step, renamed-all}
@@ -33,5 +32,6 @@ relabel-spec = tie.close (tie.spec Inv-loop μ-loop
     (λ c. search needs)  -- add-k
     (λ c. search needs)  -- loop-less
     again
-    (λ c. c .before .loop .inv .3 ∙ renamed-all (c .before .before .args .a) (c .before .before .args .b) (c .before .before .args .c .now) (c .before .loop .k) (search needs))  -- returns
+    (λ c. let args = c .before .before .args in let loop = c .before .loop in
+    loop .inv .3 ∙ renamed-all (args .a) (args .b) (args .c .now) (loop .k) (search needs))  -- returns
     )

@@ -1,8 +1,6 @@
 -- `terms::sharing::renamed` meets its contract. Assumes nothing.
 use mathlib.Core.Path.{sym}
-use mathlib.Core.Logic.{⊎-elim}
 use Rattle.terms.specs.GraphLaws.{rename-hit, rename-miss}
-use borrow.Author.Needs.{needs}
 use Rattle.terms.proofs.sharing.renamed.Statement.{statement}
 use Rattle.terms.proofs.sharing.renamed.Tie as tie
 

@@ -13,12 +13,14 @@ roots-differ-spec = tie.close (tie.spec
     (λ c. λ e. absurd (false≢true e))  -- returns-2
     (λ c. let room = c .before .before .before .before .before .before .before .pre .left .room in search needs)  -- shared-slice-read-if3
     (λ c. let room = c .before .before .before .before .before .before .before .before .pre .right .room in search needs)  -- shared-slice-read-if3-2
-    (λ c. λ e.
-    let pre = c .before .before .before .before .before .before .before .before .before .pre in
-    tags-apart (pre .left) (pre .right) (c .before .before .before .before .before .if1 .left) (c .before .before .before .if2 .left) (c .if3 .taken))  -- returns-3
+    (λ c. let pre = c .before .before .before .before .before .before .before .before .before .pre in
+    let if1 = c .before .before .before .before .before .if1 in let if2 = c .before .before .before .if2 in
+    λ e. tags-apart (pre .left) (pre .right) (if1 .left) (if2 .left) (c .if3 .taken))  -- returns-3
     (λ c κs. let room = c .before .before .before .before .before .before .before .before .before .pre .left .room in search needs)  -- value-requires
-    (λ c κs. let room = c .before .before .before .before .before .before .before .before .before .before .pre .right .room in search needs)  -- value-requires-2
-    (λ c. λ e.
-    let pre = c .before .before .before .before .before .before .before .before .before .before .before .pre in
-    values-apart (pre .left) (pre .right) (c .before .before .before .before .before .before .before .if1 .left) (c .before .before .before .before .before .if2 .left) (told-apart (c .before .value .ensures .0) (c .value2 .ensures .0) e))  -- returns-4
+    (λ c κs. let pre = c .before .before .before .before .before .before .before .before .before .before .pre in let room = pre .right .room in
+    search needs)  -- value-requires-2
+    (λ c. let pre = c .before .before .before .before .before .before .before .before .before .before .before .pre in
+    let if1 = c .before .before .before .before .before .before .before .if1 in let if2 = c .before .before .before .before .before .if2 in
+    λ e. values-apart (pre .left) (pre .right) (if1 .left) (if2 .left)
+    (told-apart (c .before .value .ensures .0) (c .value2 .ensures .0) e))  -- returns-4
     )

@@ -1,3 +1,4 @@
+-- `terms::valid::are_terms` meets its contract; the measure is the length. Assumes nothing.
 use Rattle.terms.specs.Count.{count-none, count-some, count-pair, count-encryption, count-leaf}
 use Rattle.terms.specs.Each.{each-from}
 use borrow.Author.Needs.{needs}
@@ -34,12 +35,24 @@ pub +are-terms-spec : {M : Type 1} → statement M
     (λ c. search needs)  -- are-terms-sub-are-terms-2
     (λ c. search needs)  -- are-terms-part-are-terms-start-2
     (λ c. search needs)  -- are-terms-part-are-terms-end-2
-    (λ c κs. (search needs, (each-from 1 (c .before .before .before .before .before .before .before .pre .1 .0), search needs)))  -- are-terms-are-terms-requires-2
+    (λ c κs. let pre = c .before .before .before .before .before .before .before .pre in
+    (search needs, (each-from 1 (pre .1 .0), search needs)))  -- are-terms-are-terms-requires-2
     (λ c. search needs)  -- are-terms-sub-are-terms-3
     (λ c. search needs)  -- are-terms-part-are-terms-start-3
     (λ c. search needs)  -- are-terms-part-are-terms-end-3
     (λ c. search needs)  -- are-terms-sub-are-terms-4
-    (λ c κs. (search needs, (each-from 1 (c .before .before .before .before .before .before .before .pre .1 .0), search needs)))  -- are-terms-are-terms-requires-3
-    (λ c. let a = c .before .before .before .before .before .before .before .args in count-pair (a .e .now) (a .need) (c .before .before .before .before .before .before .before .pre .1 .0) (c .before .before .before .before .before .if1 .left) (c .before .before .before .before .if2 .left) (c .are-terms .result) (c .before .before .if3 .taken) (c .are-terms .ensures))  -- are-terms-returns-3
-    (λ c. let a = c .before .before .before .before .before .before .before .before .args in count-encryption (a .e .now) (a .need) (c .before .before .before .before .before .before .before .before .pre .1 .0) (c .before .before .before .before .before .before .if1 .left) (c .before .before .before .before .before .if2 .left) (c .are-terms2 .result) (c .before .before .if4 .taken) (c .are-terms2 .ensures))  -- are-terms-returns-4
-    (λ c. let a = c .before .before .before .before .before .before .before .before .args in count-leaf (a .e .now) (a .need) (c .before .before .before .before .before .before .before .before .pre .1 .0) (c .before .before .before .before .before .before .if1 .left) (c .before .before .before .before .before .if2 .left) (c .are-terms3 .result) (c .before .before .before .if3 .left) (c .before .before .if4 .left) (c .are-terms3 .ensures))  -- are-terms-returns-5
+    (λ c κs. let pre = c .before .before .before .before .before .before .before .pre in
+    (search needs, (each-from 1 (pre .1 .0), search needs)))  -- are-terms-are-terms-requires-3
+    (λ c. let start = c .before .before .before .before .before .before .before in let args = start .args in let pre = start .pre in
+    let if1 = c .before .before .before .before .before .if1 in let if2 = c .before .before .before .before .if2 in let a = args in
+    count-pair (a .e .now) (a .need) (pre .1 .0) (if1 .left) (if2 .left) (c .are-terms .result) (c .before .before .if3 .taken)
+    (c .are-terms .ensures))  -- are-terms-returns-3
+    (λ c. let start = c .before .before .before .before .before .before .before .before in let args = start .args in let pre = start .pre in
+    let if1 = c .before .before .before .before .before .before .if1 in let if2 = c .before .before .before .before .before .if2 in let a = args in
+    count-encryption (a .e .now) (a .need) (pre .1 .0) (if1 .left) (if2 .left) (c .are-terms2 .result) (c .before .before .if4 .taken)
+    (c .are-terms2 .ensures))  -- are-terms-returns-4
+    (λ c. let start = c .before .before .before .before .before .before .before .before in let args = start .args in let pre = start .pre in
+    let if1 = c .before .before .before .before .before .before .if1 in let if2 = c .before .before .before .before .before .if2 in
+    let if3 = c .before .before .before .if3 in let a = args in
+    count-leaf (a .e .now) (a .need) (pre .1 .0) (if1 .left) (if2 .left) (c .are-terms3 .result) (if3 .left) (c .before .before .if4 .left)
+    (c .are-terms3 .ensures))  -- are-terms-returns-5

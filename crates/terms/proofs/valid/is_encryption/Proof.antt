@@ -1,3 +1,4 @@
+-- `terms::valid::is_encryption` meets its contract. Assumes nothing.
 use Rattle.terms.specs.ValidLaws.{encryption-tag}
 use Rattle.terms.specs.OneTerm.{encryption?}
 use Rattle.terms.specs.Entry.{termOf}

@@ -1,3 +1,4 @@
+-- `terms::valid::is_key` meets its contract. Assumes nothing.
 use Rattle.terms.specs.ValidLaws.{key-away, key-low, key-high}
 use borrow.Author.Needs.{needs}
 use Rattle.terms.proofs.valid.is_key.Statement.{statement}

@@ -1,3 +1,4 @@
+-- `terms::valid::is_one_term` meets its contract. Assumes nothing.
 use Rattle.terms.specs.Count.{count-one}
 use Rattle.terms.specs.OneTerm.{oneTerm?}
 use Rattle.terms.specs.Decide.{says-answer}
@@ -8,5 +9,7 @@ use Rattle.terms.proofs.valid.is_one_term.Tie as tie
 pub is-one-term-spec : {M : Type 1} → statement M
 is-one-term-spec = tie.close (tie.spec
     (λ c κs. search needs)  -- are-terms-requires
-    (λ c. let a = c .before .before .args in says-answer _ (count-one (a .e .now) (λ i. c .before .shared-slice-known .given i .fits) (c .are-terms .result) (c .are-terms .ensures)) (oneTerm? (a .e .now)))  -- returns
+    (λ c. let a = c .before .before .args in
+    says-answer _ (count-one (a .e .now) (λ i. c .before .shared-slice-known .given i .fits) (c .are-terms .result) (c .are-terms .ensures))
+    (oneTerm? (a .e .now)))  -- returns
     )

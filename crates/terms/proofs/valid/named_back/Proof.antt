@@ -1,3 +1,4 @@
+-- `terms::valid::named_back` meets its contract. Assumes nothing.
 use Rattle.terms.specs.ValidLaws.{back-away, back-other, back-named}
 use borrow.Author.Needs.{needs}
 use Rattle.terms.proofs.valid.named_back.Statement.{statement}
@@ -18,6 +19,9 @@ named-back-spec = tie.close (tie.spec
     (λ c. search needs)  -- part-value-start-2
     (λ c. search needs)  -- part-value-end-2
     (λ c κs. search needs)  -- value-requires-2
-    (λ c. let a = c .before .before .before .before .before .before .before .before .args in back-named (a .atoms .now) (a .n) (a .other) (c .before .before .before .before .before .before .before .before .pre) (c .before .before .before .before .before .value .ensures .0) (c .before .before .before .before .if1 .left) (c .before .before .if2 .taken) (c .value2 .ensures .0))  -- returns-2
-    (λ c. back-other _ _ _ (c .before .before .before .before .before .before .pre) (c .before .before .before .value .ensures .0) (c .before .before .if1 .left) (c .if2 .left))  -- returns-3
+    (λ c. let start = c .before .before .before .before .before .before .before .before in let args = start .args in let pre = start .pre in
+    let value = c .before .before .before .before .before .value in let if1 = c .before .before .before .before .if1 in let a = args in
+    back-named (a .atoms .now) (a .n) (a .other) pre (value .ensures .0) (if1 .left) (c .before .before .if2 .taken) (c .value2 .ensures .0))  -- returns-2
+    (λ c. let pre = c .before .before .before .before .before .before .pre in let value = c .before .before .before .value in
+    back-other _ _ _ pre (value .ensures .0) (c .before .before .if1 .left) (c .if2 .left))  -- returns-3
     )

@@ -1,3 +1,4 @@
+-- `terms::valid::wrong_atom` meets its contract: the atoms before atom i are right. Assumes nothing.
 use borrow.Author.Needs.{needs}
 use native.Mathlib.Omega.{arith}
 use Prim.Native.Nat.{ℕ, _≤_, _<_, _/_, _-_}
@@ -21,7 +22,9 @@ wrong-atom-spec = tie.close (tie.spec Inv-loop μ-loop
     (λ c κs. search needs)  -- right-atom-requires
     (λ c. search needs)  -- add-i
     (λ c. search needs)  -- loop-less
-    (λ c. (search needs, below-more _ _ (c .before .before .before .loop .inv .1) (says-yes (c .before .right-atom .result) (c .before .right-atom .ensures) (c .if1 .taken))))  -- loop-again
-    (λ c. atom-wrong _ _ (search needs) (c .before .before .before .loop .inv .1) (says-no (c .before .right-atom .result) (c .before .right-atom .ensures) (c .if1 .left)))  -- returns
+    (λ c. let loop = c .before .before .before .loop in let right-atom = c .before .right-atom in
+    (search needs, below-more _ _ (loop .inv .1) (says-yes (right-atom .result) (right-atom .ensures) (c .if1 .taken))))  -- loop-again
+    (λ c. let loop = c .before .before .before .loop in let right-atom = c .before .right-atom in
+    atom-wrong _ _ (search needs) (loop .inv .1) (says-no (right-atom .result) (right-atom .ensures) (c .if1 .left)))  -- returns
     (λ c. atoms-right _ (λ k l. c .before .loop .inv .1 k (omega arith)))  -- returns-2
     )

@@ -1,3 +1,4 @@
+-- `terms::valid::wrong_entry` meets its contract: the entries before entry i are right. Assumes nothing.
 use borrow.Author.Needs.{needs}
 use native.Mathlib.Omega.{arith}
 use Prim.Native.Nat.{ℕ, _≤_, _<_, _/_, _-_}
@@ -26,7 +27,16 @@ wrong-entry-spec = tie.close (tie.spec Inv-loop μ-loop
     (λ c κs. search needs)  -- right-entry-requires
     (λ c. search needs)  -- add-i
     (λ c. search needs)  -- loop-less
-    (λ c. let a = c .before .before .before .before .before .before .before .args in (search needs, below-more _ _ (c .before .before .before .before .loop .inv .1) (entry-yes (a .atoms .now) (a .kind) (a .e .now) (c .before .before .before .before .loop .i) (c .before .right-entry .result) (c .before .right-entry .ensures) (c .if1 .taken))))  -- loop-again
-    (λ c. let a = c .before .before .before .before .before .before .before .args in entry-wrong (a .atoms .now) (a .kind) (a .e .now) (c .before .before .before .before .loop .i) (search needs) (c .before .before .before .before .loop .inv .1) (entry-no (a .atoms .now) (a .kind) (a .e .now) (c .before .before .before .before .loop .i) (c .before .right-entry .result) (c .before .right-entry .ensures) (c .if1 .left)))  -- returns
-    (λ c. let a = c .before .before .before .before .args in entries-right (a .atoms .now) (a .kind) (a .e .now) (λ k l. c .before .loop .inv .1 k (omega arith)))  -- returns-2
+    (λ c. let args = c .before .before .before .before .before .before .before .args in let loop = c .before .before .before .before .loop in
+    let right-entry = c .before .right-entry in let a = args in (
+      search needs,
+      below-more _ _ (loop .inv .1) (entry-yes (a .atoms .now) (a .kind) (a .e .now) (loop .i) (right-entry .result)
+          (right-entry .ensures) (c .if1 .taken)),
+    ))  -- loop-again
+    (λ c. let args = c .before .before .before .before .before .before .before .args in let loop = c .before .before .before .before .loop in
+    let right-entry = c .before .right-entry in let a = args in
+    entry-wrong (a .atoms .now) (a .kind) (a .e .now) (loop .i) (search needs) (loop .inv .1)
+    (entry-no (a .atoms .now) (a .kind) (a .e .now) (loop .i) (right-entry .result) (right-entry .ensures) (c .if1 .left)))  -- returns
+    (λ c. let args = c .before .before .before .before .args in let a = args in
+    entries-right (a .atoms .now) (a .kind) (a .e .now) (λ k l. c .before .loop .inv .1 k (omega arith)))  -- returns-2
     )
