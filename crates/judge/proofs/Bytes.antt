@@ -21,7 +21,8 @@ use Rattle.judge.specs.Laid.{Laid}
 use Rattle.judge.specs.Run.{Derives, Step, after}
 use Rattle.judge.specs.Cover.{Passes}
 use Rattle.judge.specs.Conditions.{KnownAtom, WeaklyClosed, KeptKey, Meets}
-use Rattle.judge.specs.Verdict.{verdictOf, fileAtoms}
+use Rattle.judge.specs.Verdict.{verdictOf}
+use Rattle.judge.specs.File.{fileAtoms}
 use Rattle.judge.specs.Meaning.{Formed, Accepts, Every}
 use Rattle.judge.proofs.LaidLaws.{fits, pattern-right, laid}
 use Rattle.judge.proofs.Members.{listed-block}

@@ -28,7 +28,8 @@ use Rattle.judge.specs.File.{certificateOf, ruleOf}
 use Rattle.judge.specs.Laid.{Laid, RuleBlock}
 use Rattle.judge.specs.Cover.{Risky, Covered, sureHat, inPremise, AtOpenPlace, Dead}
 use Rattle.judge.specs.Decisions.{dead?}
-use Rattle.judge.specs.Verdict.{spotAt, FineAt, fine?, uncovered}
+use Rattle.judge.specs.Verdict.{fine?, uncovered}
+use Rattle.judge.specs.Cover.{spotAt, FineAt}
 use Rattle.judge.specs.Listed.{SharesListed, IsSecret}
 use Rattle.judge.specs.CoverEntries.{subAt, On, Flags, Standing, HatBelow, Entries, OpenEntry, Opened, OpenWith, SomeOpen, FineEntry, Judging}
 use Rattle.judge.proofs.ListedLaws.{risky-is, dead-is}

@@ -22,7 +22,8 @@ use Rattle.judge.specs.File.{blockCount, blocksOf, ofKind, patternOf, se
 use Rattle.judge.specs.Laid.{Laid}
 use Rattle.judge.specs.Cover.{SureHat, NoHat, sharesNoGood, isBad, AtOpenPlace, Risky, isVariable, sharesSecret, Covered, sureHat, inPremise, Dead}
 use Rattle.judge.specs.Decisions.{dead?}
-use Rattle.judge.specs.Verdict.{FineAt, fine?, uncovered}
+use Rattle.judge.specs.Verdict.{fine?, uncovered}
+use Rattle.judge.specs.Cover.{FineAt}
 use Rattle.judge.specs.Judgement.{OnlyRulesFrom, Heads}
 use Rattle.judge.proofs.Members.{block-listed, listed-block}
 

@@ -24,7 +24,8 @@ use Rattle.terms.specs.Solve.{Says, says-same}
 use Rattle.terms.specs.Decisions.{says-eq}
 use Rattle.judge.specs.declared.verdict.Fault.{Fault}
 use Rattle.judge.specs.declared.verdict.Fault.the-variants.{Length, Check, Kind, Layout, AtomEntry, TermEntry, NotOneTerm}
-use Rattle.judge.specs.Verdict.{lengthRight, lengthFault, kindRight, fileAtoms, usedEntries, atomFault, entryFault, rootRight}
+use Rattle.judge.specs.Verdict.{lengthRight, lengthFault, kindRight, atomFault, entryFault, rootRight}
+use Rattle.judge.specs.File.{fileAtoms, usedEntries}
 use Rattle.judge.specs.Verdict.{patternFault, conclusionFault, rulePartsFault, termFault, entriesFault, blockFault}
 use Rattle.judge.specs.Meaning.{LengthRight, KindRight, first, later, Shaped, AtomIs, TermEntryIs, EntriesRight, PatternRight}
 use Rattle.judge.specs.Meaning.{PremiseRight, BlockRight, BlockFaulty, checkFails, kindFails, layoutFails, atomFails}

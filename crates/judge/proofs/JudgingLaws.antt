@@ -26,8 +26,9 @@ use Rattle.judge.specs.File.{blockCount, ruleOf, certificateOf}
 use Rattle.judge.specs.Laid.{Laid, RuleBlock}
 use Rattle.judge.specs.Listed.{faultFound, Inside}
 use Rattle.judge.specs.Judgement.{judgedOf}
-use Rattle.judge.specs.Verdict.{lengthRight, lengthFault, layoutFault, missingFault, countsOf, firstFault, onKind, kindFault}
-use Rattle.judge.specs.Verdict.{fine?, uncovered, openRule, knownFault, closedFault, keyFault, ruleFault, certificateFault}
+use Rattle.judge.specs.Verdict.{lengthRight, lengthFault, layoutFault, missingFault, firstFault, onKind, kindFault}
+use Rattle.judge.specs.File.{countsOf}
+use Rattle.judge.specs.Verdict.{fine?, uncovered, uncoveredRule, knownFault, closedFault, keyFault, ruleFault, certificateFault}
 use Rattle.judge.specs.Verdict.{faultOf, verdictOf}
 use Rattle.judge.proofs.LayoutLaws.{found-below}
 
@@ -60,20 +61,20 @@ pub rule-at : {file : List ℕ} {i : ℕ} → Laid file → i < blockCount file 
 rule-at {i = i} laid inside same kind five = rw same (laid .rules i inside (ap kindOf (sym same) ∙ sym kind ∙ five))
 
 module _ (c : Certificate) (file : List ℕ) (i : ℕ) {b : List ℕ} (same : b ≡ blockAt file i) {k : ℕ} (kind : k ≡ kindOf b) where
-  pub open-other : (k ≡ 5 → ⊥) → Fine ≡ judgedOf (onKind 5 (openRule c) file i)
+  pub open-other : (k ≡ 5 → ⊥) → Fine ≡ judgedOf (onKind 5 (uncoveredRule c) file i)
   unfolding judgedOf onKind
   open-other n = rw (← same, ne-eqb (kindOf b) 5 (λ e. n (kind ∙ e)), onKind)
 
   module _ (five : k ≡ 5) {u : Found} (said : u ≡ uncovered c (ruleOf b)) where
-    pub open-found : {n m : ℕ} → u ≡ At n → m ≡ firstCount b → Faulty (Uncovered i (m + n)) ≡ judgedOf (onKind 5 (openRule c) file i)
-    unfolding judgedOf onKind openRule
-    open-found h count = rw (← same, eq-eqb (kindOf b) 5 (sym kind ∙ five), ← same, ← said, h, ← same, count, onKind, openRule)
+    pub open-found : {n m : ℕ} → u ≡ At n → m ≡ firstCount b → Faulty (Uncovered i (m + n)) ≡ judgedOf (onKind 5 (uncoveredRule c) file i)
+    unfolding judgedOf onKind uncoveredRule
+    open-found h count = rw (← same, eq-eqb (kindOf b) 5 (sym kind ∙ five), ← same, ← said, h, ← same, count, onKind, uncoveredRule)
 
-    pub open-fine : u ≡ Nothing → Fine ≡ judgedOf (onKind 5 (openRule c) file i)
-    unfolding judgedOf onKind openRule
-    open-fine h = rw (← same, eq-eqb (kindOf b) 5 (sym kind ∙ five), ← same, ← said, h, onKind, openRule)
+    pub open-fine : u ≡ Nothing → Fine ≡ judgedOf (onKind 5 (uncoveredRule c) file i)
+    unfolding judgedOf onKind uncoveredRule
+    open-fine h = rw (← same, eq-eqb (kindOf b) 5 (sym kind ∙ five), ← same, ← said, h, onKind, uncoveredRule)
 
-pub rule-start : (c : Certificate) (file : List ℕ) → firstFault (onKind 5 (openRule c) file) 0 (blockCount file - 0) ≡ ruleFault c file
+pub rule-start : (c : Certificate) (file : List ℕ) → firstFault (onKind 5 (uncoveredRule c) file) 0 (blockCount file - 0) ≡ ruleFault c file
 unfolding ruleFault kindFault
 rule-start c file = let all : blockCount file - 0 ≡ blockCount file = omega arith in rw all
 

@@ -14,7 +14,8 @@ use Rattle.terms.specs.Each.{Each, each-of, each-take}
 use Rattle.terms.specs.TermLaws.{TermRight, one-begins, right-term, secret-message}
 use Rattle.judge.specs.File.{blockCount, patternOf}
 use Rattle.judge.specs.Laid.{TermBlock, RuleBlock, SecretBlock, GoodBlock, Laid}
-use Rattle.judge.specs.Verdict.{lengthRight, lengthFault, fileAtoms, usedEntries, blockFault, layoutFrom, layoutFault}
+use Rattle.judge.specs.Verdict.{lengthRight, lengthFault, blockFault, layoutFrom, layoutFault}
+use Rattle.judge.specs.File.{fileAtoms, usedEntries}
 use Rattle.judge.specs.Meaning.{LengthRight, BlockRight}
 use Rattle.judge.proofs.Exact.{first-block}
 use Rattle.judge.proofs.Judged.{length-judged, used-length, block-judged}

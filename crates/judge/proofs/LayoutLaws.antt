@@ -32,9 +32,11 @@ use Rattle.judge.specs.declared.layout.Judged.{Judged}
 use Rattle.judge.specs.declared.layout.Judged.the-variants.{Fine, Faulty}
 use Rattle.judge.specs.File.{blockCount, blocksFrom, blocksOf, ofKind}
 use Rattle.judge.specs.Judgement.{judgedOf, Spelled}
-use Rattle.judge.specs.Verdict.{lengthRight, kindRight, fileAtoms, usedEntries, atomFault, entryFault, rootRight, patternFault}
+use Rattle.judge.specs.Verdict.{lengthRight, kindRight, atomFault, entryFault, rootRight, patternFault}
+use Rattle.judge.specs.File.{fileAtoms, usedEntries}
 use Rattle.judge.specs.Verdict.{conclusionFault, rulePartsFault, termFault, entriesFault, blockFault, firstFault, layoutFrom}
-use Rattle.judge.specs.Verdict.{layoutFault, kindCount, missingFault, countsOf}
+use Rattle.judge.specs.Verdict.{layoutFault, missingFault}
+use Rattle.judge.specs.File.{kindCount, countsOf}
 use Rattle.judge.proofs.Judged.{used-length}
 
 -- ---- what the code's answer tells

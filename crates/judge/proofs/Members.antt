@@ -14,7 +14,7 @@ use Rattle.terms.specs.Decisions.{says-eq}
 use Rattle.terms.specs.Solve.{Says}
 use Rattle.judge.specs.File.{blocksFrom, blocksOf, ofKind, blockCount}
 use Rattle.judge.specs.Meaning.{HasKind}
-use Rattle.judge.specs.Verdict.{kindCount}
+use Rattle.judge.specs.File.{kindCount}
 
 -- The block of a kind at a number.
 pub record BlockOf (file : List ℕ) (kind : ℕ) (b : List ℕ) : Type 0 where

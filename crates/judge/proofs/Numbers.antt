@@ -31,7 +31,7 @@ use Rattle.judge.specs.File.{patternOf, secretOf, certificateOf}
 use Rattle.judge.specs.Laid.{SecretBlock, GoodBlock}
 use Rattle.judge.specs.Conditions.{KnownAtom, WeaklyClosed, KeptKey}
 use Rattle.judge.specs.Decisions.{known-atom?, weakly-closed?, kept-key?}
-use Rattle.judge.specs.Verdict.{firstFault, onKind, knownSecret, openSecret, looseKey}
+use Rattle.judge.specs.Verdict.{firstFault, onKind, knownSecret, unclosedSecret, unkeptKey}
 use Rattle.judge.specs.Listed.{IsSecret, is-secret?, TermPart, faultIf}
 use Rattle.judge.proofs.ListedLaws.{answer-says, asTerm-only, secret-is}
 use Rattle.judge.proofs.Listing.{secret-term}
@@ -241,17 +241,17 @@ module _ {file : List ℕ} {i : ℕ} {e : List ℕ} (part : TermPart file i e) w
         ap (λ (b : Bool). faultIf b (KnownSecret i)) is ∙ on-kind file 2 i (knownSecret c) k
 
     pub open-fault : kindOf (blockAt file i) ≡ 2 → SecretBlock (blockAt file i)
-        → ((m : Message) → termOf e ≡ asTerm m → Says b (WeaklyClosed c m)) → faultIf (not b) (NotClosed i) ≡ onKind 2 (openSecret c) file i
-    unfolding openSecret
+        → ((m : Message) → termOf e ≡ asTerm m → Says b (WeaklyClosed c m)) → faultIf (not b) (NotClosed i) ≡ onKind 2 (unclosedSecret c) file i
+    unfolding unclosedSecret
     open-fault k s says =
         let is = says-answer b (says (secretOf (blockAt file i)) (message-at s)) (weakly-closed? c (secretOf (blockAt file i))) in
-        fault-unless b (NotClosed i) ∙ ap (λ (b : Bool). faultUnless b (NotClosed i)) is ∙ on-kind file 2 i (openSecret c) k
+        fault-unless b (NotClosed i) ∙ ap (λ (b : Bool). faultUnless b (NotClosed i)) is ∙ on-kind file 2 i (unclosedSecret c) k
 
-    pub loose-fault : kindOf (blockAt file i) ≡ 3 → Says b (KeptKey c (termOf e)) → faultIf (not b) (KeyNotKept i) ≡ onKind 3 (looseKey c) file i
-    unfolding looseKey
+    pub loose-fault : kindOf (blockAt file i) ≡ 3 → Says b (KeptKey c (termOf e)) → faultIf (not b) (KeyNotKept i) ≡ onKind 3 (unkeptKey c) file i
+    unfolding unkeptKey
     loose-fault k says =
         let is = says-answer b (subst (λ (t : Term Variable). Says b (KeptKey c t)) (sym pattern-at) says) (kept-key? c (patternOf (blockAt file i))) in
-        fault-unless b (KeyNotKept i) ∙ ap (λ (b : Bool). faultUnless b (KeyNotKept i)) is ∙ on-kind file 3 i (looseKey c) k
+        fault-unless b (KeyNotKept i) ∙ ap (λ (b : Bool). faultUnless b (KeyNotKept i)) is ∙ on-kind file 3 i (unkeptKey c) k
 
   -- The root of a good pattern is an encryption.
   pub good-root : GoodBlock (blockAt file i) → IsEncryption (termOf e)

@@ -9,7 +9,7 @@ use Rattle.terms.specs.EntryLaws.{termOf-reads}
 use Rattle.terms.specs.OneTerm.{OneTerm}
 use Rattle.terms.specs.TermLaws.{one-alone}
 use Rattle.terms.specs.PlaceLaws.{spot-placed, placed-reads}
-use Rattle.judge.specs.Verdict.{spotAt}
+use Rattle.judge.specs.Cover.{spotAt}
 
 -- Of entries that are exactly one term.
 pub spot-entry : {e : List ℕ} → OneTerm e → (k : ℕ) → k < size (termOf e) → termOf (drop (4 * k) e) ≡ spotAt (termOf e) k .1

@@ -13,7 +13,8 @@ use Rattle.terms.specs.declared.valid.Found.the-variants.{At, Nothing}
 use Rattle.terms.specs.Term.{Term, Variable}
 use Rattle.terms.specs.Place.{Place, subtermAt}
 use Rattle.terms.specs.Entry.{size}
-use Rattle.terms.specs.Search.{Spot, spots, in-spots, spots-stand}
+use Rattle.terms.specs.Search.{in-spots, spots-stand}
+use Rattle.terms.specs.Place.{Spot, spots}
 use Rattle.terms.specs.PlaceLaws.{spots-length}
 use Rattle.terms.specs.First.{firstNot}
 use Rattle.terms.specs.Decide.{answer}
@@ -28,9 +29,12 @@ use Rattle.judge.specs.File.{blockCount, patternOf, secretOf, ruleOf, ce
 use Rattle.judge.specs.Cover.{Risky, Covered, Dead, Passes, dead, covered}
 use Rattle.judge.specs.Conditions.{KnownAtom}
 use Rattle.judge.specs.Decisions.{known-atom?, weakly-closed?, kept-key?, risky?, dead?}
-use Rattle.judge.specs.Verdict.{kindCount, missingFault, onKind, kindFault, knownSecret, openSecret, looseKey, spotAt, FineAt, fine?}
-use Rattle.judge.specs.Verdict.{uncovered, openRule, knownFault, closedFault, keyFault, ruleFault, certificateFault}
-use Rattle.judge.specs.Verdict.{lengthFault, layoutFrom, layoutFault, faultOf, countsOf, verdictOf, blockFault}
+use Rattle.judge.specs.Verdict.{missingFault, onKind, kindFault, knownSecret, unclosedSecret, unkeptKey, fine?}
+use Rattle.judge.specs.Cover.{spotAt, FineAt}
+use Rattle.judge.specs.File.{kindCount}
+use Rattle.judge.specs.Verdict.{uncovered, uncoveredRule, knownFault, closedFault, keyFault, ruleFault, certificateFault}
+use Rattle.judge.specs.Verdict.{lengthFault, layoutFrom, layoutFault, faultOf, verdictOf, blockFault}
+use Rattle.judge.specs.File.{countsOf}
 use Rattle.judge.specs.Meaning.{LengthRight, BlockRight, BlockFaulty, HasKind, Formed, Every, Unknown, Closed, Kept, Passing}
 use Rattle.judge.specs.Meaning.{FirstUncovered, Accepts, FirstAt, Faulty, lengthFails, blockFails, missing, secretKnown}
 use Rattle.judge.specs.Meaning.{secretNotClosed, keyNotKept, placeUncovered}
@@ -157,8 +161,8 @@ module _ (certificate : Certificate) (file : List ℕ) where
   ClosedWrong i g = (g ≡ NotClosed i) × (¬ Closed certificate (blockAt file i))
 
   closed-judged : Exact (Every 2 file (Closed certificate)) (KindWrong 2 file (Closed certificate) ClosedWrong) (closedFault certificate file)
-  unfolding closedFault openSecret
-  closed-judged = kind-judged 2 (openSecret certificate) file
+  unfolding closedFault unclosedSecret
+  closed-judged = kind-judged 2 (unclosedSecret certificate) file
       (λ i. tested (answer (weakly-closed? certificate (secretOf (blockAt file i)))) (NotClosed i)
       (says-decided (weakly-closed? certificate (secretOf (blockAt file i)))))
 
@@ -166,8 +170,8 @@ module _ (certificate : Certificate) (file : List ℕ) where
   KeyWrong i g = (g ≡ KeyNotKept i) × (¬ Kept certificate (blockAt file i))
 
   key-judged : Exact (Every 3 file (Kept certificate)) (KindWrong 3 file (Kept certificate) KeyWrong) (keyFault certificate file)
-  unfolding keyFault looseKey
-  key-judged = kind-judged 3 (looseKey certificate) file
+  unfolding keyFault unkeptKey
+  key-judged = kind-judged 3 (unkeptKey certificate) file
       (λ i. tested (answer (kept-key? certificate (patternOf (blockAt file i)))) (KeyNotKept i)
       (says-decided (kept-key? certificate (patternOf (blockAt file i)))))
 
@@ -175,8 +179,8 @@ module _ (certificate : Certificate) (file : List ℕ) where
   RuleWrong i g = RuleOpen certificate (ruleOf (blockAt file i)) (λ k. Uncovered i (firstCount (blockAt file i) + k)) g
 
   rule-judged : Exact (Every 5 file (Passing certificate)) (KindWrong 5 file (Passing certificate) RuleWrong) (ruleFault certificate file)
-  unfolding ruleFault openRule
-  rule-judged = kind-judged 5 (openRule certificate) file
+  unfolding ruleFault uncoveredRule
+  rule-judged = kind-judged 5 (uncoveredRule certificate) file
       (λ i. passes-judged certificate (ruleOf (blockAt file i)) (λ k. Uncovered i (firstCount (blockAt file i) + k)))
 
   abbrev Judged : Type 0

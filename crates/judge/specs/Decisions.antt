@@ -15,7 +15,8 @@ use Rattle.terms.specs.Decide as decide
 use Rattle.terms.specs.Instance.{Matches, Share}
 use Rattle.terms.specs.Decisions.{dec-map, dec-not, dec-and, dec-or, dec-implies}
 use Rattle.terms.specs.Search.{any?, all?, member?, any-above?}
-use Rattle.terms.specs.Search.{all-above?, at-or-above?, Spot, Stands, any-place?, all-places?}
+use Rattle.terms.specs.Search.{all-above?, at-or-above?, Stands, any-place?, all-places?}
+use Rattle.terms.specs.Place.{Spot}
 use Rattle.judge.specs.Certificate.{Rule, Certificate, Secret, Good, Bad, Known, inverse}
 use Rattle.judge.specs.Hat.{Mark}
 use Rattle.judge.specs.Cover.{SureHat, NoHat, sharesNoGood, isBad, Open, AtOpenPlace, Risky, isVariable}

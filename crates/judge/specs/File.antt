@@ -2,13 +2,14 @@
 use mathlib.Core.Bool.{Bool, true, false}
 use mathlib.Core.List.{List, [], _∷_, map}
 use mathlib.Core.Option.{Option, none, some}
-use Prim.Native.Nat.{ℕ, zero, suc, _/_}
+use Prim.Native.Nat.{ℕ, zero, suc, _+_, _*_, _/_}
 use lib.Dec.{eqb}
-use lib.ListN.{length}
-use Rattle.blocks.specs.Block.{blockAt, kindOf, firstCount, firstEntries, secondEntries}
+use lib.ListN.{length, take}
+use Rattle.blocks.specs.Block.{blockAt, kindOf, firstCount, secondCount, entriesOf, firstEntries, secondEntries}
 use Rattle.terms.specs.Term.{Term, Message, Variable, atom, instance}
 use Rattle.terms.specs.Entry.{termOf}
-use Rattle.terms.specs.Atom.{atomsOf}
+use Rattle.terms.specs.Atom.{Atom, atomsOf}
+use Rattle.judge.specs.declared.verdict.Counts.{Counts}
 use Rattle.judge.specs.Certificate.{Certificate, Rule}
 
 -- The blocks of a file from block i on, so many of them.
@@ -28,6 +29,28 @@ blocksOf file = blocksFrom file 0 (blockCount file)
 unfoldable pub ofKind : ℕ → List (List ℕ) → List (List ℕ)
 ofKind kind [] = []
 ofKind kind (b ∷ l) = elim (eqb (kindOf b) kind) [ true ↦ b ∷ ofKind kind l | false ↦ ofKind kind l ]
+
+-- How many blocks are of this kind.
+unfoldable pub kindCount : ℕ → List ℕ → ℕ
+kindCount kind file = length (ofKind kind (blocksOf file))
+
+-- The counts that are reported on acceptance.
+unfoldable pub countsOf : List ℕ → Counts
+countsOf file = record {
+  blocks = blockCount file;
+  secrets = kindCount 2 file;
+  goods = kindCount 3 file;
+  bads = kindCount 4 file;
+  rules = kindCount 5 file;
+}
+
+-- The atoms of a file: those of its first block.
+unfoldable pub fileAtoms : List ℕ → List Atom
+fileAtoms file = atomsOf (firstEntries (blockAt file 0))
+
+-- The entries in use; in a rule, the premise's and then the conclusion's.
+unfoldable pub usedEntries : List ℕ → List ℕ
+usedEntries b = take (4 * (firstCount b + secondCount b)) (entriesOf b)
 
 -- The term of a block of kind 2 to 4.
 unfoldable pub patternOf : List ℕ → Term Variable

@@ -19,7 +19,8 @@ use Rattle.judge.specs.Certificate.{Certificate, Rule}
 use Rattle.judge.specs.File.{blockCount, patternOf, secretOf, ruleOf, certificateOf}
 use Rattle.judge.specs.Cover.{Risky, Covered, Dead, Passes}
 use Rattle.judge.specs.Conditions.{KnownAtom, WeaklyClosed, KeptKey}
-use Rattle.judge.specs.Verdict.{fileAtoms, usedEntries, spotAt, FineAt}
+use Rattle.judge.specs.Cover.{spotAt, FineAt}
+use Rattle.judge.specs.File.{fileAtoms, usedEntries}
 
 -- 1: not length 0, a multiple of 512, not above 32,768.
 pub record LengthRight (file : List ℕ) : Type 0 where

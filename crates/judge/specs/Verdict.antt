@@ -19,9 +19,8 @@ use Rattle.terms.specs.TermEntry.{wrongEntry}
 use Rattle.terms.specs.OneTerm.{oneTerm?, encryption?}
 use Rattle.terms.specs.First.{firstNot}
 use Rattle.terms.specs.Decisions.{dec-implies}
-use Rattle.terms.specs.Search.{Spot, spots}
+use Rattle.terms.specs.Place.{spots}
 use Rattle.terms.specs.Decide.{answer}
-use Rattle.judge.specs.declared.verdict.Counts.{Counts}
 use Rattle.judge.specs.declared.verdict.Fault.{Fault}
 use Rattle.judge.specs.declared.verdict.Fault.the-variants.{Length, Check, Kind, Missing, Layout, AtomEntry, TermEntry}
 use Rattle.judge.specs.declared.verdict.Fault.the-variants.{NotOneTerm, KnownSecret, NotClosed, KeyNotKept, Uncovered}
@@ -29,7 +28,8 @@ use Rattle.judge.specs.declared.verdict.Verdict.{Verdict}
 use Rattle.judge.specs.declared.verdict.Verdict.the-variants.{Accepted, Refused}
 use Rattle.judge.specs.Certificate.{Certificate, Rule}
 use Rattle.judge.specs.File.{blockCount, blocksFrom, blocksOf, ofKind, patternOf, secretOf, ruleOf, certificateOf}
-use Rattle.judge.specs.Cover.{Risky, Covered}
+use Rattle.judge.specs.File.{fileAtoms, usedEntries, kindCount, countsOf}
+use Rattle.judge.specs.Cover.{spotAt, FineAt}
 use Rattle.judge.specs.Decisions.{known-atom?, weakly-closed?, kept-key?, risky?, covered?, dead?}
 
 -- ---- number 1
@@ -48,14 +48,6 @@ unfoldable pub kindRight : List ℕ → ℕ → Bool
 kindRight file zero = eqb (kindOf (blockAt file 0)) 1
 kindRight file (suc i) =
     within 2 5 (kindOf (blockAt file (suc i))) && leb (kindOf (blockAt file i)) (kindOf (blockAt file (suc i)))
-
--- The atoms of a file: those of its first block.
-unfoldable pub fileAtoms : List ℕ → List Atom
-fileAtoms file = atomsOf (firstEntries (blockAt file 0))
-
--- The entries in use; in a rule, the premise's and then the conclusion's.
-unfoldable pub usedEntries : List ℕ → List ℕ
-usedEntries b = take (4 * (firstCount b + secondCount b)) (entriesOf b)
 
 -- 6: "atom entry wrong".
 unfoldable pub atomFault : ℕ → List ℕ → Option Fault
@@ -122,24 +114,11 @@ layoutFrom file i left = firstFault (blockFault file) i left
 unfoldable pub layoutFault : List ℕ → Option Fault
 layoutFault file = layoutFrom file 0 (blockCount file)
 
--- ---- number 4 and the counts
-
-unfoldable pub kindCount : ℕ → List ℕ → ℕ
-kindCount kind file = length (ofKind kind (blocksOf file))
+-- ---- number 4
 
 -- 4: "no secret or no rule".
 unfoldable pub missingFault : List ℕ → Option Fault
 missingFault file = elim (leb 1 (kindCount 2 file) && leb 1 (kindCount 5 file)) [ true ↦ none | false ↦ some (Missing (blockCount file)) ]
-
--- The counts that are reported on acceptance.
-unfoldable pub countsOf : List ℕ → Counts
-countsOf file = record {
-  blocks = blockCount file;
-  secrets = kindCount 2 file;
-  goods = kindCount 3 file;
-  bads = kindCount 4 file;
-  rules = kindCount 5 file;
-}
 
 -- ---- numbers 9 to 12: the certificate
 
@@ -156,22 +135,12 @@ unfoldable pub knownSecret : Certificate → ℕ → List ℕ → Option Fault
 knownSecret certificate i b = elim (answer (known-atom? certificate (secretOf b))) [ true ↦ some (KnownSecret i) | false ↦ none ]
 
 -- 10: "secret not weakly closed".
-unfoldable pub openSecret : Certificate → ℕ → List ℕ → Option Fault
-openSecret certificate i b = elim (answer (weakly-closed? certificate (secretOf b))) [ true ↦ none | false ↦ some (NotClosed i) ]
+unfoldable pub unclosedSecret : Certificate → ℕ → List ℕ → Option Fault
+unclosedSecret certificate i b = elim (answer (weakly-closed? certificate (secretOf b))) [ true ↦ none | false ↦ some (NotClosed i) ]
 
 -- 11: "inverse of a good pattern's root key is not a listed secret".
-unfoldable pub looseKey : Certificate → ℕ → List ℕ → Option Fault
-looseKey certificate i b = elim (answer (kept-key? certificate (patternOf b))) [ true ↦ none | false ↦ some (KeyNotKept i) ]
-
--- Place k of a term, with the subterm there: the places in the order of the entries.
-unfoldable pub spotAt : Term Variable → ℕ → Spot Variable
-spotAt t k = getD (spots t) k ([], t)
-
--- Place k of the conclusion is covered if it is risky.
-abbrev pub FineAt : Certificate → Rule → ℕ → Type 0
-FineAt certificate rule k =
-    Risky certificate (spotAt (rule .conclusion) k .1)
-    → Covered certificate rule (spotAt (rule .conclusion) k .0) (spotAt (rule .conclusion) k .1)
+unfoldable pub unkeptKey : Certificate → ℕ → List ℕ → Option Fault
+unkeptKey certificate i b = elim (answer (kept-key? certificate (patternOf b))) [ true ↦ none | false ↦ some (KeyNotKept i) ]
 
 unfoldable pub fine? : (certificate : Certificate) (rule : Rule) (k : ℕ) → Dec (FineAt certificate rule k)
 fine? certificate rule k =
@@ -186,21 +155,21 @@ uncovered certificate rule = elim (answer (dead? certificate rule)) [
 ]
 
 -- 12: "risky place not covered"; the place is the entry's number in the block.
-unfoldable pub openRule : Certificate → ℕ → List ℕ → Option Fault
-openRule certificate i b =
+unfoldable pub uncoveredRule : Certificate → ℕ → List ℕ → Option Fault
+uncoveredRule certificate i b =
     elim (uncovered certificate (ruleOf b)) [ At k ↦ some (Uncovered i (firstCount b + k)) | Nothing ↦ none ]
 
 unfoldable pub knownFault : Certificate → List ℕ → Option Fault
 knownFault certificate file = kindFault 2 (knownSecret certificate) file
 
 unfoldable pub closedFault : Certificate → List ℕ → Option Fault
-closedFault certificate file = kindFault 2 (openSecret certificate) file
+closedFault certificate file = kindFault 2 (unclosedSecret certificate) file
 
 unfoldable pub keyFault : Certificate → List ℕ → Option Fault
-keyFault certificate file = kindFault 3 (looseKey certificate) file
+keyFault certificate file = kindFault 3 (unkeptKey certificate) file
 
 unfoldable pub ruleFault : Certificate → List ℕ → Option Fault
-ruleFault certificate file = kindFault 5 (openRule certificate) file
+ruleFault certificate file = kindFault 5 (uncoveredRule certificate) file
 
 -- 9, 10, 11, 12, each over all blocks.
 unfoldable pub certificateFault : Certificate → List ℕ → Option Fault
@@ -237,7 +206,7 @@ verdictOf file = elim (faultOf file) [ some f ↦ Refused f | none ↦ Accepted 
 -- The same, for theorems by computation: `unfolding computing` opens all that the verdict of a whole file asks.
 unfoldable pub computing : List ℕ → Verdict
 unfolding verdictOf faultOf countsOf lengthFault lengthRight layoutFault layoutFrom missingFault certificateFault
-    knownFault closedFault keyFault ruleFault kindFault onKind firstFault knownSecret openSecret looseKey openRule
+    knownFault closedFault keyFault ruleFault kindFault onKind firstFault knownSecret unclosedSecret unkeptKey uncoveredRule
     uncovered fine? spotAt blockFault kindRight fileAtoms usedEntries entriesFault atomFault entryFault termFault
     patternFault rulePartsFault conclusionFault rootRight kindCount
     blocksOf blocksFrom ofKind patternOf secretOf ruleOf certificateOf

@@ -5,7 +5,7 @@ ghost use Rattle.judge.specs.File.{blockCount, certificateOf};
 ghost use Rattle.judge.specs.Laid.{Laid};
 ghost use Rattle.judge.specs.Judgement.{judgedOf, OnlyRulesFrom, Heads};
 ghost use Rattle.judge.specs.Listed.{RootsOf};
-ghost use Rattle.judge.specs.Verdict.{onKind, openRule, ruleFault, certificateFault, faultOf, verdictOf};
+ghost use Rattle.judge.specs.Verdict.{onKind, uncoveredRule, ruleFault, certificateFault, faultOf, verdictOf};
 use crate::cover;
 use crate::layout;
 use crate::layout::Judged;
@@ -31,9 +31,9 @@ fn leading(file: &[u8]) -> usize
 
 // Number 12 at block i, if it is a rule: its first place that is risky and not covered. What the file lists is read from
 // its head.
-fn open_rule(file: &[u8], head: &[u8], roots: &[u8; 256], i: usize) -> Judged
+fn uncovered_at(file: &[u8], head: &[u8], roots: &[u8; 256], i: usize) -> Judged
     requires { ⌜ Laid (now file) × (i < blockCount (now file)) × Heads (now head) (now file) × RootsOf (now head) (now roots) ⌝ }
-    ensures { λ r. ⌜ r ≡ judgedOf (onKind 5 (openRule (certificateOf (now (file .entry)))) (now (file .entry)) i) ⌝ }
+    ensures { λ r. ⌜ r ≡ judgedOf (onKind 5 (uncoveredRule (certificateOf (now (file .entry)))) (now (file .entry)) i) ⌝ }
 {
     let block = blocks::block(file, i);
     if blocks::kind(block) != 5 {
@@ -59,7 +59,7 @@ fn rule_fault(file: &[u8]) -> Judged
     let count = file.len() / 512;
     let mut i = 0;
     while i < count {
-        match open_rule(file, head, &roots, i) {
+        match uncovered_at(file, head, &roots, i) {
             Judged::Faulty(f) => return Judged::Faulty(f),
             Judged::Fine => i += 1,
         }

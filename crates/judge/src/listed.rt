@@ -14,7 +14,7 @@ ghost use Rattle.judge.specs.Certificate.{Secret, inverse};
 ghost use Rattle.judge.specs.File.{blockCount, certificateOf};
 ghost use Rattle.judge.specs.Laid.{Laid, TermBlock};
 ghost use Rattle.judge.specs.Conditions.{KnownAtom, WeaklyClosed, KeptKey};
-ghost use Rattle.judge.specs.Verdict.{onKind, knownSecret, openSecret, looseKey, knownFault, closedFault, keyFault};
+ghost use Rattle.judge.specs.Verdict.{onKind, knownSecret, unclosedSecret, unkeptKey, knownFault, closedFault, keyFault};
 ghost use Rattle.judge.specs.Listed.{HoldsAt, Searching, TermPart, matches-listed?, shares-listed?, is-secret?, faultIf, faultFound, Inside};
 ghost use Rattle.judge.specs.Listed.{FlaggedMore, RootsOf, NoRoot};
 ghost use Rattle.judge.specs.declared.verdict.Fault.the-variants.{KnownSecret, NotClosed, KeyNotKept};
@@ -251,9 +251,9 @@ fn is_closed(file: &[u8], e: &[u8]) -> bool
 }
 
 // Is block i a secret's, and its secret not weakly closed?
-fn open_at(file: &[u8], i: usize) -> bool
+fn unclosed_at(file: &[u8], i: usize) -> bool
     requires { ⌜ Laid (now file) × (i < blockCount (now file)) ⌝ }
-    ensures { λ r. ⌜ faultIf r (NotClosed i) ≡ onKind 2 (openSecret (certificateOf (now (file .entry)))) (now (file .entry)) i ⌝ }
+    ensures { λ r. ⌜ faultIf r (NotClosed i) ≡ onKind 2 (unclosedSecret (certificateOf (now (file .entry)))) (now (file .entry)) i ⌝ }
 {
     if is_kind(file, i, 2) {
         !is_closed(file, term_at(file, i))
@@ -271,7 +271,7 @@ pub fn not_closed(file: &[u8]) -> Found
     let count = file.len() / 512;
     let mut i = 0;
     while i < count {
-        if open_at(file, i) {
+        if unclosed_at(file, i) {
             return Found::At(i);
         }
         i += 1;
@@ -301,9 +301,9 @@ fn is_kept(file: &[u8], e: &[u8]) -> bool
 }
 
 // Is block i a good pattern's, and the inverse of its root key no listed secret?
-fn loose_at(file: &[u8], i: usize) -> bool
+fn unkept_at(file: &[u8], i: usize) -> bool
     requires { ⌜ Laid (now file) × (i < blockCount (now file)) ⌝ }
-    ensures { λ r. ⌜ faultIf r (KeyNotKept i) ≡ onKind 3 (looseKey (certificateOf (now (file .entry)))) (now (file .entry)) i ⌝ }
+    ensures { λ r. ⌜ faultIf r (KeyNotKept i) ≡ onKind 3 (unkeptKey (certificateOf (now (file .entry)))) (now (file .entry)) i ⌝ }
 {
     if is_kind(file, i, 3) {
         !is_kept(file, term_at(file, i))
@@ -321,7 +321,7 @@ pub fn key_not_kept(file: &[u8]) -> Found
     let count = file.len() / 512;
     let mut i = 0;
     while i < count {
-        if loose_at(file, i) {
+        if unkept_at(file, i) {
             return Found::At(i);
         }
         i += 1;

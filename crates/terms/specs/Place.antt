@@ -1,7 +1,7 @@
 -- Places (document 01, "Messages, intruder, runs"): "A place is a subterm's spot. The key of an encryption is no place"
 -- (the paper's non-critical position).
 use mathlib.Core.Path.{_≡_}
-use mathlib.Core.List.{List, [], _∷_, _++_}
+use mathlib.Core.List.{List, [], _∷_, _++_, map}
 use mathlib.Core.Option.{Option, none, some}
 use Rattle.terms.specs.Term.{Term, variable, atom, pair, encrypted}
 
@@ -42,3 +42,17 @@ pub record StrictlyAbove (q p : Place) : Type 0 where
 pub record AtOrAbove (q p : Place) : Type 0 where
   pub rest : Place
   pub split : p ≡ q ++ rest
+
+-- One of a term's places, with the subterm there.
+abbrev pub Spot : Type 0 → Type 0
+Spot X = Place × Term X
+
+abbrev pub down : {X : Type 0} → Turn → Spot X → Spot X
+down a w = (a ∷ w .0, w .1)
+
+-- All of them in the order of the entries: parents before children, left before right.
+unfoldable pub spots : {X : Type 0} → Term X → List (Spot X)
+spots (variable x) = ([], variable x) ∷ []
+spots (atom a) = ([], atom a) ∷ []
+spots (pair t u) = ([], pair t u) ∷ (map (down left) (spots t) ++ map (down right) (spots u))
+spots (encrypted k t) = ([], encrypted k t) ∷ map (down inside) (spots t)

@@ -18,7 +18,7 @@ use Rattle.terms.specs.Entry.{size, termOf, Reads, Begins}
 use Rattle.terms.specs.EntryLaws.{reads-pair, reads-encrypted, past, size-positive, termOf-reads, begins}
 use Rattle.terms.specs.WalkLaws.{from}
 use Rattle.terms.specs.Laws.{by-turns, subtermAt-append}
-use Rattle.terms.specs.Search.{Spot, spots}
+use Rattle.terms.specs.Place.{Spot, spots}
 
 -- The number of the entry at which a place of the term stands: parents before children, left before right.
 unfoldable pub entryAt : {X : Type 0} → Place → Term X → ℕ

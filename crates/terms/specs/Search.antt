@@ -7,7 +7,7 @@ use mathlib.Core.List.{Memᴰ·cast, Memᴰ·append-left, Memᴰ·append-right, 
 use mathlib.Core.Option.{some}
 use Rattle.terms.specs.Term.{Term, variable, atom, pair, encrypted}
 use Rattle.terms.specs.Place.{Turn, left, right, inside, Turn-discrete, Place, subtermAt}
-use Rattle.terms.specs.Place.{StrictlyAbove, AtOrAbove}
+use Rattle.terms.specs.Place.{StrictlyAbove, AtOrAbove, Spot, down, spots}
 use Rattle.terms.specs.Laws.{nothing-above-root, by-turns}
 use Rattle.terms.specs.Decisions.{dec-map, dec-not, dec-and, dec-or, dec-all}
 
@@ -70,22 +70,8 @@ at-or-above? (a ∷ q) (b ∷ p) =
     (λ x. (let e = x .split in cc, record { rest = x .rest; split = let e = x .split in cc }))
     (dec-and (Turn-discrete a b) (λ e. at-or-above? q p))
 
--- One of a term's places, with the subterm there.
-abbrev pub Spot : Type 0 → Type 0
-Spot X = Place × Term X
-
 abbrev pub Stands : {X : Type 0} → Term X → Spot X → Type 0
 Stands t w = subtermAt (w .0) t ≡ some (w .1)
-
-abbrev down : {X : Type 0} → Turn → Spot X → Spot X
-down a w = (a ∷ w .0, w .1)
-
--- All of them in the order of the entries: parents before children, left before right.
-unfoldable pub spots : {X : Type 0} → Term X → List (Spot X)
-spots (variable x) = ([], variable x) ∷ []
-spots (atom a) = ([], atom a) ∷ []
-spots (pair t u) = ([], pair t u) ∷ (map (down left) (spots t) ++ map (down right) (spots u))
-spots (encrypted k t) = ([], encrypted k t) ∷ map (down inside) (spots t)
 
 -- Every place is among them.
 pub in-spots : {X : Type 0} (p : Place) (t : Term X) {s : Term X} → subtermAt p t ≡ some s → List·Memᴰ (p, s) (spots t)

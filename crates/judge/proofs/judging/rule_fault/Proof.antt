@@ -2,7 +2,7 @@
 use mathlib.Core.Path.{_≡_, sym, _∙_}
 use Prim.Native.Nat.{_-_, _≤_}
 use Rattle.judge.specs.File.{blockCount, certificateOf}
-use Rattle.judge.specs.Verdict.{firstFault, onKind, openRule, ruleFault}
+use Rattle.judge.specs.Verdict.{firstFault, onKind, uncoveredRule, ruleFault}
 use Rattle.judge.proofs.Heads.{heads}
 use Rattle.judge.proofs.LayoutLaws.{fine-none, faulty-some, judged-none, judged-some, first-stop, first-more, first-end}
 use Rattle.judge.proofs.JudgingLaws.{rule-start}
@@ -13,7 +13,7 @@ use Rattle.judge.proofs.judging.rule_fault.Tie as tie
 abbrev Inv-loop : tie.InvT-loop
 Inv-loop file n head roots count i₀ i =
     (i ≤ blockCount file)
-    × (firstFault (onKind 5 (openRule (certificateOf file)) file) i (blockCount file - i) ≡ ruleFault (certificateOf file) file)
+    × (firstFault (onKind 5 (uncoveredRule (certificateOf file)) file) i (blockCount file - i) ≡ ruleFault (certificateOf file) file)
 
 abbrev μ-loop : tie.MeasureT-loop
 μ-loop file n head roots count i₀ i = blockCount file - i
@@ -31,18 +31,18 @@ rule-fault-spec = tie.close (tie.spec Inv-loop μ-loop
     let flagged = c .before .before .before in
     let led = flagged .before .before in
     let laid = led .before .before .pre in
-    (laid, c .before .loop-test .taken, heads laid (led .leading .ensures), flagged .secret-roots .ensures))  -- open-rule-requires
+    (laid, c .before .loop-test .taken, heads laid (led .leading .ensures), flagged .secret-roots .ensures))  -- uncovered-at-requires
     (λ c. search needs)  -- enum-known-f
     (λ c.
     let at = c .before .before .before in
     judged-some (sym (at .before .before .before .loop .inv .1) ∙ first-stop _ _ _ (at .before .before .loop-test .taken)
-    (faulty-some _ (at .open-rule .ensures) (c .before .f .given .1))))  -- returns
+    (faulty-some _ (at .uncovered-at .ensures) (c .before .f .given .1))))  -- returns
     (λ c. search needs)  -- enum-told
     (λ c. search needs)  -- add-i
     (λ c. search needs)  -- loop-less
     (λ c.
     let at = c .before .before in
-    let fine = fine-none _ (at .open-rule .ensures) (c .enum-told .given .1) in
+    let fine = fine-none _ (at .uncovered-at .ensures) (c .enum-told .given .1) in
     (search needs, first-more _ _ _ (at .before .before .loop-test .taken) fine ∙ at .before .before .before .loop .inv .1))  -- loop-again
     (λ c. judged-none (sym (c .before .loop .inv .1) ∙ first-end _ _ _ (c .loop-test .left)))  -- returns-2
     )

@@ -5,7 +5,7 @@ use Prim.Native.Nat.{_+_, _-_, _≤_}
 use native.Mathlib.Omega.{arith}
 use Rattle.blocks.specs.Block.{kindOf}
 use Rattle.judge.specs.File.{blockCount}
-use Rattle.judge.specs.Verdict.{kindCount}
+use Rattle.judge.specs.File.{kindCount}
 use Rattle.judge.proofs.LayoutLaws.{kindLeft, left-all, left-none, left-one, left-other}
 use borrow.Author.Needs.{needs}
 use Rattle.judge.proofs.layout.count_kind.Statement.{statement}

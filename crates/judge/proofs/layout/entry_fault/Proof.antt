@@ -2,7 +2,7 @@
 use mathlib.Core.Path.{_≡_}
 use Prim.Native.Nat.{_+_, _*_, _-_}
 use lib.ListN.{take, drop}
-use Rattle.judge.specs.Verdict.{usedEntries}
+use Rattle.judge.specs.File.{usedEntries}
 use Rattle.judge.proofs.LayoutLaws.{used-part, entry-small, entry-found, entry-fine}
 use borrow.Author.Needs.{needs}
 use Rattle.judge.proofs.layout.entry_fault.Statement.{statement}

@@ -3,13 +3,13 @@ use Prim.Native.Nat.{_-_}
 use borrow.Author.Needs.{needs}
 use Rattle.judge.specs.declared.verdict.Fault.the-variants.{KeyNotKept}
 use Rattle.judge.specs.File.{blockCount, certificateOf}
-use Rattle.judge.specs.Verdict.{onKind, looseKey, kindFault, keyFault}
+use Rattle.judge.specs.Verdict.{onKind, unkeptKey, kindFault, keyFault}
 use Rattle.judge.proofs.Numbers.{FaultFree, none-yet, one-on, first-fault, no-fault}
 use Rattle.judge.proofs.listed.key_not_kept.Statement.{statement}
 use Rattle.judge.proofs.listed.key_not_kept.Tie as tie
 
 abbrev Inv-loop : tie.InvT-loop
-Inv-loop file count i₀ i = FaultFree (onKind 3 (looseKey (certificateOf file)) file) (blockCount file) i
+Inv-loop file count i₀ i = FaultFree (onKind 3 (unkeptKey (certificateOf file)) file) (blockCount file) i
 
 abbrev μ-loop : tie.MeasureT-loop
 μ-loop file count i₀ i = blockCount file - i
@@ -18,12 +18,12 @@ pub key-not-kept-spec : {M : Type 1} → statement M
 unfolding keyFault kindFault
 key-not-kept-spec = tie.close (tie.spec Inv-loop μ-loop
     (λ c. none-yet)  -- loop-holds
-    (λ c κs. search needs)  -- loose-at-requires
-    (λ c. let at = c .before .loose-at in
+    (λ c κs. search needs)  -- unkept-at-requires
+    (λ c. let at = c .before .unkept-at in
     first-fault (c .before .before .loop-test .taken) (c .before .before .before .loop .inv) (at .result) (at .ensures) (c .if1 .taken))  -- returns
     (λ c. search needs)  -- add-i
     (λ c. search needs)  -- loop-less
-    (λ c. let at = c .before .loose-at in
+    (λ c. let at = c .before .unkept-at in
     one-on (KeyNotKept _) (c .before .before .loop-test .taken) (c .before .before .before .loop .inv) (at .result) (at .ensures) (c .if1 .left))  -- loop-again
     (λ c. (no-fault (c .loop-test .left) (c .before .loop .inv), tt))  -- returns-2
     )

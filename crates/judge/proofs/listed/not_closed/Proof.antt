@@ -3,13 +3,13 @@ use Prim.Native.Nat.{_-_}
 use borrow.Author.Needs.{needs}
 use Rattle.judge.specs.declared.verdict.Fault.the-variants.{NotClosed}
 use Rattle.judge.specs.File.{blockCount, certificateOf}
-use Rattle.judge.specs.Verdict.{onKind, openSecret, kindFault, closedFault}
+use Rattle.judge.specs.Verdict.{onKind, unclosedSecret, kindFault, closedFault}
 use Rattle.judge.proofs.Numbers.{FaultFree, none-yet, one-on, first-fault, no-fault}
 use Rattle.judge.proofs.listed.not_closed.Statement.{statement}
 use Rattle.judge.proofs.listed.not_closed.Tie as tie
 
 abbrev Inv-loop : tie.InvT-loop
-Inv-loop file count i₀ i = FaultFree (onKind 2 (openSecret (certificateOf file)) file) (blockCount file) i
+Inv-loop file count i₀ i = FaultFree (onKind 2 (unclosedSecret (certificateOf file)) file) (blockCount file) i
 
 abbrev μ-loop : tie.MeasureT-loop
 μ-loop file count i₀ i = blockCount file - i
@@ -18,12 +18,12 @@ pub not-closed-spec : {M : Type 1} → statement M
 unfolding closedFault kindFault
 not-closed-spec = tie.close (tie.spec Inv-loop μ-loop
     (λ c. none-yet)  -- loop-holds
-    (λ c κs. search needs)  -- open-at-requires
-    (λ c. let at = c .before .open-at in
+    (λ c κs. search needs)  -- unclosed-at-requires
+    (λ c. let at = c .before .unclosed-at in
     first-fault (c .before .before .loop-test .taken) (c .before .before .before .loop .inv) (at .result) (at .ensures) (c .if1 .taken))  -- returns
     (λ c. search needs)  -- add-i
     (λ c. search needs)  -- loop-less
-    (λ c. let at = c .before .open-at in
+    (λ c. let at = c .before .unclosed-at in
     one-on (NotClosed _) (c .before .before .loop-test .taken) (c .before .before .before .loop .inv) (at .result) (at .ensures) (c .if1 .left))  -- loop-again
     (λ c. (no-fault (c .loop-test .left) (c .before .loop .inv), tt))  -- returns-2
     )

@@ -1,15 +1,15 @@
--- `judge::listed::loose_at` meets its contract. Assumes nothing.
+-- `judge::listed::unkept_at` meets its contract. Assumes nothing.
 use borrow.Author.Needs.{needs}
 use Rattle.terms.specs.Decisions.{says-yes, says-no}
 use Rattle.judge.specs.File.{certificateOf}
-use Rattle.judge.specs.Verdict.{looseKey}
+use Rattle.judge.specs.Verdict.{unkeptKey}
 use Rattle.judge.proofs.Listing.{block-there}
 use Rattle.judge.proofs.Numbers.{good-root, loose-fault, other-fault}
-use Rattle.judge.proofs.listed.loose_at.Statement.{statement}
-use Rattle.judge.proofs.listed.loose_at.Tie as tie
+use Rattle.judge.proofs.listed.unkept_at.Statement.{statement}
+use Rattle.judge.proofs.listed.unkept_at.Tie as tie
 
-pub loose-at-spec : {M : Type 1} → statement M
-loose-at-spec = tie.close (tie.spec
+pub unkept-at-spec : {M : Type 1} → statement M
+unkept-at-spec = tie.close (tie.spec
     (λ c κs. search needs)  -- is-kind-requires
     (λ c κs. let s = c .before .before .before in let k = c .before .is-kind in
     block-there (s .pre .0) (search needs) (search needs) (s .pre .1) (k .result) (k .ensures) (c .if1 .taken))  -- term-at-requires
@@ -20,5 +20,5 @@ loose-at-spec = tie.close (tie.spec
     let kind = says-yes (k .result) (k .ensures) (c .before .before .if1 .taken) in
     loose-fault (c .before .term-at .ensures) (certificateOf (s .args .file .now)) (c .is-kept .result) kind (c .is-kept .ensures))  -- returns
     (λ c. let s = c .before .before .before in let k = c .before .is-kind in
-    other-fault (s .args .file .now) 3 (s .args .i) (looseKey (certificateOf (s .args .file .now))) (says-no (k .result) (k .ensures) (c .if1 .left)))  -- returns-2
+    other-fault (s .args .file .now) 3 (s .args .i) (unkeptKey (certificateOf (s .args .file .now))) (says-no (k .result) (k .ensures) (c .if1 .left)))  -- returns-2
     )

@@ -1,15 +1,15 @@
--- `judge::listed::open_at` meets its contract. Assumes nothing.
+-- `judge::listed::unclosed_at` meets its contract. Assumes nothing.
 use borrow.Author.Needs.{needs}
 use Rattle.terms.specs.Decisions.{says-yes, says-no}
 use Rattle.judge.specs.File.{certificateOf}
-use Rattle.judge.specs.Verdict.{openSecret}
+use Rattle.judge.specs.Verdict.{unclosedSecret}
 use Rattle.judge.proofs.Listing.{block-there}
 use Rattle.judge.proofs.Numbers.{open-fault, other-fault}
-use Rattle.judge.proofs.listed.open_at.Statement.{statement}
-use Rattle.judge.proofs.listed.open_at.Tie as tie
+use Rattle.judge.proofs.listed.unclosed_at.Statement.{statement}
+use Rattle.judge.proofs.listed.unclosed_at.Tie as tie
 
-pub open-at-spec : {M : Type 1} → statement M
-open-at-spec = tie.close (tie.spec
+pub unclosed-at-spec : {M : Type 1} → statement M
+unclosed-at-spec = tie.close (tie.spec
     (λ c κs. search needs)  -- is-kind-requires
     (λ c κs. let s = c .before .before .before in let k = c .before .is-kind in
     block-there (s .pre .0) (search needs) (search needs) (s .pre .1) (k .result) (k .ensures) (c .if1 .taken))  -- term-at-requires
@@ -19,6 +19,6 @@ open-at-spec = tie.close (tie.spec
     open-fault (c .before .term-at .ensures) (certificateOf (s .args .file .now)) (c .is-closed .result) kind
     (s .pre .0 .secrets (s .args .i) (s .pre .1) kind) (c .is-closed .ensures))  -- returns
     (λ c. let s = c .before .before .before in let k = c .before .is-kind in
-    other-fault (s .args .file .now) 2 (s .args .i) (openSecret (certificateOf (s .args .file .now)))
+    other-fault (s .args .file .now) 2 (s .args .i) (unclosedSecret (certificateOf (s .args .file .now)))
     (says-no (k .result) (k .ensures) (c .if1 .left)))  -- returns-2
     )

@@ -1,11 +1,11 @@
--- `judge::judging::open_rule` meets its contract. Assumes nothing.
+-- `judge::judging::uncovered_at` meets its contract. Assumes nothing.
 use mathlib.Core.Path.{_∙_}
 use Prim.Native.Nat.{_+_, _<_}
 use native.Mathlib.Omega.{arith}
 use Rattle.judge.proofs.JudgingLaws.{place-small, rule-at, open-other, open-found, open-fine}
 use borrow.Author.Needs.{needs}
-use Rattle.judge.proofs.judging.open_rule.Statement.{statement}
-use Rattle.judge.proofs.judging.open_rule.Tie as tie
+use Rattle.judge.proofs.judging.uncovered_at.Statement.{statement}
+use Rattle.judge.proofs.judging.uncovered_at.Tie as tie
 
 -- The place is an entry's number in the block.
 small : (c : tie.After-first-count) → c .first-count .result + c .before .before .k .given .0 .0 < 256
@@ -16,8 +16,8 @@ small c =
     let rule = rule-at (pre .0) (pre .1) (kind .before .block .ensures .0) (kind .kind .ensures) (at .before .if1 .left) in
     omega (arith, place-small _ rule (at .uncovered .ensures) (c .before .before .k .given .1), c .first-count .ensures .0)
 
-pub open-rule-spec : {M : Type 1} → statement M
-open-rule-spec = tie.close (tie.spec
+pub uncovered-at-spec : {M : Type 1} → statement M
+uncovered-at-spec = tie.close (tie.spec
     (λ c κs. search needs)  -- block-requires
     (λ c κs. search needs)  -- kind-requires
     (λ c. open-other _ _ _ (c .before .before .block .ensures .0) (c .before .kind .ensures) (c .if1 .taken))  -- returns
