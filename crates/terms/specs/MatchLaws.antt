@@ -220,6 +220,12 @@ module _ {p t bound : List ℕ} {at need : ℕ} (r : Ready p t at need bound) (s
         → (b : Bool) → Says b (Made (from 4 p) t (at + s) (need - 1) more) → Says b (Made p t at need bound)
     variable-step is new free b says = let m = variable-made is free in says-same b (m .1) (m .0) (rw new at says)
 
+    -- Where it is the last term, its end is not asked for.
+    pub variable-last : need ≡ 1 → Bindable t (getD bound x 0) at → Made p t at need bound
+    variable-last one free =
+        let last : need - 1 ≡ 0 = omega arith in
+        variable-step {s = size (termOf (from (4 * at) t))} refl {more = set bound x at} refl free true (made-none last)
+
     pub variable-clash : ¬ Bindable t (getD bound x 0) at → ¬ Made p t at need bound
     variable-clash off m = off (record { same = λ is. sym (m .agrees .held x (low, is)) ∙ variable-term refl (m .by) .0 (m .takes) .0 })
 

@@ -103,6 +103,9 @@ fn match_front(p: &[u8], t: &[u8], at: usize, need: usize, bound: [u8; 16]) -> b
     let x = slot(p);
     if x < 16 {
         if bindable(t, bound[x] as usize, at) {
+            if need == 1 {
+                return true;
+            }
             let past = at + entry::term_size(&t[4 * at..]);
             match_front(&p[4..], t, past, need - 1, bind(bound, x, at))
         } else {

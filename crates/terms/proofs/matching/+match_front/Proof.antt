@@ -2,7 +2,7 @@
 use borrow.Author.Needs.{needs}
 use lib.ListN.{length}
 use Rattle.terms.specs.FrontLaws.{said, denied}
-use Rattle.terms.specs.MatchLaws.{made-none, pattern-begins, subject-begins, comparable, variable-ready, variable-step, variable-clash}
+use Rattle.terms.specs.MatchLaws.{made-none, pattern-begins, subject-begins, comparable, variable-ready, variable-step, variable-last, variable-clash}
 use Rattle.terms.specs.MatchLaws.{symbol-ready, symbol-step, symbol-clash}
 use Prim.Native.Nat.{ℕ, _<_}
 use borrow.Fn.Kinds.{In}
@@ -54,12 +54,15 @@ pub +match-front-spec : {M : Type 1} → statement M
     (λ c. search needs)  -- match-front-cast-bindable
     (λ c κs. let pre = c .before .before .before .before .before .pre in
     comparable (pre .1) (c .before .before .if1 .left) (c .before .slot .ensures) (c .if2 .taken) (search needs))  -- match-front-bindable-requires
+    (λ c. let v = c .before .before .before in
+    variable-last (v .before .before .before .before .before .pre .1) (v .before .before .if1 .left) (v .before .slot .ensures) (v .if2 .taken)
+    (search needs) (c .if4 .taken) (said (c .before .if3 .taken) (c .before .before .bindable .ensures)))  -- match-front-returns-2
     (λ c. search needs)  -- match-front-mul-term-size
     (λ c. search needs)  -- match-front-sub-term-size
     (λ c. search needs)  -- match-front-part-term-size-start
     (λ c. search needs)  -- match-front-part-term-size-end
-    (λ c κs. let pre = c .before .before .before .before .before .before .before .before .pre in
-    let if1 = c .before .before .before .before .before .if1 in
+    (λ c κs. let pre = c .before .before .before .before .before .before .before .before .before .pre in
+    let if1 = c .before .before .before .before .before .before .if1 in
     subject-begins (pre .1) (if1 .left))  -- match-front-term-size-requires
     (λ c. search needs)  -- match-front-add-past
     (λ c. search needs)  -- match-front-sub-match-front
@@ -67,7 +70,7 @@ pub +match-front-spec : {M : Type 1} → statement M
     (λ c. search needs)  -- match-front-part-match-front-end
     (λ c. search needs)  -- match-front-sub-match-front-2
     (λ c κs. search needs)  -- match-front-bind-requires
-    (λ c κs. let v = c .before .before .before .before .before .before in (
+    (λ c κs. let v = c .before .before .before .before .before .before .before in (
       search needs,
       variable-ready (v .before .before .before .before .before .pre .1) (v .before .before .if1 .left) (v .before .slot .ensures)
           (v .if2 .taken) (search needs) (c .before .before .term-size .ensures .0) (c .bind .ensures),
@@ -85,24 +88,24 @@ pub +match-front-spec : {M : Type 1} → statement M
     (λ c. search needs)  -- match-front-shared-slice-read-children
     (λ c κs. search needs)  -- match-front-children-requires
     (λ c. search needs)  -- match-front-add-match-front-2
-    (λ c κs. let same-entry = c .before .before .before .before .same-entry in let if4 = c .before .before .before .if4 in
+    (λ c κs. let same-entry = c .before .before .before .before .same-entry in let if5 = c .before .before .before .if5 in
     let v = c .before .before .before .before .before .before in (
       search needs,
       symbol-ready (v .before .before .before .before .before .pre .1) (v .before .before .if1 .left) (v .before .slot .ensures)
-          (v .if2 .left) (said (if4 .taken) (same-entry .ensures)) (c .children .ensures .0),
+          (v .if2 .left) (said (if5 .taken) (same-entry .ensures)) (c .children .ensures .0),
     ))  -- match-front-match-front-requires-2
-    (λ c. let bindable = c .before .before .before .before .before .before .bindable in let if3 = c .before .before .before .before .before .if3 in
-    let term-size = c .before .before .before .term-size in let v = c .before .before .before .before .before .before .before in
+    (λ c. let bindable = c .before .before .before .before .before .before .before .bindable in let if3 = c .before .before .before .before .before .before .if3 in
+    let term-size = c .before .before .before .term-size in let v = c .before .before .before .before .before .before .before .before in
     variable-step (v .before .before .before .before .before .pre .1) (v .before .before .if1 .left) (v .before .slot .ensures) (v .if2 .taken)
     (search needs) (term-size .ensures .0) (c .before .bind .ensures) (said (if3 .taken) (bindable .ensures)) (c .match-front .result)
-    (c .match-front .ensures))  -- match-front-returns-2
+    (c .match-front .ensures))  -- match-front-returns-3
     (λ c. let v = c .before .before in
     variable-clash (v .before .before .before .before .before .pre .1) (v .before .before .if1 .left) (v .before .slot .ensures) (v .if2 .taken)
-    (search needs) (denied (c .if3 .left) (c .before .bindable .ensures)))  -- match-front-returns-3
-    (λ c. let same-entry = c .before .before .before .before .before .same-entry in let if4 = c .before .before .before .before .if4 in
+    (search needs) (denied (c .if3 .left) (c .before .bindable .ensures)))  -- match-front-returns-4
+    (λ c. let same-entry = c .before .before .before .before .before .same-entry in let if5 = c .before .before .before .before .if5 in
     let v = c .before .before .before .before .before .before .before in
     symbol-step (v .before .before .before .before .before .pre .1) (v .before .before .if1 .left) (v .before .slot .ensures) (v .if2 .left)
-    (said (if4 .taken) (same-entry .ensures)) (c .before .children .ensures .0) (c .match-front2 .result) (c .match-front2 .ensures))  -- match-front-returns-4
+    (said (if5 .taken) (same-entry .ensures)) (c .before .children .ensures .0) (c .match-front2 .result) (c .match-front2 .ensures))  -- match-front-returns-5
     (λ c. let v = c .before .before .before in
     symbol-clash (v .before .before .before .before .before .pre .1) (v .before .before .if1 .left) (v .before .slot .ensures) (v .if2 .left)
-    (denied (c .if4 .left) (c .before .same-entry .ensures)))  -- match-front-returns-5
+    (denied (c .if5 .left) (c .before .same-entry .ensures)))  -- match-front-returns-6
