@@ -217,7 +217,11 @@ module _ {file : List ℕ} (laid : Laid file) (rule : Rule) {e opened : List ℕ
 pub premise-is : {b e : List ℕ} → RuleBlock b → e ≡ firstEntries b → length e ≡ 4 * firstCount b → PremiseIs e (ruleOf b .premise)
 unfolding ruleOf
 premise-is {b} {e} block part long = record {
-  entries = record { some-term = λ off. rw part (block .premise (λ z. off (omega arith))); short = let l = block .premise-short in omega arith };
+  entries = record {
+    some-term = λ off. rw part (block .premise (λ z. off (omega arith)));
+    whole = λ off. rw part (block .premise-whole (λ z. off (omega arith)));
+    short = let l = block .premise-short in omega arith;
+  };
   empty = λ z. rw (eq-eqb (firstCount b) 0 (omega arith)) refl;
   term = λ off. rw (ne-eqb (firstCount b) 0 (λ z. off (omega arith)), part) refl;
 }
@@ -225,6 +229,9 @@ premise-is {b} {e} block part long = record {
 pub conclusion-is : {b e : List ℕ} → RuleBlock b → e ≡ secondEntries b → ruleOf b .conclusion ≡ termOf e
 unfolding ruleOf
 conclusion-is block part = rw part refl
+
+pub conclusion-whole : {b e : List ℕ} → RuleBlock b → e ≡ secondEntries b → 4 * size (termOf e) ≡ length e
+conclusion-whole block part = rw part (block .conclusion-whole)
 
 pub conclusion-begins : {b e : List ℕ} → RuleBlock b → e ≡ secondEntries b → Begins e
 conclusion-begins block part = rw part (block .conclusion)

@@ -11,7 +11,7 @@ use Rattle.blocks.specs.Layout.{CountsRight, atoms, term, rule}
 use Rattle.blocks.proofs.Layouts.{layout-fits}
 use Rattle.terms.specs.TermEntry.{EntryRight}
 use Rattle.terms.specs.Each.{Each, each-of, each-take}
-use Rattle.terms.specs.TermLaws.{TermRight, one-begins, right-term, secret-message}
+use Rattle.terms.specs.TermLaws.{TermRight, one-begins, one-whole, right-term, secret-message}
 use Rattle.judge.specs.File.{blockCount, patternOf}
 use Rattle.judge.specs.Laid.{TermBlock, RuleBlock, SecretBlock, GoodBlock, Laid}
 use Rattle.judge.specs.Verdict.{lengthRight, lengthFault, blockFault, layoutFrom, layoutFault}
@@ -69,6 +69,8 @@ module _ (file : List ℕ) (i : ℕ) (right : BlockRight file i) where
     fitting = fits;
     premise = λ n. one-begins (right .premise k n);
     conclusion = one-begins (right .conclusion k);
+    premise-whole = λ n. one-whole (right .premise k n);
+    conclusion-whole = one-whole (right .conclusion k);
     premise-short = short (omega arith);
     conclusion-short = second-short k;
   }

@@ -84,6 +84,7 @@ pub record Flags (flags : List ℕ) (P : ℕ → Type 0) : Type 0 where
 -- The entries of a term, or none: a rule's premise.
 pub record Entries (e : List ℕ) : Type 0 where
   pub some-term : ¬ (length e ≡ 0) → Begins e
+  pub whole : ¬ (length e ≡ 0) → 4 * size (termOf e) ≡ length e
   pub short : length e ≤ 252
 
 -- Entry k is open as far as the first n entries go: every encryption among them that stands strictly above it either
@@ -126,5 +127,6 @@ pub record Judging (file premise opened conclusion cover : List ℕ) : Type 0 wh
   pub laid : Laid file
   pub premise-opened : Opened premise opened
   pub term : Begins conclusion
+  pub whole : 4 * size (termOf conclusion) ≡ length conclusion
   pub short : length conclusion ≤ 252
   pub long : length cover ≡ 64

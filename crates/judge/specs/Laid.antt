@@ -5,7 +5,7 @@ use Prim.Native.Nat.{ℕ, _*_, _<_, _≤_}
 use lib.ListN.{length}
 use Rattle.blocks.specs.Block.{blockAt, kindOf, firstCount, secondCount, firstEntries, secondEntries, Fitting}
 use Rattle.terms.specs.Term.{Term, Message, Variable, encrypted, asTerm}
-use Rattle.terms.specs.Entry.{Begins}
+use Rattle.terms.specs.Entry.{Begins, termOf, size}
 use Rattle.judge.specs.File.{blockCount, patternOf}
 
 -- A block of kind 2 to 4 holds one term of at most 63 entries.
@@ -19,6 +19,8 @@ pub record RuleBlock (b : List ℕ) : Type 0 where
   pub fitting : Fitting b
   pub premise : (firstCount b ≡ 0 → ⊥) → Begins (firstEntries b)
   pub conclusion : Begins (secondEntries b)
+  pub premise-whole : (firstCount b ≡ 0 → ⊥) → 4 * size (termOf (firstEntries b)) ≡ length (firstEntries b)
+  pub conclusion-whole : 4 * size (termOf (secondEntries b)) ≡ length (secondEntries b)
   pub premise-short : firstCount b ≤ 63
   pub conclusion-short : secondCount b ≤ 63
 

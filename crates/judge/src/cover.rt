@@ -94,11 +94,11 @@ fn lay_hat(file: &[u8], e: &[u8], h: usize, cover: &mut [u8; 64])
 
 // The entries of e's term for which there is a sure hat.
 fn sure_hats(file: &[u8], e: &[u8]) -> [u8; 64]
-    requires { ⌜ Laid (now file) × Begins (now e) × (length (now e) ≤ 252) ⌝ }
+    requires { ⌜ Laid (now file) × Begins (now e) × (length (now e) ≤ 252) × (4 * size (termOf (now e)) ≡ length (now e)) ⌝ }
     ensures { λ r. ⌜ Flags r (HatBelow (certificateOf (now (file .entry))) (now (e .entry)) (size (termOf (now (e .entry))))) ⌝ }
 {
     let mut cover = [0u8; 64];
-    let count = entry::term_size(e);
+    let count = e.len() / 4;
     let mut h = 0;
     while h < count {
         lay_hat(file, e, h, &mut cover);
@@ -134,10 +134,10 @@ fn close_below(file: &[u8], e: &[u8], h: usize, opened: &mut [u8; 64])
 
 // Closes what is not open among the entries of e's term.
 fn close_places(file: &[u8], e: &[u8], opened: &mut [u8; 64])
-    requires { ⌜ Laid (now file) × Begins (now e) × (length (now e) ≤ 252) × Flags (now opened) (OpenBelow (certificateOf (now file)) (now e) 0) ⌝ }
+    requires { ⌜ Laid (now file) × Begins (now e) × (length (now e) ≤ 252) × Flags (now opened) (OpenBelow (certificateOf (now file)) (now e) 0) × (4 * size (termOf (now e)) ≡ length (now e)) ⌝ }
     ensures { λ _. ⌜ Flags (now (opened .exit)) (OpenBelow (certificateOf (now (file .entry))) (now (e .entry)) (size (termOf (now (e .entry))))) ⌝ }
 {
-    let count = entry::term_size(e);
+    let count = e.len() / 4;
     let mut h = 0;
     while h < count {
         close_below(file, e, h, opened);
@@ -152,7 +152,7 @@ fn open_places(file: &[u8], e: &[u8]) -> [u8; 64]
 {
     let mut opened = [0u8; 64];
     if e.len() != 0 {
-        paint(&mut opened, 0, entry::term_size(e), 1);
+        paint(&mut opened, 0, e.len() / 4, 1);
         close_places(file, e, &mut opened);
     }
     opened
@@ -268,7 +268,7 @@ fn first_uncovered(
     ensures { λ r. ⌜ FirstNot (FineEntry (certificateOf (now (file .entry))) (now (premise .entry)) (now (opened .entry)) (now (conclusion .entry)) (now (cover .entry)))
         (size (termOf (now (conclusion .entry)))) r ⌝ }
 {
-    let count = entry::term_size(conclusion);
+    let count = conclusion.len() / 4;
     let mut k = 0;
     while k < count {
         if !is_fine(file, roots, premise, opened, conclusion, cover, k) {

@@ -9,14 +9,14 @@ use native.Mathlib.Omega.{arith}
 use native.Mathlib.Decide.{decLt, decLe}
 use lib.Dec.{ltb}
 use borrow.Author.Tests.{lt-ltb, ltb-true}
-use lib.ListN.{length, getD}
+use lib.ListN.{length, getD, length-append}
 use Rattle.terms.specs.declared.valid.Found.the-variants.{Nothing}
 use Rattle.terms.specs.Term.{Term, Variable, Message, Foreign, variable, atom, pair, encrypted, plain, marked, replace, asTerm}
 use Rattle.terms.specs.Occurs.{Occurs}
 use Rattle.terms.specs.Instance.{Share}
 use Rattle.terms.specs.Proper.{Built, BuiltShare, built-share}
 use Rattle.terms.specs.Entry.{Symbol, atomSymbol, pairSymbol, encryptionSymbol, variableSymbol, tagOf, valueOf, symbolOf, numbered, withZero}
-use Rattle.terms.specs.Entry.{entryOf, entriesOf, termsOf, termOf, Reads, Begins}
+use Rattle.terms.specs.Entry.{entryOf, entriesOf, termsOf, termOf, size, Reads, Begins}
 use Rattle.terms.specs.EntryLaws.{First, first-atom, first-pair, first-encrypted, first-plain, first-marked, first, none≢some, begins}
 use Rattle.terms.specs.EntryLaws.{termOf-reads, never-empty}
 use Rattle.terms.specs.First.{first-none}
@@ -141,6 +141,19 @@ no-mark not-good (pairRight w v) x o = ⊎-elim (no-mark not-good w x) (no-mark 
 no-mark not-good (encryptedRight i w) x o = no-mark not-good w x o
 no-mark not-good (plainRight l k) x o = let z : _≡_ {A = ℕ} 0 1 = cc in omega arith
 no-mark not-good (markedRight l k) x o = not-good k
+
+-- Entries that are exactly one term have its size.
+entries-length : (t : Term Variable) → length (entriesOf t) ≡ 4 * size t
+unfolding entriesOf entryOf size
+entries-length (variable x) = omega arith
+entries-length (atom a) = omega arith
+entries-length (pair t u) = omega (arith, length-append (entriesOf t) (entriesOf u), entries-length t, entries-length u)
+entries-length (encrypted k t) = omega (arith, entries-length t)
+
+pub one-whole : {e : List ℕ} → OneTerm e → 4 * size (termOf e) ≡ length e
+one-whole {e} o =
+    let term : termOf e ≡ o .term = termOf-reads (one-reads o) in
+    ap (λ (t : Term Variable). 4 * size t) term ∙ sym (entries-length (o .term)) ∙ ap length (sym (o .is))
 
 -- Messages over the listed and the foreign atoms alone, with listed keys alone: two right terms share an instance if and
 -- only if they share such a one, by such replacements.

@@ -17,12 +17,11 @@ abbrev μ-loop : tie.MeasureT-loop
 
 pub close-places-spec : {M : Type 1} → statement M
 close-places-spec = tie.close (tie.spec Inv-loop μ-loop
-    (λ c κs. search needs)  -- term-size-requires
-    (λ c. (search needs, c .before .before .before .pre .3))  -- loop-holds
-    (λ c κs. let pre = c .before .before .before .before .before .before .pre in
+    (λ c. (search needs, c .before .before .pre .3))  -- loop-holds
+    (λ c κs. let pre = c .before .before .before .before .before .pre in let whole = pre .4 in
     (standing-at (pre .0) (pre .1) (pre .2) (search needs), c .before .before .loop .inv .1 .long))  -- close-below-requires
     (λ c. search needs)  -- add-h
-    (λ c. search needs)  -- loop-less
-    (λ c. (search needs, open-more (c .before .before .before .loop .inv .1) (c .close-below .ensures)))  -- loop-again
-    (λ c. open-all (c .before .loop .inv .1) (search needs))  -- returns
+    (λ c. let whole = c .before .before .before .before .before .before .pre .4 in search needs)  -- loop-less
+    (λ c. let whole = c .before .before .before .before .before .before .pre .4 in (search needs, open-more (c .before .before .before .loop .inv .1) (c .close-below .ensures)))  -- loop-again
+    (λ c. let whole = c .before .before .before .before .pre .4 in open-all (c .before .loop .inv .1) (search needs))  -- returns
     )

@@ -23,20 +23,19 @@ abbrev μ-loop : tie.MeasureT-loop
 
 pub first-uncovered-spec : {M : Type 1} → statement M
 first-uncovered-spec = tie.close (tie.spec Inv-loop μ-loop
-    (λ c κs. search needs)  -- term-size-requires
     (λ c. (search needs, below-none _))  -- loop-holds
-    (λ c κs. let pre = c .before .before .before .before .before .before .pre in
+    (λ c κs. let pre = c .before .before .before .before .before .pre in let whole = pre .0 .whole in
     (pre .0, conclusion-inside (pre .0 .term) (search needs), pre .1))  -- is-fine-requires
-    (λ c. let loop = c .before .before .before .loop in
+    (λ c. let loop = c .before .before .before .loop in let whole = c .before .before .before .before .before .before .before .pre .0 .whole in
     (let b = c .before .is-fine in fails refl (search needs) (says-no (b .result) (b .ensures) (not-true (b .result) (c .if1 .taken)))
     (loop .inv .1)))  -- returns
     (λ c. search needs)  -- add-k
-    (λ c. search needs)  -- loop-less
-    (λ c. let loop = c .before .before .before .loop in
+    (λ c. let whole = c .before .before .before .before .before .before .before .pre .0 .whole in search needs)  -- loop-less
+    (λ c. let loop = c .before .before .before .loop in let whole = c .before .before .before .before .before .before .before .pre .0 .whole in
     (let b = c .before .is-fine in (
       search needs,
       below-more _ _ (loop .inv .1)
           (says-yes (b .result) (b .ensures) (not-false (b .result) (c .if1 .left))),
     )))  -- loop-again
-    (λ c. holds refl (λ j l. c .before .loop .inv .1 j (omega arith)))  -- returns-2
+    (λ c. let whole = c .before .before .before .before .before .pre .0 .whole in holds refl (λ j l. c .before .loop .inv .1 j (omega arith)))  -- returns-2
     )

@@ -16,12 +16,11 @@ abbrev μ-loop : tie.MeasureT-loop
 
 pub sure-hats-spec : {M : Type 1} → statement M
 sure-hats-spec = tie.close (tie.spec Inv-loop μ-loop
-    (λ c κs. search needs)  -- term-size-requires
     (λ c. (search needs, hats-none))  -- loop-holds
-    (λ c κs. let pre = c .before .before .before .before .before .before .pre in
+    (λ c κs. let pre = c .before .before .before .before .before .pre in let whole = pre .3 in
     (standing-at (pre .0) (pre .1) (pre .2) (search needs), c .before .before .loop .inv .1 .long))  -- lay-hat-requires
     (λ c. search needs)  -- add-h
-    (λ c. search needs)  -- loop-less
-    (λ c. (search needs, hats-more (c .before .before .before .loop .inv .1) (c .lay-hat .ensures)))  -- loop-again
-    (λ c. hats-all (c .before .loop .inv .1) (search needs))  -- returns
+    (λ c. let whole = c .before .before .before .before .before .before .pre .3 in search needs)  -- loop-less
+    (λ c. let whole = c .before .before .before .before .before .before .pre .3 in (search needs, hats-more (c .before .before .before .loop .inv .1) (c .lay-hat .ensures)))  -- loop-again
+    (λ c. let whole = c .before .before .before .before .pre .3 in hats-all (c .before .loop .inv .1) (search needs))  -- returns
     )

@@ -1,7 +1,8 @@
+-- `judge::cover::uncovered` meets its contract. Assumes nothing.
 use borrow.Author.Needs.{needs}
 use Rattle.terms.specs.Decisions.{says-yes, says-no}
 use Rattle.judge.specs.File.{ruleOf}
-use Rattle.judge.proofs.Covers.{premise-is, opened-within, dead-rule, conclusion-is, conclusion-begins, uncovered-rule}
+use Rattle.judge.proofs.Covers.{premise-is, opened-within, dead-rule, conclusion-is, conclusion-begins, conclusion-whole, uncovered-rule}
 use Rattle.judge.proofs.cover.uncovered.Statement.{statement}
 use Rattle.judge.proofs.cover.uncovered.Tie as tie
 
@@ -21,7 +22,7 @@ uncovered-spec = tie.close (tie.spec
     dead-rule (start .pre .0) (ruleOf (start .args .block .now)) (premise-is (start .pre .1) (part .0) (part .1)) (c .before .before .before .open-places .ensures)
     (says-yes (c .before .is-dead .result) (c .before .is-dead .ensures) (c .if1 .taken)))  -- returns
     (λ c κs. search needs)  -- second-entries-requires
-    (λ c κs. let pre = c .before .before .before .before .before .before .before .before .pre in (pre .0, conclusion-begins (pre .1) (c .second-entries .ensures .0), search needs))  -- sure-hats-requires
+    (λ c κs. let pre = c .before .before .before .before .before .before .before .before .pre in (pre .0, conclusion-begins (pre .1) (c .second-entries .ensures .0), search needs, conclusion-whole (pre .1) (c .second-entries .ensures .0)))  -- sure-hats-requires
     (λ c κs.
     let pre = c .before .before .before .before .before .before .before .before .before .before .before .pre in
     let part = c .before .before .before .before .before .before .before .before .first-entries .ensures in
@@ -30,6 +31,7 @@ uncovered-spec = tie.close (tie.spec
         laid = pre .0;
         premise-opened = open-premise;
         term = conclusion-begins (pre .1) (c .before .before .before .second-entries .ensures .0);
+        whole = conclusion-whole (pre .1) (c .before .before .before .second-entries .ensures .0);
         short = search needs;
         long = c .before .before .sure-hats .ensures .long;
       },
