@@ -1,9 +1,9 @@
 // The judging layer: a certificate file gets its verdict.
 pub mod answer;
 pub mod checking;
-pub mod cover;
+mod cover;
 pub mod judging;
-pub mod layout;
+mod layout;
 pub mod line;
-pub mod listed;
+mod listed;
 pub mod verdict;
