@@ -31,7 +31,8 @@ use Rattle.judge.specs.Decisions.{dead?}
 use Rattle.judge.specs.Verdict.{fine?, uncovered}
 use Rattle.judge.specs.Cover.{spotAt, FineAt}
 use Rattle.judge.specs.Listed.{SharesListed, IsSecret}
-use Rattle.judge.specs.CoverEntries.{subAt, On, Flags, Standing, HatBelow, Entries, OpenEntry, Opened, OpenWith, SomeOpen, FineEntry, Judging}
+use Rattle.judge.specs.CoverEntries.{subAt, On, Flags, Standing, HatBelow, HatFlags, Entries, OpenEntry, OpenFlags, Opened, OpenWith, SomeOpen}
+use Rattle.judge.specs.CoverEntries.{FineEntry, Judging}
 use Rattle.judge.proofs.ListedLaws.{risky-is, dead-is}
 use Rattle.judge.proofs.Marks.{term-reads}
 use Rattle.judge.proofs.Hats.{hat-place}
@@ -235,3 +236,10 @@ conclusion-whole block part = rw part (block .conclusion-whole)
 
 pub conclusion-begins : {b e : List ℕ} → RuleBlock b → e ≡ secondEntries b → Begins e
 conclusion-begins block part = rw part (block .conclusion)
+
+-- Flags of a part of the block are flags of its entries.
+pub open-part : {c : Certificate} {b e opened : List ℕ} → RuleBlock b → e ≡ firstEntries b → OpenFlags c (firstEntries b) opened → OpenFlags c e opened
+open-part block part f = rw part f
+
+pub hat-part : {c : Certificate} {b e hats : List ℕ} → RuleBlock b → e ≡ secondEntries b → HatFlags c (secondEntries b) hats → HatFlags c e hats
+hat-part block part f = rw part f

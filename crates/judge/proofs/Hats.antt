@@ -22,7 +22,7 @@ use Rattle.judge.specs.Certificate.{Certificate, Good}
 use Rattle.judge.specs.File.{blockCount, patternOf, certificateOf}
 use Rattle.judge.specs.Laid.{Laid, TermBlock}
 use Rattle.judge.specs.Cover.{SureHat}
-use Rattle.judge.specs.Listed.{listedOf, AnyListed, HoldsAt, Searching, MatchesListed, SharesListed}
+use Rattle.judge.specs.Listed.{listedOf, AnyListed, HoldsAt, Searching, SharesListed}
 use Rattle.judge.specs.CoverEntries.{subAt, On, Raised, Flags, MarkOver, Laying, Standing, HatOver, HatBelow}
 use Rattle.judge.proofs.Flags.{raised-none, raised-as, raised-twice, zero-off}
 use Rattle.judge.proofs.Marks.{term-reads, mark-inside, mark-place}
@@ -125,12 +125,8 @@ laid-all {file} {u} {h} {n} {old} {new} laid all r = record { long = r .long; on
     back k (inl e) = r .on k .1 (inl e)
     back k (inr a) = listed k a (ℕ-discrete (getD new k 0) 1)
 
--- The term at entry h as a hat: it matches no good pattern, it shares an instance with a bad one, or it is a sure hat.
+-- The term at entry h as a hat: it shares an instance with a bad pattern, or it is a sure hat for what the good ones lay.
 module _ {c : Certificate} {u : Term Variable} {h : ℕ} where
-  pub no-good : {old : List ℕ} → length old ≡ 64 → ¬ MatchesListed c 3 u → Raised old old (HatOver c u h)
-  unfolding listedOf
-  no-good long off = raised-none long (λ k w. off (record { term = w .good; listed = w .listed; holds = w .match }))
-
   pub shares-bad : {old : List ℕ} → length old ≡ 64 → SharesListed c 4 u → Raised old old (HatOver c u h)
   shares-bad long shares = raised-none long (λ k w. not-bad-is c u .0 (w .notBad) shares)
 

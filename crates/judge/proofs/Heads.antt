@@ -153,6 +153,7 @@ module _ {file : List ℕ} {n : ℕ} (laid : Laid file) (only : OnlyRulesFrom fi
     exact = rw count (sym long);
     some-block = rw count (only .some-block);
     few = rw count (omega (arith, only .inside, laid .few));
+    ordered = λ i j low h. let here : j < n = rw count at h in rw (block i (omega arith), block j here) (laid .ordered i j low (within here));
     atoms = rw (block 0 (only .some-block)) (laid .atoms);
     terms = λ i h. let here : i < n = rw count at h in rw (block i here) (laid .terms i (within here));
     rules = λ i h. let here : i < n = rw count at h in rw (block i here) (laid .rules i (within here));

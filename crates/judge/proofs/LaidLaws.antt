@@ -3,8 +3,9 @@ use mathlib.Core.Path.{_≡_}
 use mathlib.Core.Bool.{true}
 use mathlib.Core.List.{List}
 use mathlib.Core.Option.{none}
-use Prim.Native.Nat.{ℕ, _+_, _*_, _<_, _≤_}
+use Prim.Native.Nat.{ℕ, zero, suc, _+_, _*_, _<_, _≤_}
 use native.Mathlib.Omega.{arith}
+use native.Mathlib.Decide.{ℕ-discrete}
 use lib.Seq.{take-take}
 use Rattle.blocks.specs.Block.{blockAt, kindOf, firstCount, secondCount, entriesOf, firstEntries, Fitting}
 use Rattle.blocks.specs.Layout.{CountsRight, atoms, term, rule}
@@ -16,7 +17,7 @@ use Rattle.judge.specs.File.{blockCount, patternOf}
 use Rattle.judge.specs.Laid.{TermBlock, RuleBlock, SecretBlock, GoodBlock, Laid}
 use Rattle.judge.specs.Verdict.{lengthRight, lengthFault, blockFault, layoutFrom, layoutFault}
 use Rattle.judge.specs.File.{fileAtoms, usedEntries}
-use Rattle.judge.specs.Meaning.{LengthRight, BlockRight}
+use Rattle.judge.specs.Meaning.{LengthRight, KindRight, first, later, BlockRight}
 use Rattle.judge.proofs.Exact.{first-block}
 use Rattle.judge.proofs.Judged.{length-judged, used-length, block-judged}
 
@@ -87,11 +88,25 @@ module _ (file : List ℕ) (i : ℕ) (right : BlockRight file i) where
 
 -- ---- a file that has passed
 
+-- Kinds do not fall from block to block.
+in-order : (file : List ℕ) → ((i : ℕ) → i < blockCount file → BlockRight file i)
+    → (i j : ℕ) → i ≤ j → j < blockCount file → kindOf (blockAt file i) ≤ kindOf (blockAt file j)
+in-order file blocks i zero low inside = let same : i ≡ 0 = omega arith in rw same (omega arith)
+in-order file blocks i (suc j) low inside = elim (ℕ-discrete i (suc j)) [
+  | yes same ↦ rw same (omega arith)
+  | no off ↦ go (in-order file blocks i j (omega arith) (omega arith)) (blocks (suc j) inside .shaped .kind)
+]
+  where
+    go : kindOf (blockAt file i) ≤ kindOf (blockAt file j) → KindRight file (suc j) → kindOf (blockAt file i) ≤ kindOf (blockAt file (suc j))
+    go before (first e k) = absurd (omega arith)
+    go before (later {j = k} e l h step) = let same : k ≡ j = omega arith in let next = rw same at step in omega (arith, before, next)
+
 pub laid : (file : List ℕ) → LengthRight file → ((i : ℕ) → i < blockCount file → BlockRight file i) → Laid file
 laid file l blocks = record {
   exact = omega arith;
   some-block = omega arith;
   few = omega arith;
+  ordered = in-order file blocks;
   atoms = fits file 0 (blocks 0 (omega arith));
   terms = λ i h. term-block file i (blocks i h);
   rules = λ i h. rule-block file i (blocks i h);

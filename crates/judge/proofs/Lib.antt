@@ -27,5 +27,6 @@ pub mod Marks
 pub mod Hats
 pub mod Opens
 pub mod Covers
+pub mod Repeats
 pub mod Heads
 pub mod JudgingLaws

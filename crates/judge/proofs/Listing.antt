@@ -6,7 +6,7 @@ use mathlib.Core.List.{Memᴰ·cast, Memᴰ·map, Memᴰ·of-map}
 use Prim.Native.Nat.{ℕ, zero, suc, _-_, _*_, _<_, _≤_}
 use lib.ListN.{length}
 use native.Mathlib.Omega.{arith}
-use native.Mathlib.Decide.{ℕ-discrete}
+use native.Mathlib.Decide.{decLt, ℕ-discrete}
 use Rattle.blocks.specs.Block.{blockAt, kindOf, firstCount, firstEntries}
 use Rattle.terms.specs.Term.{Term, Variable, atom, replace, asTerm}
 use Rattle.terms.specs.Laws.{replace-asTerm}
@@ -109,6 +109,21 @@ module _ {file : List ℕ} {kind : ℕ} {e : List ℕ} (asked : Searching file k
 
   pub none-answer : ((i : ℕ) → i < blockCount file → ¬ HoldsAt file kind P i) → (d : Dec (AnyListed (certificateOf file) kind P)) → false ≡ answer d
   none-answer none d = sym (answer-no d (none-found (asked .laid) kind P none))
+
+  -- Kinds do not fall: a search from the last block back ends at a lower kind, one from the first block on at a higher.
+  pub lower-answer : {i n : ℕ} → i < blockCount file → n ≡ kindOf (blockAt file i) → n < kind
+      → ((k : ℕ) → i < k → k < blockCount file → ¬ HoldsAt file kind P k) → (d : Dec (AnyListed (certificateOf file) kind P)) → false ≡ answer d
+  lower-answer {i} inside is lower above = none-answer (λ k there held. elim (decLt i k) [
+    | yes past ↦ above k past there held
+    | no before ↦ omega (arith, asked .laid .ordered k i (omega arith) inside, held .of-kind)
+  ])
+
+  pub higher-answer : {i n : ℕ} → n ≡ kindOf (blockAt file i) → kind < n
+      → ((k : ℕ) → k < i → ¬ HoldsAt file kind P k) → (d : Dec (AnyListed (certificateOf file) kind P)) → false ≡ answer d
+  higher-answer {i} is higher below = none-answer (λ k there held. elim (decLt k i) [
+    | yes before ↦ below k before held
+    | no past ↦ omega (arith, asked .laid .ordered i k (omega arith) there, held .of-kind)
+  ])
 
 -- What holds from n on, and of the number before n, holds from there on.
 pub above-more : (P : ℕ → Type 0) {count : ℕ} (n : ℕ) → ((k : ℕ) → n ≤ k → k < count → P k) → P (n - 1) → (k : ℕ) → n - 1 ≤ k → k < count → P k

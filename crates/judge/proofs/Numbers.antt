@@ -45,7 +45,7 @@ second {P} {Q} {R} b to back off says = says-same b (λ q. back (inr q)) (λ r. 
     pick (inr q) = q
 
 -- The message that a term reads as has the term's form.
-pair-message : (m : Message) {t u : Term Variable} → pair t u ≡ asTerm m
+pub pair-message : (m : Message) {t u : Term Variable} → pair t u ≡ asTerm m
     → (l : Message) × (r : Message) × (m ≡ pair l r) × (t ≡ asTerm l) × (u ≡ asTerm r)
 unfolding asTerm replace
 pair-message (variable x) e = absurd x

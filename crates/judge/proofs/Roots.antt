@@ -1,26 +1,73 @@
 -- Laws of the flagged roots: a term whose root no secret has is no secret, and shares an instance with none. Assumes
 -- nothing.
-use mathlib.Core.Path.{_≡_, sym, ap, subst, _∙_}
+use mathlib.Core.Path.{_≡_, refl, sym, ap, ap₂, subst, _∙_}
 use mathlib.Core.Bool.{false, not}
 use mathlib.Core.List.{List, _∷_}
-use Prim.Native.Nat.{ℕ, _+_, _%_, _<_, _≤_}
+use Prim.Native.Nat.{ℕ, zero, suc, _+_, _%_, _<_, _≤_}
 use native.Mathlib.Omega.{arith}
-use native.Mathlib.Decide.{decLt, ℕ-discrete}
+use native.Mathlib.Decide.{ℕ-discrete}
 use lib.Dec.{eqb}
 use borrow.Author.Tests.{eqb-true, not-false}
+use borrow.Rule.Slice.PartAt.{part-to-end}
 use lib.ListN.{length, getD, set, drop}
-use lib.Seq.{getD-set-same, getD-set-other}
+use lib.Seq.{getD-set-same, getD-set-other, getD-drop}
 use Rattle.blocks.specs.Block.{blockAt, kindOf, firstEntries}
 use Rattle.terms.specs.Term.{Term, Message, Variable, variable, atom, pair, encrypted, plain, marked, replace, asTerm}
 use Rattle.terms.specs.Instance.{Matches, Share}
 use Rattle.terms.specs.Laws.{replace-asTerm}
 use Rattle.terms.specs.Entry.{Begins, termOf, tagAt, valueAt}
-use Rattle.terms.specs.EntryLaws.{First, first, first-atom, first-pair, first-encrypted, first-plain, first-marked, termOf-reads}
-use Rattle.terms.specs.Roots.{values-apart}
+use Rattle.terms.specs.EntryLaws.{First, first, first-atom, first-pair, first-encrypted, first-plain, first-marked, termOf-reads, begins}
+use Rattle.terms.specs.WalkLaws.{from, pair-first}
+use Rattle.terms.specs.FrontLaws.{from-length}
+use Rattle.terms.specs.Roots.{tags-apart, values-apart}
 use Rattle.judge.specs.File.{blockCount, patternOf, certificateOf}
-use Rattle.judge.specs.Laid.{Laid, SecretBlock}
-use Rattle.judge.specs.Listed.{SharesListed, IsSecret, FlaggedAt, FlaggedMore, RootsOf, NoRoot}
+use Rattle.judge.specs.Laid.{Laid}
+use Rattle.judge.specs.Listed.{SharesListed, IsSecret, slotBy, slotAt, FlaggedAt, FlaggedMore, RootsOf, NoRoot}
 use Rattle.judge.proofs.Listing.{none-found, term-block}
+use Rattle.judge.proofs.Numbers.{pair-message}
+
+-- ---- slots
+
+-- Only a pair's slot depends on the entry after the root.
+slot-leaf : (tag n l m : ℕ) → (tag ≡ 2 → ⊥) → slotBy tag n l ≡ slotBy tag n m
+unfolding slotBy
+slot-leaf zero n l m off = refl
+slot-leaf (suc zero) n l m off = refl
+slot-leaf (suc (suc zero)) n l m off = absurd (off refl)
+slot-leaf (suc (suc (suc zero))) n l m off = refl
+slot-leaf (suc (suc (suc (suc tag)))) n l m off = refl
+
+-- A root that is neither a pair's nor an encryption's has a slot of the first 128.
+slot-low : (tag n l : ℕ) → (tag ≡ 2 → ⊥) → (tag ≡ 3 → ⊥) → n % 128 ≡ slotBy tag n l
+unfolding slotBy
+slot-low zero n l no-pair no-key = refl
+slot-low (suc zero) n l no-pair no-key = refl
+slot-low (suc (suc zero)) n l no-pair no-key = absurd (no-pair refl)
+slot-low (suc (suc (suc zero))) n l no-pair no-key = absurd (no-key refl)
+slot-low (suc (suc (suc (suc tag)))) n l no-pair no-key = refl
+
+-- The slot, as the code finds it by the tag.
+module _ (e : List ℕ) {n : ℕ} where
+  pub slot-pair : tagAt e ≡ 2 → n ≡ valueAt (from 4 e) → 128 + n % 128 ≡ slotAt e
+  unfolding slotBy
+  slot-pair two is =
+      let left : n ≡ valueAt (drop 4 e) = is ∙ ap valueAt (part-to-end e 4) in
+      ap (λ (m : ℕ). 128 + m % 128) left ∙ ap (λ (tag : ℕ). slotBy tag (valueAt e) (valueAt (drop 4 e))) (sym two)
+
+  pub slot-encryption : tagAt e ≡ 3 → n ≡ valueAt e → 256 + n % 128 ≡ slotAt e
+  unfolding slotBy
+  slot-encryption three is =
+      ap (λ (m : ℕ). 256 + m % 128) is ∙ ap (λ (tag : ℕ). slotBy tag (valueAt e) (valueAt (drop 4 e))) (sym three)
+
+  pub slot-atom : (tagAt e ≡ 2 → ⊥) → (tagAt e ≡ 3 → ⊥) → n ≡ valueAt e → n % 128 ≡ slotAt e
+  slot-atom no-pair no-key is = ap (λ (m : ℕ). m % 128) is ∙ slot-low (tagAt e) (valueAt e) (valueAt (drop 4 e)) no-pair no-key
+
+-- A pair has the entry of its left half's root after its own.
+pub pair-room : {e : List ℕ} → Begins e → tagAt e ≡ 2 → 8 ≤ length e
+pair-room {e} b two = let half = begins (pair-first b two .below) .room in omega (arith, from-length 4 e)
+
+pub left-tag : (e : List ℕ) → getD e 4 0 ≤ 3 → tagAt (drop 4 e) ≤ 3
+left-tag e low = omega (arith, getD-drop 4 e 0 0)
 
 -- ---- flagging
 
@@ -50,10 +97,10 @@ absent-told {x} e = eqb-true x 0 (not-false (eqb x 0) e)
 
 -- ---- what the flags say
 
--- A secret's root is a symbol.
-secret-symbol : {b : List ℕ} → SecretBlock b → Begins (firstEntries b) → tagAt (firstEntries b) ≤ 3
-unfolding patternOf asTerm replace
-secret-symbol {b} secret begins = go (first (begins .reads)) (termOf-reads (begins .reads))
+-- A message's root is a symbol.
+message-symbol : {e : List ℕ} → Begins e → (m : Message) → termOf e ≡ asTerm m → tagAt e ≤ 3
+unfolding asTerm replace
+message-symbol {e} b m same = go (first (b .reads)) (termOf-reads (b .reads))
   where
     no-variable : (x : Variable) (m : Message) → _≡_ {A = Term Variable} (variable x) (replace (λ y. absurd y) m) → ⊥
     no-variable x (variable y) e = y
@@ -61,22 +108,69 @@ secret-symbol {b} secret begins = go (first (begins .reads)) (termOf-reads (begi
     no-variable x (pair m n) e = let z : _≡_ {A = ℕ} 0 1 = cc in omega arith
     no-variable x (encrypted k m) e = let z : _≡_ {A = ℕ} 0 1 = cc in omega arith
 
-    go : {tag n : ℕ} {rest : List ℕ} → First tag n rest (begins .term ∷ begins .others) → termOf (firstEntries b) ≡ begins .term → tag ≤ 3
+    go : {tag n : ℕ} {rest : List ℕ} → First tag n rest (b .term ∷ b .others) → termOf e ≡ b .term → tag ≤ 3
     go (first-atom g q k) is = omega arith
     go (first-pair g n q k) is = omega arith
     go (first-encrypted g q k) is = omega arith
-    go {n = n} (first-plain g l q k) is = let e : begins .term ≡ variable (plain n) = cc in absurd (no-variable (plain n) (secret .message) (sym e ∙ sym is ∙ secret .same))
-    go {n = n} (first-marked g l q k) is = let e : begins .term ≡ variable (marked n) = cc in absurd (no-variable (marked n) (secret .message) (sym e ∙ sym is ∙ secret .same))
+    go {n = n} (first-plain g l q k) is = let t : b .term ≡ variable (plain n) = cc in absurd (no-variable (plain n) m (sym t ∙ sym is ∙ same))
+    go {n = n} (first-marked g l q k) is = let t : b .term ≡ variable (marked n) = cc in absurd (no-variable (marked n) m (sym t ∙ sym is ∙ same))
 
-module _ {file roots e : List ℕ} (laid : Laid file) (flags : RootsOf file roots) (begins : Begins e) (none : NoRoot roots e) where
+-- The left half of a pair stands after the root, and it is a message's if the pair is.
+left-begins : {e : List ℕ} → Begins e → tagAt e ≡ 2 → Begins (drop 4 e)
+left-begins {e} b two = rw (part-to-end e 4) at (begins (pair-first b two .below))
+
+left-is : {e : List ℕ} (b : Begins e) (two : tagAt e ≡ 2) → termOf (drop 4 e) ≡ pair-first b two .left
+left-is {e} b two = ap termOf (sym (part-to-end e 4)) ∙ termOf-reads (pair-first b two .below)
+
+left-message : {e : List ℕ} → Begins e → tagAt e ≡ 2 → (m : Message) → termOf e ≡ asTerm m → (l : Message) × (termOf (drop 4 e) ≡ asTerm l)
+left-message b two m same =
+    let p = pair-first b two in
+    let w = pair-message m (sym (termOf-reads (p .whole)) ∙ same) in (w .0, left-is b two ∙ w .3)
+
+-- Pairs that share an instance have left halves that do.
+lefts-share : {s t : List ℕ} → Begins s → Begins t → tagAt s ≡ 2 → tagAt t ≡ 2 → Share (termOf s) (termOf t)
+    → Share (termOf (drop 4 s)) (termOf (drop 4 t))
+unfolding replace
+lefts-share {s} {t} left right two other share =
+    let p = pair-first left two in
+    let q = pair-first right other in
+    let first-is : pair (replace (share .left .by) (p .left)) (replace (share .left .by) (p .right)) ≡ share .message =
+    ap (replace (share .left .by)) (sym (termOf-reads (p .whole))) ∙ share .left .same in
+    let second-is : pair (replace (share .right .by) (q .left)) (replace (share .right .by) (q .right)) ≡ share .message =
+    ap (replace (share .right .by)) (sym (termOf-reads (q .whole))) ∙ share .right .same in
+    let halves : replace (share .right .by) (q .left) ≡ replace (share .left .by) (p .left) = cc in
+    rw (left-is left two, left-is right other) (record {
+      message = replace (share .left .by) (p .left);
+      left = record { by = share .left .by; same = refl };
+      right = record { by = share .right .by; same = halves };
+    })
+
+module _ {file roots e : List ℕ} (laid : Laid file) (flags : RootsOf file roots) (b : Begins e) (none : NoRoot roots e) where
+  -- Where a secret and e's term share an instance, their roots have one slot, which is flagged.
   apart : (i : ℕ) → i < blockCount file → kindOf (blockAt file i) ≡ 2 → Share (patternOf (blockAt file i)) (termOf e) → ⊥
   unfolding patternOf
   apart i inside kind share =
-      let block = term-block laid (omega arith) (omega arith) inside kind in
-      let symbol = secret-symbol (laid .secrets i inside kind) (block .term) in
-      let there = flags .flagged i inside kind in
-      values-apart (block .term) begins symbol (none .symbol)
-      (λ same. let on : getD roots (valueAt e % 256) 0 ≡ 1 = rw same at there in omega (arith, none .absent)) share
+      let s = firstEntries (blockAt file i) in
+      let start = term-block laid (omega arith) (omega arith) inside kind .term in
+      let secret = laid .secrets i inside kind in
+      let symbol = message-symbol start (secret .message) (secret .same) in
+      tags-apart start b symbol (none .symbol) (λ tags. values-apart start b symbol (none .symbol) (λ values.
+      elim (ℕ-discrete (tagAt e) 2) [
+        | yes two ↦
+            let half = left-message start (tags ∙ two) (secret .message) (secret .same) in
+            let there = left-begins start (tags ∙ two) in
+            values-apart there (left-begins b two) (message-symbol there (half .0) (half .1)) (none .left-symbol two)
+            (λ lefts. clash (ap₂ (slotBy (tagAt s)) values lefts ∙ ap (λ (tag : ℕ). slotBy tag (valueAt e) (valueAt (drop 4 e))) tags))
+            (lefts-share start b (tags ∙ two) two share)
+        | no off ↦
+            let leaf = slot-leaf (tagAt e) (valueAt e) (valueAt (drop 4 s)) (valueAt (drop 4 e)) off in
+            clash (ap₂ (λ (tag n : ℕ). slotBy tag n (valueAt (drop 4 s))) tags values ∙ leaf)
+      ]) share) share
+    where
+      clash : slotAt (firstEntries (blockAt file i)) ≡ slotAt e → ⊥
+      clash same =
+          let on : getD roots (slotAt e) 0 ≡ 1 = ap (λ (n : ℕ). getD roots n 0) (sym same) ∙ flags .flagged i inside kind in
+          omega (arith, none .absent)
 
   pub no-root-shares : ¬ SharesListed (certificateOf file) 2 (termOf e)
   no-root-shares = none-found laid 2 (λ p. Share p (termOf e)) (λ i inside h. apart i inside (h .of-kind) (h .holds))

@@ -4,8 +4,9 @@ use mathlib.Core.Path.{_≡_}
 use mathlib.Core.List.{List}
 use mathlib.Core.Logic.{_⊎_, _↔_}
 use mathlib.Core.Option.{some}
-use Prim.Native.Nat.{ℕ, _+_, _*_, _<_, _≤_}
+use Prim.Native.Nat.{ℕ, _+_, _*_, _-_, _<_, _≤_}
 use lib.ListN.{length, getD}
+use Rattle.blocks.specs.Block.{blockAt, kindOf}
 use Rattle.terms.specs.Term.{Term, Variable, variable, marked}
 use Rattle.terms.specs.Place.{Place, subtermAt}
 use Rattle.terms.specs.Instance.{Matches}
@@ -81,6 +82,10 @@ pub record Flags (flags : List ℕ) (P : ℕ → Type 0) : Type 0 where
   pub long : length flags ≡ 64
   pub on : (k : ℕ) → On flags k ↔ P k
 
+-- They are on at the entries of e's term for which there is a sure hat.
+abbrev pub HatFlags : Certificate → List ℕ → List ℕ → Type 0
+HatFlags certificate e flags = Flags flags (HatBelow certificate e (size (termOf e)))
+
 -- The entries of a term, or none: a rule's premise.
 pub record Entries (e : List ℕ) : Type 0 where
   pub some-term : ¬ (length e ≡ 0) → Begins e
@@ -102,6 +107,10 @@ pub record ClosedBelow (certificate : Certificate) (old new e : List ℕ) (h : �
 pub record OpenEntry (certificate : Certificate) (e : List ℕ) (k : ℕ) : Type 0 where
   pub some-entry : ¬ (length e ≡ 0)
   pub isOpen : OpenBelow certificate e (size (termOf e)) k
+
+-- The flags are on at the open places of the term, if there is one.
+abbrev pub OpenFlags : Certificate → List ℕ → List ℕ → Type 0
+OpenFlags certificate e flags = Flags flags (OpenEntry certificate e)
 
 -- What a search through the open entries asks for.
 pub record Opened (e opened : List ℕ) : Type 0 where
@@ -130,3 +139,13 @@ pub record Judging (file premise opened conclusion cover : List ℕ) : Type 0 wh
   pub whole : 4 * size (termOf conclusion) ≡ length conclusion
   pub short : length conclusion ≤ 252
   pub long : length cover ≡ 64
+
+-- The block before block i is a rule.
+pub record AfterRule (file : List ℕ) (i : ℕ) : Type 0 where
+  pub behind : 1 ≤ i
+  pub rule : kindOf (blockAt file (i - 1)) ≡ 5
+
+-- What is known of flags before block i is judged: they say P of a part of the block before it, if that is a rule.
+pub record Before (part : List ℕ → List ℕ) (P : List ℕ → List ℕ → Type 0) (file : List ℕ) (i : ℕ) (flags : List ℕ) : Type 0 where
+  pub long : length flags ≡ 64
+  pub known : AfterRule file i → P (part (blockAt file (i - 1))) flags

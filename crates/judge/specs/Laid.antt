@@ -35,10 +35,12 @@ pub record GoodBlock (b : List ℕ) : Type 0 where
   pub content : Term Variable
   pub same : patternOf b ≡ encrypted key content
 
+-- The length is right, kinds do not fall from block to block, and each block holds what its kind asks for.
 pub record Laid (file : List ℕ) : Type 0 where
   pub exact : 512 * blockCount file ≡ length file
   pub some-block : 1 ≤ blockCount file
   pub few : blockCount file ≤ 64
+  pub ordered : (i j : ℕ) → i ≤ j → j < blockCount file → kindOf (blockAt file i) ≤ kindOf (blockAt file j)
   pub atoms : Fitting (blockAt file 0)
   pub terms : (i : ℕ) → i < blockCount file → 2 ≤ kindOf (blockAt file i) → kindOf (blockAt file i) ≤ 4 → TermBlock (blockAt file i)
   pub rules : (i : ℕ) → i < blockCount file → kindOf (blockAt file i) ≡ 5 → RuleBlock (blockAt file i)

@@ -3,8 +3,8 @@ use mathlib.Core.Path.{_≡_}
 use mathlib.Core.Bool.{Bool, true, false}
 use mathlib.Core.List.{List, [], map, List·Memᴰ}
 use mathlib.Core.Option.{Option, none, some}
-use Prim.Native.Nat.{ℕ, zero, suc, _%_, _<_, _≤_}
-use lib.ListN.{length, getD}
+use Prim.Native.Nat.{ℕ, zero, suc, _+_, _%_, _<_, _≤_}
+use lib.ListN.{length, getD, drop}
 use Rattle.blocks.specs.Block.{blockAt, kindOf, firstEntries}
 use Rattle.terms.specs.Term.{Term, Variable, asTerm, replace}
 use Rattle.terms.specs.Instance.{Matches, Share}
@@ -77,25 +77,38 @@ pub record Searching (file : List ℕ) (kind : ℕ) (e : List ℕ) : Type 0 wher
   pub term : Begins e
   pub short : length e ≤ 252
 
--- The root of e's term is flagged, by the low byte of its value: equal roots have equal flags.
+-- The slot of a root, by its tag, its value and the value of the entry after it. Atoms, pairs and encryptions have 128
+-- slots each, by the root's value; for a pair by that of its left half's root, which is the entry after it.
+unfoldable pub slotBy : ℕ → ℕ → ℕ → ℕ
+slotBy zero n left = n % 128
+slotBy (suc zero) n left = n % 128
+slotBy (suc (suc zero)) n left = 128 + left % 128
+slotBy (suc (suc (suc zero))) n left = 256 + n % 128
+slotBy (suc (suc (suc (suc tag)))) n left = n % 128
+
+abbrev pub slotAt : List ℕ → ℕ
+slotAt e = slotBy (tagAt e) (valueAt e) (valueAt (drop 4 e))
+
+-- The root of e's term is flagged.
 abbrev pub FlaggedAt : List ℕ → List ℕ → Type 0
-FlaggedAt roots e = getD roots (valueAt e % 256) 0 ≡ 1
+FlaggedAt roots e = getD roots (slotAt e) 0 ≡ 1
 
 -- Flags stay, and the root of block i's term is flagged if it is a secret's.
 pub record FlaggedMore (file : List ℕ) (i : ℕ) (old new : List ℕ) : Type 0 where
-  pub long : length new ≡ 256
+  pub long : length new ≡ 384
   pub kept : (k : ℕ) → getD old k 0 ≡ 1 → getD new k 0 ≡ 1
   pub here : kindOf (blockAt file i) ≡ 2 → FlaggedAt new (firstEntries (blockAt file i))
 
 -- The root of every secret is flagged.
 pub record RootsOf (file roots : List ℕ) : Type 0 where
-  pub long : length roots ≡ 256
+  pub long : length roots ≡ 384
   pub flagged : (i : ℕ) → i < blockCount file → kindOf (blockAt file i) ≡ 2 → FlaggedAt roots (firstEntries (blockAt file i))
 
--- The term that e begins with has a symbol as its root, and no secret has that root.
+-- The term that e begins with has a symbol as its root, and so has the left half of a pair, and no secret has that slot.
 pub record NoRoot (roots e : List ℕ) : Type 0 where
   pub symbol : tagAt e ≤ 3
-  pub absent : getD roots (valueAt e % 256) 0 ≡ 0
+  pub left-symbol : tagAt e ≡ 2 → tagAt (drop 4 e) ≤ 3
+  pub absent : getD roots (slotAt e) 0 ≡ 0
 
 -- The entries are those of the term of block i.
 pub record TermPart (file : List ℕ) (i : ℕ) (e : List ℕ) : Type 0 where

@@ -2,6 +2,7 @@
 ghost use mathlib.Core.Path.{_≡_};
 ghost use Prim.Native.Nat.{ℕ, _*_, _<_, _≤_};
 ghost use lib.ListN.{length, getD};
+ghost use Rattle.blocks.specs.Block.{firstEntries, secondEntries};
 ghost use Rattle.terms.specs.Entry.{Begins, termOf, size};
 ghost use Rattle.terms.specs.Instance.{Matches};
 ghost use Rattle.terms.specs.Solve.{Says};
@@ -12,7 +13,7 @@ ghost use Rattle.judge.specs.Cover.{NoHat, Risky};
 ghost use Rattle.judge.specs.Verdict as verdicts;
 ghost use Rattle.judge.specs.Listed.{HoldsAt, AnyListed, Searching, IsSecret, RootsOf};
 ghost use Rattle.judge.specs.CoverEntries.{subAt, Painted, Raised, MarkOver, Laying, Standing, HatOver, HatBelow, Flags};
-ghost use Rattle.judge.specs.CoverEntries.{Entries, OpenBelow, OpenEntry, Opened, OpenWith, SomeOpen, ClosedBelow, FineEntry, Judging};
+ghost use Rattle.judge.specs.CoverEntries.{HatFlags, Entries, OpenBelow, OpenFlags, Opened, OpenWith, SomeOpen, ClosedBelow, FineEntry, Judging};
 use crate::listed;
 use terms::entry;
 use terms::matching;
@@ -83,19 +84,16 @@ fn lay_hat(file: &[u8], e: &[u8], h: usize, cover: &mut [u8; 64])
     ensures { λ _. ⌜ Raised (now (cover .entry)) (now (cover .exit)) (HatOver (certificateOf (now (file .entry))) (subAt (now (e .entry)) h) h) ⌝ }
 {
     if e[4 * h] == 3 {
-        let t = &e[4 * h..];
-        if listed::is_listed_match(file, 3, t) {
-            if !listed::shares_listed(file, 4, t) {
-                lay_goods(file, e, h, cover);
-            }
+        if !listed::shares_listed(file, 4, &e[4 * h..]) {
+            lay_goods(file, e, h, cover);
         }
     }
 }
 
 // The entries of e's term for which there is a sure hat.
-fn sure_hats(file: &[u8], e: &[u8]) -> [u8; 64]
+pub fn sure_hats(file: &[u8], e: &[u8]) -> [u8; 64]
     requires { ⌜ Laid (now file) × Begins (now e) × (length (now e) ≤ 252) × (4 * size (termOf (now e)) ≡ length (now e)) ⌝ }
-    ensures { λ r. ⌜ Flags r (HatBelow (certificateOf (now (file .entry))) (now (e .entry)) (size (termOf (now (e .entry))))) ⌝ }
+    ensures { λ r. ⌜ HatFlags (certificateOf (now (file .entry))) (now (e .entry)) r ⌝ }
 {
     let mut cover = [0u8; 64];
     let count = e.len() / 4;
@@ -146,9 +144,9 @@ fn close_places(file: &[u8], e: &[u8], opened: &mut [u8; 64])
 }
 
 // The entries of e's term that are open places; none where there is no term.
-fn open_places(file: &[u8], e: &[u8]) -> [u8; 64]
+pub fn open_places(file: &[u8], e: &[u8]) -> [u8; 64]
     requires { ⌜ Laid (now file) × Entries (now e) ⌝ }
-    ensures { λ r. ⌜ Flags r (OpenEntry (certificateOf (now (file .entry))) (now (e .entry))) ⌝ }
+    ensures { λ r. ⌜ OpenFlags (certificateOf (now (file .entry))) (now (e .entry)) r ⌝ }
 {
     let mut opened = [0u8; 64];
     if e.len() != 0 {
@@ -159,7 +157,7 @@ fn open_places(file: &[u8], e: &[u8]) -> [u8; 64]
 }
 
 // Is entry k open, and a listed secret there?
-fn secret_at(file: &[u8], roots: &[u8; 256], e: &[u8], opened: &[u8; 64], k: usize) -> bool
+fn secret_at(file: &[u8], roots: &[u8; 384], e: &[u8], opened: &[u8; 64], k: usize) -> bool
     requires { ⌜ Laid (now file) × Opened (now e) (now opened) × (4 * k < length (now e)) × RootsOf (now file) (now roots) ⌝ }
     ensures { λ r. ⌜ Says r (OpenWith (now (e .entry)) (now (opened .entry)) (IsSecret (certificateOf (now (file .entry)))) k) ⌝ }
 {
@@ -176,7 +174,7 @@ fn secret_at(file: &[u8], roots: &[u8; 256], e: &[u8], opened: &[u8; 64], k: usi
 }
 
 // Does a listed secret stand at an open entry?
-fn is_dead(file: &[u8], roots: &[u8; 256], e: &[u8], opened: &[u8; 64]) -> bool
+fn is_dead(file: &[u8], roots: &[u8; 384], e: &[u8], opened: &[u8; 64]) -> bool
     requires { ⌜ Laid (now file) × Opened (now e) (now opened) × RootsOf (now file) (now roots) ⌝ }
     ensures { λ r. ⌜ Says r (SomeOpen (now (e .entry)) (now (opened .entry)) (IsSecret (certificateOf (now (file .entry))))) ⌝ }
 {
@@ -218,7 +216,7 @@ fn stands_open(e: &[u8], opened: &[u8; 64], t: &[u8]) -> bool
 }
 
 // Is the term a variable, or does it share an instance with a secret?
-fn is_risky(file: &[u8], roots: &[u8; 256], t: &[u8]) -> bool
+fn is_risky(file: &[u8], roots: &[u8; 384], t: &[u8]) -> bool
     requires { ⌜ Searching (now file) 2 (now t) × RootsOf (now file) (now roots) ⌝ }
     ensures { λ r. ⌜ Says r (Risky (certificateOf (now (file .entry))) (termOf (now (t .entry)))) ⌝ }
 {
@@ -234,7 +232,7 @@ fn is_risky(file: &[u8], roots: &[u8; 256], t: &[u8]) -> bool
 // Is entry k of the conclusion covered if it is risky?
 fn is_fine(
     file: &[u8],
-    roots: &[u8; 256],
+    roots: &[u8; 384],
     premise: &[u8],
     opened: &[u8; 64],
     conclusion: &[u8],
@@ -258,7 +256,7 @@ fn is_fine(
 // The first entry of the conclusion that is risky and not covered.
 fn first_uncovered(
     file: &[u8],
-    roots: &[u8; 256],
+    roots: &[u8; 384],
     premise: &[u8],
     opened: &[u8; 64],
     conclusion: &[u8],
@@ -281,16 +279,21 @@ fn first_uncovered(
 
 // The first place of a rule's conclusion that is risky and not covered; nothing where the rule is dead. The roots of the
 // secrets are flagged once for all rules.
-pub fn uncovered(file: &[u8], roots: &[u8; 256], block: &[u8]) -> Found
-    requires { ⌜ Laid (now file) × RuleBlock (now block) × RootsOf (now file) (now roots) ⌝ }
+pub fn uncovered(
+    file: &[u8],
+    roots: &[u8; 384],
+    opened: &[u8; 64],
+    hats: &[u8; 64],
+    block: &[u8],
+) -> Found
+    requires { ⌜ Laid (now file) × RuleBlock (now block) × RootsOf (now file) (now roots)
+        × OpenFlags (certificateOf (now file)) (firstEntries (now block)) (now opened) × HatFlags (certificateOf (now file)) (secondEntries (now block)) (now hats) ⌝ }
     ensures { λ r. ⌜ r ≡ verdicts.uncovered (certificateOf (now (file .entry))) (ruleOf (now (block .entry))) ⌝ }
 {
     let premise = blocks::first_entries(block);
-    let opened = open_places(file, premise);
-    if is_dead(file, roots, premise, &opened) {
+    if is_dead(file, roots, premise, opened) {
         return Found::Nothing;
     }
     let conclusion = blocks::second_entries(block);
-    let cover = sure_hats(file, conclusion);
-    first_uncovered(file, roots, premise, &opened, conclusion, &cover)
+    first_uncovered(file, roots, premise, opened, conclusion, hats)
 }

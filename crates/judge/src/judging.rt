@@ -1,10 +1,13 @@
 // The verdict of a file: numbers 1 to 12 in document 01's order.
 ghost use mathlib.Core.Path.{_≡_};
-ghost use Prim.Native.Nat.{_<_};
+ghost use mathlib.Core.Bool.{true};
+ghost use Prim.Native.Nat.{_+_, _<_};
+ghost use Rattle.blocks.specs.Block.{firstEntries, secondEntries};
 ghost use Rattle.judge.specs.File.{blockCount, certificateOf};
 ghost use Rattle.judge.specs.Laid.{Laid};
 ghost use Rattle.judge.specs.Judgement.{judgedOf, OnlyRulesFrom, Heads};
 ghost use Rattle.judge.specs.Listed.{RootsOf};
+ghost use Rattle.judge.specs.CoverEntries.{HatFlags, OpenFlags, AfterRule, Before};
 ghost use Rattle.judge.specs.Verdict.{onKind, uncoveredRule, ruleFault, certificateFault, faultOf, verdictOf};
 use crate::cover;
 use crate::layout;
@@ -29,17 +32,93 @@ fn leading(file: &[u8]) -> usize
     n
 }
 
+// Do both have the same bytes?
+fn same_bytes(a: &[u8], b: &[u8]) -> bool
+    ensures { λ r. ⌜ (r ≡ true → now (a .entry) ≡ now (b .entry)) ⌝ }
+{
+    if a.len() != b.len() {
+        return false;
+    }
+    let mut k = 0;
+    while k < a.len() {
+        if a[k] != b[k] {
+            return false;
+        }
+        k += 1;
+    }
+    true
+}
+
+// Is the block before block i a rule?
+fn is_after_rule(file: &[u8], i: usize) -> bool
+    requires { ⌜ i < blockCount (now file) ⌝ }
+    ensures { λ r. ⌜ (r ≡ true → AfterRule (now (file .entry)) i) ⌝ }
+{
+    if i == 0 {
+        return false;
+    }
+    blocks::kind(blocks::block(file, i - 1)) == 5
+}
+
+// The open places of block i's premise, if it is a rule: those of the rule before it, if the premise is the same.
+fn opened_at(file: &[u8], head: &[u8], i: usize, opened: [u8; 64]) -> [u8; 64]
+    requires { ⌜ Laid (now file) × (i < blockCount (now file)) × Laid (now head) × Before firstEntries (OpenFlags (certificateOf (now head))) (now file) i opened ⌝ }
+    ensures { λ r. ⌜ Before firstEntries (OpenFlags (certificateOf (now (head .entry)))) (now (file .entry)) (i + 1) r ⌝ }
+{
+    let block = blocks::block(file, i);
+    if blocks::kind(block) != 5 {
+        return opened;
+    }
+    let premise = blocks::first_entries(block);
+    if is_after_rule(file, i) {
+        let before = blocks::first_entries(blocks::block(file, i - 1));
+        if same_bytes(before, premise) {
+            return opened;
+        }
+    }
+    cover::open_places(head, premise)
+}
+
+// The entries of block i's conclusion for which there is a sure hat, if it is a rule: those of the rule before it, if the
+// conclusion is the same.
+fn hats_at(file: &[u8], head: &[u8], i: usize, hats: [u8; 64]) -> [u8; 64]
+    requires { ⌜ Laid (now file) × (i < blockCount (now file)) × Laid (now head) × Before secondEntries (HatFlags (certificateOf (now head))) (now file) i hats ⌝ }
+    ensures { λ r. ⌜ Before secondEntries (HatFlags (certificateOf (now (head .entry)))) (now (file .entry)) (i + 1) r ⌝ }
+{
+    let block = blocks::block(file, i);
+    if blocks::kind(block) != 5 {
+        return hats;
+    }
+    let conclusion = blocks::second_entries(block);
+    if is_after_rule(file, i) {
+        let before = blocks::second_entries(blocks::block(file, i - 1));
+        if same_bytes(before, conclusion) {
+            return hats;
+        }
+    }
+    cover::sure_hats(head, conclusion)
+}
+
 // Number 12 at block i, if it is a rule: its first place that is risky and not covered. What the file lists is read from
 // its head.
-fn uncovered_at(file: &[u8], head: &[u8], roots: &[u8; 256], i: usize) -> Judged
-    requires { ⌜ Laid (now file) × (i < blockCount (now file)) × Heads (now head) (now file) × RootsOf (now head) (now roots) ⌝ }
+fn uncovered_at(
+    file: &[u8],
+    head: &[u8],
+    roots: &[u8; 384],
+    opened: &[u8; 64],
+    hats: &[u8; 64],
+    i: usize,
+) -> Judged
+    requires { ⌜ Laid (now file) × (i < blockCount (now file)) × Heads (now head) (now file) × RootsOf (now head) (now roots)
+        × Before firstEntries (OpenFlags (certificateOf (now head))) (now file) (i + 1) (now opened)
+        × Before secondEntries (HatFlags (certificateOf (now head))) (now file) (i + 1) (now hats) ⌝ }
     ensures { λ r. ⌜ r ≡ judgedOf (onKind 5 (uncoveredRule (certificateOf (now (file .entry)))) (now (file .entry)) i) ⌝ }
 {
     let block = blocks::block(file, i);
     if blocks::kind(block) != 5 {
         return Judged::Fine;
     }
-    match cover::uncovered(head, roots, block) {
+    match cover::uncovered(head, roots, opened, hats, block) {
         Found::At(k) => Judged::Faulty(Fault::Uncovered(
             i as u8,
             (blocks::first_count(block) + k) as u8,
@@ -57,9 +136,13 @@ fn rule_fault(file: &[u8]) -> Judged
     let head = &file[0..512 * n];
     let roots = listed::secret_roots(head);
     let count = file.len() / 512;
+    let mut opened = [0u8; 64];
+    let mut hats = [0u8; 64];
     let mut i = 0;
     while i < count {
-        match uncovered_at(file, head, &roots, i) {
+        opened = opened_at(file, head, i, opened);
+        hats = hats_at(file, head, i, hats);
+        match uncovered_at(file, head, &roots, &opened, &hats, i) {
             Judged::Faulty(f) => return Judged::Faulty(f),
             Judged::Fine => i += 1,
         }

@@ -16,20 +16,27 @@ ghost use Rattle.judge.specs.Laid.{Laid, TermBlock};
 ghost use Rattle.judge.specs.Conditions.{KnownAtom, WeaklyClosed, KeptKey};
 ghost use Rattle.judge.specs.Verdict.{onKind, knownSecret, unclosedSecret, unkeptKey, knownFault, closedFault, keyFault};
 ghost use Rattle.judge.specs.Listed.{HoldsAt, Searching, TermPart, matches-listed?, shares-listed?, is-secret?, faultIf, faultFound, Inside};
-ghost use Rattle.judge.specs.Listed.{FlaggedMore, RootsOf, NoRoot};
+ghost use Rattle.judge.specs.Listed.{slotAt, FlaggedMore, RootsOf, NoRoot};
 ghost use Rattle.judge.specs.declared.verdict.Fault.the-variants.{KnownSecret, NotClosed, KeyNotKept};
 use terms::entry;
 use terms::matching;
 use terms::sharing;
 use terms::valid::Found;
 
+// The kind of block i.
+fn kind_at(file: &[u8], i: usize) -> u8
+    requires { ⌜ i < blockCount (now file) ⌝ }
+    ensures { λ r. ⌜ r ≡ kindOf (blockAt (now (file .entry)) i) ⌝ }
+{
+    blocks::kind(blocks::block(file, i))
+}
+
 // Is block i of this kind?
 fn is_kind(file: &[u8], i: usize, kind: u8) -> bool
     requires { ⌜ i < blockCount (now file) ⌝ }
     ensures { λ r. ⌜ Says r (kindOf (blockAt (now (file .entry)) i) ≡ kind) ⌝ }
 {
-    let block = blocks::block(file, i);
-    blocks::kind(block) == kind
+    kind_at(file, i) == kind
 }
 
 // The entries of the term of block i.
@@ -54,7 +61,7 @@ fn matches_at(file: &[u8], i: usize, kind: u8, e: &[u8]) -> bool
 }
 
 // Is the term that e begins with some listed pattern of this kind, with its variables replaced? Asked from the last block
-// back, as the patterns stand behind the secrets.
+// back, as the patterns stand behind the secrets, to the first of a lower kind.
 pub fn is_listed_match(file: &[u8], kind: u8, e: &[u8]) -> bool
     requires { ⌜ Searching (now file) kind (now e) ⌝ }
     ensures { λ r. ⌜ r ≡ answer (matches-listed? (certificateOf (now (file .entry))) kind (termOf (now (e .entry)))) ⌝ }
@@ -64,6 +71,9 @@ pub fn is_listed_match(file: &[u8], kind: u8, e: &[u8]) -> bool
     while 0 < left {
         if matches_at(file, left - 1, kind, e) {
             return true;
+        }
+        if kind_at(file, left - 1) < kind {
+            return false;
         }
         left -= 1;
     }
@@ -82,7 +92,8 @@ fn shares_at(file: &[u8], i: usize, kind: u8, e: &[u8]) -> bool
     }
 }
 
-// Does some listed term of this kind share an instance with the term that e begins with? Asked from the last block back.
+// Does some listed term of this kind share an instance with the term that e begins with? Asked from the last block back to
+// the first of a lower kind.
 pub fn shares_listed(file: &[u8], kind: u8, e: &[u8]) -> bool
     requires { ⌜ Searching (now file) kind (now e) ⌝ }
     ensures { λ r. ⌜ r ≡ answer (shares-listed? (certificateOf (now (file .entry))) kind (termOf (now (e .entry)))) ⌝ }
@@ -92,6 +103,9 @@ pub fn shares_listed(file: &[u8], kind: u8, e: &[u8]) -> bool
     while 0 < left {
         if shares_at(file, left - 1, kind, e) {
             return true;
+        }
+        if kind_at(file, left - 1) < kind {
+            return false;
         }
         left -= 1;
     }
@@ -110,7 +124,8 @@ fn same_at(file: &[u8], i: usize, e: &[u8]) -> bool
     }
 }
 
-// Is the term that e begins with, symbol for symbol, a listed secret?
+// Is the term that e begins with, symbol for symbol, a listed secret? Asked from the first block to the first of a higher
+// kind.
 pub fn is_listed_secret(file: &[u8], e: &[u8]) -> bool
     requires { ⌜ Searching (now file) 2 (now e) ⌝ }
     ensures { λ r. ⌜ r ≡ answer (is-secret? (certificateOf (now (file .entry))) (termOf (now (e .entry)))) ⌝ }
@@ -121,28 +136,47 @@ pub fn is_listed_secret(file: &[u8], e: &[u8]) -> bool
         if same_at(file, i, e) {
             return true;
         }
+        if 2 < kind_at(file, i) {
+            return false;
+        }
         i += 1;
     }
     false
 }
 
+// The slot of the root of the term that e begins with. Atoms, pairs and encryptions have 128 slots each, by the root's
+// value; a pair's value is always 0, so its left half's root is asked instead.
+fn root_slot(e: &[u8]) -> usize
+    requires { ⌜ Begins (now e) ⌝ }
+    ensures { λ r. ⌜ (r ≡ slotAt (now (e .entry))) × (r < 384) ⌝ }
+{
+    let tag = e[0];
+    if tag == 2 {
+        128 + entry::value(&e[4..]) % 128
+    } else if tag == 3 {
+        256 + entry::value(e) % 128
+    } else {
+        entry::value(e) % 128
+    }
+}
+
 // Flags the root of block i's term, if it is a secret's.
-fn flag_root(file: &[u8], i: usize, roots: &mut [u8; 256])
-    requires { ⌜ Laid (now file) × (i < blockCount (now file)) × (length (now roots) ≡ 256) ⌝ }
+fn flag_root(file: &[u8], i: usize, roots: &mut [u8; 384])
+    requires { ⌜ Laid (now file) × (i < blockCount (now file)) × (length (now roots) ≡ 384) ⌝ }
     ensures { λ _. ⌜ FlaggedMore (now (file .entry)) i (now (roots .entry)) (now (roots .exit)) ⌝ }
 {
     if is_kind(file, i, 2) {
-        let n = entry::value(term_at(file, i)) % 256;
+        let n = root_slot(term_at(file, i));
         roots[n] = 1;
     }
 }
 
 // The roots of all secrets, flagged.
-pub fn secret_roots(file: &[u8]) -> [u8; 256]
+pub fn secret_roots(file: &[u8]) -> [u8; 384]
     requires { ⌜ Laid (now file) ⌝ }
     ensures { λ r. ⌜ RootsOf (now (file .entry)) r ⌝ }
 {
-    let mut roots = [0u8; 256];
+    let mut roots = [0u8; 384];
     let count = file.len() / 512;
     let mut i = 0;
     while i < count {
@@ -152,15 +186,22 @@ pub fn secret_roots(file: &[u8]) -> [u8; 256]
     roots
 }
 
-// Might a secret have the root of the term that e begins with? If not, it is no secret and shares an instance with none.
-pub fn may_be_secret(roots: &[u8; 256], e: &[u8]) -> bool
-    requires { ⌜ (length (now roots) ≡ 256) × Begins (now e) ⌝ }
+// Might the term that e begins with be a secret or share an instance with one? A variable might, and a pair whose left
+// half is one; any other term if a secret's root has its slot.
+pub fn may_be_secret(roots: &[u8; 384], e: &[u8]) -> bool
+    requires { ⌜ (length (now roots) ≡ 384) × Begins (now e) ⌝ }
     ensures { λ r. ⌜ (r ≡ false → NoRoot (now (roots .entry)) (now (e .entry))) ⌝ }
 {
-    if 3 < e[0] {
+    let tag = e[0];
+    if 3 < tag {
         return true;
     }
-    roots[entry::value(e) % 256] != 0
+    if tag == 2 {
+        if 3 < e[4] {
+            return true;
+        }
+    }
+    roots[root_slot(e)] != 0
 }
 
 // Is this atom a listed secret?

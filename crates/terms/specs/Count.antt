@@ -1,22 +1,36 @@
--- Entries that all have a symbol, counted as terms: how many terms are still to come.
+-- Entries that all have a symbol, counted as terms by their tags: how many terms are still to come.
 use mathlib.Core.Path.{_≡_, refl, sym, ap, _∙_}
 use mathlib.Core.Bool.{Bool, true, false}
 use mathlib.Core.List.{List, [], _∷_}
 use mathlib.Core.Option.{Option, none, some}
-use Prim.Native.Nat.{ℕ, zero, suc, _+_, _*_, _-_, _≤_, _<_}
+use Prim.Native.Nat.{ℕ, zero, suc, _+_, _*_, _-_, _/_, _≤_, _<_}
 use native.Mathlib.Omega.{arith}
 use lib.Dec.{ltb, eqb}
-use lib.ListN.{length, getD}
-use borrow.Rule.Slice.PartAt.{part-to-end}
+use lib.ListN.{length, getD, take, set, length-take, drop-of-length-le}
+use lib.Seq.{take-all, take-suc, take-suc-set, slice, slice-cons}
+use native.Mathlib.Numerals.{add-one}
 use Rattle.terms.specs.Term.{Term, Variable, variable, atom, pair, encrypted, plain, marked}
-use Rattle.terms.specs.Entry.{Symbol, atomSymbol, pairSymbol, encryptionSymbol, variableSymbol, tagOf, symbolOf, numbered, before, beforeAll}
-use Rattle.terms.specs.Entry.{withZero, termsOf, tagAt}
+use Rattle.terms.specs.Entry.{Symbol, atomSymbol, pairSymbol, encryptionSymbol, variableSymbol, tagOf, childrenOf, symbolOf, numbered}
+use Rattle.terms.specs.Entry.{before, beforeAll, withZero, termsOf}
 use Rattle.terms.specs.EntryLaws.{none≢some, never-empty}
-use Rattle.terms.specs.WalkLaws.{from}
 use Rattle.terms.specs.Solve.{Says, says-same}
 use Rattle.terms.specs.Decisions.{says-eq}
 use Rattle.terms.specs.Each.{Each, none-left, one-more}
 use Rattle.terms.specs.OneTerm.{HasSymbol, OneTerm, one-reads, reads-one}
+
+-- The tags of the entries.
+unfoldable pub tagsOf : List ℕ → List ℕ
+tagsOf [] = []
+tagsOf (a ∷ []) = []
+tagsOf (a ∷ b ∷ []) = []
+tagsOf (a ∷ b ∷ c ∷ []) = []
+tagsOf (tag ∷ zeroByte ∷ low ∷ high ∷ rest) = tag ∷ tagsOf rest
+
+-- Entries with these tags are so many terms: each makes one of as many terms after it as it has children.
+unfoldable pub areTerms : List ℕ → ℕ → Bool
+areTerms [] need = eqb need 0
+areTerms (tag ∷ tags) zero = false
+areTerms (tag ∷ tags) (suc need) = areTerms tags (need + childrenOf tag)
 
 -- The tag is the symbol's.
 symbol-tag : (z tag value : ℕ) {s : Symbol} → withZero z (symbolOf tag value) ≡ some s → tagOf s ≡ tag
@@ -39,22 +53,6 @@ symbol-tag zero (suc (suc (suc (suc (suc zero))))) v {s} e = go (ltb v 8) e
     go false q = absurd (none≢some _ q)
 symbol-tag zero (suc (suc (suc (suc (suc (suc t)))))) v e = absurd (none≢some _ e)
 
--- How many children a symbol has.
-children : Symbol → ℕ
-children (atomSymbol a) = 0
-children pairSymbol = 2
-children (encryptionSymbol k) = 1
-children (variableSymbol x) = 0
-
-children-tag : (s : Symbol)
-    → (tagOf s ≡ 2 → children s ≡ 2) × (tagOf s ≡ 3 → children s ≡ 1) × ((tagOf s ≡ 2 → ⊥) → (tagOf s ≡ 3 → ⊥) → children s ≡ 0)
-unfolding tagOf children
-children-tag (atomSymbol a) = (λ e. absurd (omega arith), λ e. absurd (omega arith), λ p q. refl)
-children-tag pairSymbol = (λ e. refl, λ e. absurd (omega arith), λ p q. absurd (p refl))
-children-tag (encryptionSymbol k) = (λ e. absurd (omega arith), λ e. refl, λ p q. absurd (q refl))
-children-tag (variableSymbol (plain x)) = (λ e. absurd (omega arith), λ e. absurd (omega arith), λ p q. refl)
-children-tag (variableSymbol (marked x)) = (λ e. absurd (omega arith), λ e. absurd (omega arith), λ p q. refl)
-
 -- So many terms were read.
 pub record Count (o : Option (List (Term Variable))) (need : ℕ) : Type 0 where
   pub terms : List (Term Variable)
@@ -62,12 +60,14 @@ pub record Count (o : Option (List (Term Variable))) (need : ℕ) : Type 0 where
   pub many : length terms ≡ need
 
 -- A symbol before terms needs as many of them as it has children, and makes one of these.
-count-down : (s : Symbol) (o : Option (List (Term Variable))) (need : ℕ) → Count (beforeAll (some s) o) (suc need) → Count o (need + children s)
-unfolding beforeAll before children
+count-down : (s : Symbol) (o : Option (List (Term Variable))) (need : ℕ) → Count (beforeAll (some s) o) (suc need) → Count o (need + childrenOf (tagOf s))
+unfolding beforeAll before childrenOf tagOf
 count-down s none need r = absurd (none≢some _ (r .are))
 count-down (atomSymbol a) (some l) need r =
     let c : length (r .terms) ≡ suc (length l) = cc in let d = r .many in record { terms = l; are = refl; many = omega arith }
-count-down (variableSymbol x) (some l) need r =
+count-down (variableSymbol (plain x)) (some l) need r =
+    let c : length (r .terms) ≡ suc (length l) = cc in let d = r .many in record { terms = l; are = refl; many = omega arith }
+count-down (variableSymbol (marked x)) (some l) need r =
     let c : length (r .terms) ≡ suc (length l) = cc in let d = r .many in record { terms = l; are = refl; many = omega arith }
 count-down pairSymbol (some []) need r = absurd (none≢some _ (r .are))
 count-down pairSymbol (some (t ∷ [])) need r = absurd (none≢some _ (r .are))
@@ -77,13 +77,15 @@ count-down (encryptionSymbol k) (some []) need r = absurd (none≢some _ (r .are
 count-down (encryptionSymbol k) (some (t ∷ l)) need r =
     let c : length (r .terms) ≡ suc (length l) = cc in let d = r .many in record { terms = t ∷ l; are = refl; many = omega arith }
 
-count-up : (s : Symbol) (o : Option (List (Term Variable))) (need : ℕ) → Count o (need + children s) → Count (beforeAll (some s) o) (suc need)
-unfolding beforeAll before children
+count-up : (s : Symbol) (o : Option (List (Term Variable))) (need : ℕ) → Count o (need + childrenOf (tagOf s)) → Count (beforeAll (some s) o) (suc need)
+unfolding beforeAll before childrenOf tagOf
 count-up s none need r = absurd (none≢some _ (r .are))
 count-up (atomSymbol a) (some l) need r =
     let c : length (r .terms) ≡ length l = cc in let d = r .many in record { terms = atom a ∷ l; are = refl; many = omega arith }
-count-up (variableSymbol x) (some l) need r =
-    let c : length (r .terms) ≡ length l = cc in let d = r .many in record { terms = variable x ∷ l; are = refl; many = omega arith }
+count-up (variableSymbol (plain x)) (some l) need r =
+    let c : length (r .terms) ≡ length l = cc in let d = r .many in record { terms = variable (plain x) ∷ l; are = refl; many = omega arith }
+count-up (variableSymbol (marked x)) (some l) need r =
+    let c : length (r .terms) ≡ length l = cc in let d = r .many in record { terms = variable (marked x) ∷ l; are = refl; many = omega arith }
 count-up pairSymbol (some []) need r =
     let c : length (r .terms) ≡ 0 = cc in let d = r .many in absurd (omega arith)
 count-up pairSymbol (some (t ∷ [])) need r =
@@ -95,70 +97,82 @@ count-up (encryptionSymbol k) (some []) need r =
 count-up (encryptionSymbol k) (some (t ∷ l)) need r =
     let c : length (r .terms) ≡ suc (length l) = cc in let d = r .many in record { terms = encrypted k t ∷ l; are = refl; many = omega arith }
 
+count-step : (s : Symbol) (o : Option (List (Term Variable))) (need k : ℕ) → childrenOf (tagOf s) ≡ k → (b : Bool) → Says b (Count o (need + k))
+    → Says b (Count (beforeAll (some s) o) (suc need))
+count-step s o need k is b says = says-same b (count-up s o need) (count-down s o need) (rw (← is) at says)
+
 no-terms : (l : List (Term Variable)) → length l ≡ 0 → l ≡ []
 no-terms [] e = refl
 no-terms (t ∷ l) e = absurd (omega arith)
 
--- No entries are no terms.
-pub count-none : (e : List ℕ) (need : ℕ) → Each HasSymbol e → length e < 4 → Says (eqb need 0) (Count (termsOf e) need)
-unfolding termsOf
-count-none e need (one-more p each) l = absurd (omega arith)
-count-none e need none-left l = says-same (eqb need 0) (λ z. record { terms = []; are = refl; many = sym z }) none-needed (says-eq need 0)
+-- Entries that all have a symbol are so many terms if their tags are.
+count-tags : {e : List ℕ} → Each HasSymbol e → (need : ℕ) → Says (areTerms (tagsOf e) need) (Count (termsOf e) need)
+unfolding termsOf tagsOf areTerms
+count-tags none-left need = says-same (eqb need 0) (λ z. record { terms = []; are = refl; many = sym z }) none-needed (says-eq need 0)
   where
     none-needed : Count (some []) need → need ≡ 0
     none-needed c = let z : length (c .terms) ≡ 0 = cc in let d = c .many in omega arith
-
--- The first entry has a symbol, and the others are read alone.
-record Starts (e : List ℕ) : Type 0 where
-  symbol : Symbol
-  tag : tagOf symbol ≡ tagAt e
-  reads : termsOf e ≡ beforeAll (some symbol) (termsOf (from 4 e))
-
-starts : {e : List ℕ} → Each HasSymbol e → 4 ≤ length e → Starts e
-unfolding termsOf
-starts none-left l = absurd (omega arith)
-starts (one-more {tag} {zeroByte} {low} {high} {rest} p each) l = record {
-  symbol = p .symbol;
-  tag = symbol-tag zeroByte tag (low + 256 * high) (p .is);
-  reads = rw (part-to-end (tag ∷ zeroByte ∷ low ∷ high ∷ rest) 4, p .is) refl;
-}
-
--- With the first entry taken off, so many more or less are still to come.
-count-first : (e : List ℕ) (need next : ℕ) (w : Starts e) → (need ≡ 0 → ⊥) → (b : Bool) → next + 1 ≡ need + children (w .symbol)
-    → Says b (Count (termsOf (from 4 e)) next) → Says b (Count (termsOf e) need)
-count-first e zero next w nz b n says = absurd (nz refl)
-count-first e (suc need) next w nz b n says = rw (w .reads) (says-same b
-    (λ c. count-up (w .symbol) (termsOf (from 4 e)) need (rw same at c)) (λ c. rw same (count-down (w .symbol) (termsOf (from 4 e)) need c)) says)
-  where
-    same : next ≡ need + children (w .symbol)
-    same = omega arith
-
--- Entries are at least one term.
-pub count-some : (e : List ℕ) (need : ℕ) → Each HasSymbol e → 4 ≤ length e → need ≡ 0 → ¬ Count (termsOf e) need
-count-some e need each l z c =
-    let nothing = no-terms (c .terms) (c .many ∙ z) in never-empty _ _ (sym (starts each l .reads) ∙ c .are ∙ ap some nothing)
-
-module _ (e : List ℕ) (need : ℕ) (each : Each HasSymbol e) (some-left : 4 ≤ length e) (some-need : need ≡ 0 → ⊥) (b : Bool) where
-  pub count-pair : tagAt e ≡ 2 → Says b (Count (termsOf (from 4 e)) (need + 1)) → Says b (Count (termsOf e) need)
-  count-pair t says = let w = starts each some-left in let k = children-tag (w .symbol) .0 (w .tag ∙ t) in
-      count-first e need (need + 1) w some-need b (omega arith) says
-
-  pub count-encryption : tagAt e ≡ 3 → Says b (Count (termsOf (from 4 e)) need) → Says b (Count (termsOf e) need)
-  count-encryption t says = let w = starts each some-left in let k = children-tag (w .symbol) .1 (w .tag ∙ t) in
-      count-first e need need w some-need b (omega arith) says
-
-  pub count-leaf : (tagAt e ≡ 2 → ⊥) → (tagAt e ≡ 3 → ⊥) → Says b (Count (termsOf (from 4 e)) (need - 1)) → Says b (Count (termsOf e) need)
-  count-leaf p q says =
-      let w = starts each some-left in
-      let k = children-tag (w .symbol) .2 (λ t. p (sym (w .tag) ∙ t)) (λ t. q (sym (w .tag) ∙ t)) in
-      count-first e need (need - 1) w some-need b (omega arith) says
+count-tags (one-more p each) zero = λ c. never-empty _ _ (c .are ∙ ap some (no-terms (c .terms) (c .many)))
+count-tags (one-more {tag} {zeroByte} {low} {high} {rest} p each) (suc need) =
+    let is : childrenOf (tagOf (p .symbol)) ≡ childrenOf tag = ap childrenOf (symbol-tag zeroByte tag (low + 256 * high) (p .is)) in
+    rw (p .is) (count-step (p .symbol) (termsOf rest) need (childrenOf tag) is (areTerms (tagsOf rest) (need + childrenOf tag))
+    (count-tags each (need + childrenOf tag)))
 
 -- One term is one term still to come.
-pub count-one : (e : List ℕ) → ((i : ℕ) → getD e i 0 < 256) → (b : Bool) → Says b (Count (termsOf e) 1) → Says b (OneTerm e)
-count-one e all b says = says-same b (λ c. reads-one (record { is = c .are ∙ ap some (single (c .terms) (c .many) .1) }) all)
-    (λ o. record { terms = o .term ∷ []; are = one-reads o .is; many = refl }) says
+pub count-one : {e : List ℕ} → Each HasSymbol e → ((i : ℕ) → getD e i 0 < 256) → {tags : List ℕ} → tags ≡ tagsOf e
+    → {b : Bool} → b ≡ areTerms tags 1 → Says b (OneTerm e)
+count-one {e} each all same {b} is = says-same {P = Count (termsOf e) 1} b (λ c. reads-one (record { is = c .are ∙ ap some (single (c .terms) (c .many) .1) }) all)
+    (λ o. record { terms = o .term ∷ []; are = one-reads o .is; many = refl }) (rw (is, same) (count-tags each 1))
   where
     single : (l : List (Term Variable)) → length l ≡ 1 → (t : Term Variable) × (l ≡ t ∷ [])
     single [] e = absurd (omega arith)
     single (t ∷ []) e = (t, refl)
     single (t ∷ u ∷ l) e = absurd (omega arith)
+
+-- The steps of the walk over the tags from `at` up to `count`.
+module _ (tags : List ℕ) (at count : ℕ) where
+  pub none-left-terms : (need : ℕ) → count ≤ at → eqb need 0 ≡ areTerms (slice at count tags) need
+  unfolding areTerms
+  none-left-terms need far = rw (drop-of-length-le (take count tags) {i = at} (omega (arith, length-take count tags)))
+
+  module _ (inside : count ≤ length tags) (near : at < count) where
+    pub none-needed-terms : {need : ℕ} → need ≡ 0 → false ≡ areTerms (slice at count tags) need
+    unfolding areTerms
+    none-needed-terms z = rw (z, slice-cons at count tags 0 near inside)
+
+    pub next-terms : (need : ℕ) → (need ≡ 0 → ⊥) → {k : ℕ} → k ≡ childrenOf (getD tags at 0) → {b : Bool}
+        → b ≡ areTerms (slice (at + 1) count tags) (need - 1 + k) → b ≡ areTerms (slice at count tags) need
+    unfolding areTerms
+    next-terms zero some-need is e = absurd (some-need refl)
+    next-terms (suc need) some-need {k} is e =
+        let far : at + 1 ≡ suc at = omega arith in
+        let left : suc need - 1 + k ≡ need + childrenOf (getD tags at 0) = omega arith in
+        rw (slice-cons at count tags 0 near inside) (rw (far, left) at e)
+
+-- A tag stands at every fourth byte.
+length-tags : (e : List ℕ) → length (tagsOf e) ≡ length e / 4
+unfolding tagsOf
+length-tags [] = refl
+length-tags (a ∷ []) = refl
+length-tags (a ∷ b ∷ []) = refl
+length-tags (a ∷ b ∷ c ∷ []) = refl
+length-tags (a ∷ b ∷ c ∷ d ∷ e) = let i = length-tags e in omega arith
+
+tag-at : (e : List ℕ) (k : ℕ) → k < length e / 4 → getD (tagsOf e) k 0 ≡ getD e (4 * k) 0
+unfolding tagsOf
+tag-at [] k h = absurd (omega arith)
+tag-at (a ∷ []) k h = absurd (omega arith)
+tag-at (a ∷ b ∷ []) k h = absurd (omega arith)
+tag-at (a ∷ b ∷ c ∷ []) k h = absurd (omega arith)
+tag-at (a ∷ b ∷ c ∷ d ∷ e) zero h = refl
+tag-at (a ∷ b ∷ c ∷ d ∷ e) (suc k) h =
+    let far : 4 * suc k ≡ suc (suc (suc (suc (4 * k)))) = omega arith in rw far (tag-at e k (omega arith))
+
+-- One turn of the loop that takes the tags, and its end.
+pub tag-stored : (e tags : List ℕ) (k : ℕ) → k < length e / 4 → k < length tags → take k tags ≡ take k (tagsOf e)
+    → take (k + 1) (set tags k (getD e (4 * k) 0)) ≡ take (k + 1) (tagsOf e)
+tag-stored e tags k inside room so-far = let far : k < length (tagsOf e) = omega (arith, length-tags e) in
+    rw (add-one, take-suc-set, so-far, take-suc (tagsOf e) k 0, tag-at e k inside)
+
+pub tags-stored : (e tags : List ℕ) (k : ℕ) → k ≡ length e / 4 → take k tags ≡ take k (tagsOf e) → take (length e / 4) tags ≡ tagsOf e
+tags-stored e tags k all so-far = rw (← all) (so-far ∙ take-all k (tagsOf e) (omega (arith, length-tags e)))

@@ -2,9 +2,9 @@
 use mathlib.Core.Path.{_≡_, refl}
 use mathlib.Core.Bool.{Bool, true, false}
 use mathlib.Core.Logic.{_⊎_, inl, inr}
-use Prim.Native.Nat.{ℕ, _<_}
-use lib.Dec.{ltb, eqb}
-use borrow.Author.Tests.{ltb-true, ltb-false, eqb-true, eqb-false}
+use Prim.Native.Nat.{ℕ}
+use lib.Dec.{eqb}
+use borrow.Author.Tests.{eqb-true, eqb-false}
 use native.Mathlib.Omega.{arith}
 use Rattle.terms.specs.Solve.{Says}
 
@@ -49,14 +49,7 @@ dec-all {A} {Q} {P} d (no none′) = yes (λ a q. decided a q (d a))
     decided a q (yes x) = x
     decided a q (no n) = absurd (none′ (a, q, n))
 
--- What the tests on numbers say.
-pub says-lt : (a b : ℕ) → Says (ltb a b) (a < b)
-says-lt a b = go (ltb a b) refl
-  where
-    go : (t : Bool) → ltb a b ≡ t → Says t (a < b)
-    go true e = ltb-true a b e
-    go false e = λ h. (let k = ltb-false a b e in omega arith)
-
+-- What the test of two numbers says.
 pub says-eq : (a b : ℕ) → Says (eqb a b) (a ≡ b)
 says-eq a b = go (eqb a b) refl
   where

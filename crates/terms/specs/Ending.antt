@@ -1,137 +1,100 @@
--- The test whether every way down over the classes comes to an end: nodes are marked whose children have all ended.
+-- The test whether every way down over the classes comes to an end: a walk goes down once from every class and marks it, 1
+-- while the walk is below it and 2 once every way down from it has ended. A way that leads back to a mark 1 never ends.
 use mathlib.Core.Path.{_≡_, refl, sym, ap, _∙_, subst}
-use mathlib.Core.Bool.{Bool, true, false, not, true≢false, false≢true}
+use mathlib.Core.Bool.{Bool, true, false, true≢false, false≢true}
 use mathlib.Core.List.{List, [], _∷_}
 use mathlib.Core.Logic.{_⊎_, inl, inr}
-use Prim.Native.Nat.{ℕ, zero, suc, _+_, _*_, _-_, _<_, _≤_}
+use Prim.Native.Nat.{ℕ, zero, suc, _+_, _-_, _/_, _<_, _≤_}
 use native.Mathlib.Omega.{arith}
-use lib.Dec.{eqb, ltb}
-use borrow.Author.Tests.{eqb-true, eqb-false, ne-eqb, ltb-true, ltb-false, lt-ltb, le-ltb}
-use lib.ListN.{length, getD, set}
-use lib.Seq.{getD-set-other}
+use native.Mathlib.Decide.{decLt, ℕ-discrete}
+use borrow.Author.Tests.{lt-ltb, le-ltb}
+use lib.ListN.{length, getD, set, length-set}
+use lib.Seq.{getD-set-same, getD-set-other}
 use Rattle.terms.specs.Term.{Message}
-use Rattle.terms.specs.Graph.{free, pairNode, encryptionNode, Child, Valid, Respects, Classes, Finite, finite}
-use Rattle.terms.specs.GraphLaws.{endless}
-use Rattle.terms.specs.TermGraph.{third, nodeTag, nodeBy, nodeOf, firstChild, secondChild, nodeValue}
+use Rattle.terms.specs.Entry.{size, Begins}
+use Rattle.terms.specs.Graph.{free, Child, Valid, Respects, Classes, Finite, finite}
+use Rattle.terms.specs.GraphLaws.{falls}
+use Rattle.terms.specs.TermGraph.{TwoTerms, tagIn, nodeTag, nodeBy, nodeOf, firstChild, secondChild, nodeValue}
+use Rattle.terms.specs.TermGraphLaws.{pair-there, encryption-there}
 use Rattle.terms.specs.UniteLaws.{node-by}
-use Rattle.terms.specs.Names.{nameOf, name-read}
+use Rattle.terms.specs.Names.{nameOf}
 
--- A mark that is not zero.
-abbrev pub isMarked : ℕ → Bool
-isMarked zero = false
-isMarked (suc n) = true
+-- ---- what the walk keeps
 
--- The class of node i is known to end: its name is no entry, or is marked in d.
-unfoldable pub endedAt : List ℕ → List ℕ → ℕ → Bool
-endedAt c d i = third (ltb (nameOf c i) 128) (isMarked (getD d (nameOf c i) 0)) true
+-- Every way down from the children of node a ends.
+pub record ChildrenEnd (s t c : List ℕ) (a : ℕ) : Type 0 where
+  pub child : (j : ℕ) → Child j (nodeOf s t a) → Finite (nodeOf s t) (nameOf c) j
 
--- What the answer r says of node i's children: all have ended, or one has not.
-pub record Readiness (s t c d : List ℕ) (i : ℕ) (r : Bool) : Type 0 where
-  pub ready : r ≡ true → (j : ℕ) → Child j (nodeOf s t i) → endedAt c d j ≡ true
-  pub waits : r ≡ false → (j : ℕ) × Child j (nodeOf s t i) × (endedAt c d j ≡ false)
+-- From every class with a mark above 1 all ways down end.
+pub record Sound (s t c m : List ℕ) : Type 0 where
+  pub ends : (a : ℕ) → a < 128 → 1 < getD m a 0 → ChildrenEnd s t c a
 
--- From a marked node every way down ends.
-pub record Sound (s t c d : List ℕ) : Type 0 where
-  pub ends : (i : ℕ) → i < 128 → isMarked (getD d i 0) ≡ true → (j : ℕ) → Child j (nodeOf s t i) → Finite (nodeOf s t) (nameOf c) j
+-- Node i is below every class with mark 1: a valid valuation that respects the classes gives it a smaller message.
+pub record Below (s t c m : List ℕ) (i : ℕ) : Type 0 where
+  pub smaller : (v : ℕ → Message) → Valid (nodeOf s t) v → Respects (nameOf c) v → (a : ℕ) → a < 128 → getD m a 0 ≡ 1 → size (v i) < size (v a)
 
--- From node k on every node that is not marked waits for a child.
-pub record StuckFrom (s t c d : List ℕ) (k : ℕ) : Type 0 where
-  pub waits : (i : ℕ) → k ≤ i → i < 128 → isMarked (getD d i 0) ≡ false → (j : ℕ) × Child j (nodeOf s t i) × (endedAt c d j ≡ false)
+-- Every child of node a is below every class with mark 1.
+pub record ChildrenBelow (s t c m : List ℕ) (a : ℕ) : Type 0 where
+  pub child : (j : ℕ) → Child j (nodeOf s t a) → Below s t c m j
 
 -- How many are not marked.
-abbrev unmarked : Bool → ℕ
-unmarked true = 0
-unmarked false = 1
+abbrev unmarked : ℕ → ℕ
+unmarked zero = 1
+unmarked (suc n) = 0
 
 unfoldable pub zeros : List ℕ → ℕ
 zeros [] = 0
-zeros (x ∷ d) = unmarked (isMarked x) + zeros d
+zeros (x ∷ m) = unmarked x + zeros m
 
--- One more marked.
-pub fewer-zeros : (d : List ℕ) (i : ℕ) → i < length d → isMarked (getD d i 0) ≡ false → zeros (set d i 1) < zeros d
+-- The marks n after a walk that began with the marks m: sound, no more zeros, and no mark 1 that was none before.
+pub record Kept (s t c m n : List ℕ) : Type 0 where
+  pub sound : Sound s t c n
+  pub fewer : zeros n ≤ zeros m
+  pub open-before : (a : ℕ) → a < 128 → getD n a 0 ≡ 1 → getD m a 0 ≡ 1
+
+-- The answer r of a walk: yes, and what it looked for, P, holds; no, and no valid valuation respects the classes.
+pub record Walked (s t c m n : List ℕ) (P : Type 0) (r : Bool) : Type 0 where
+  pub long : length n ≡ 128
+  pub ends : r ≡ true → P × Kept s t c m n
+  pub never : r ≡ false → (v : ℕ → Message) → Valid (nodeOf s t) v → Respects (nameOf c) v → ⊥
+
+-- P holds from `low` up to `high`.
+pub record EachFrom (P : ℕ → Type 0) (low high : ℕ) : Type 0 where
+  pub each : (k : ℕ) → low ≤ k → k < high → P k
+
+pub each-none : (P : ℕ → Type 0) (low : ℕ) → EachFrom P low low
+each-none P low = record { each = λ k h g. absurd (omega arith) }
+
+pub each-down : {P : ℕ → Type 0} {low high : ℕ} → EachFrom P low high → P (low - 1) → EachFrom P (low - 1) high
+each-down {P} {low} {high} o p = record {
+  each = λ j h g. elim (decLt j low) [ yes l ↦ let same : j ≡ low - 1 = omega arith in rw same p | no n ↦ o .each j (omega arith) g ];
+}
+
+-- ---- the number of marks
+
+-- One more marked; and a mark over another.
+pub fewer-zeros : (m : List ℕ) (a : ℕ) → a < length m → getD m a 0 ≡ 0 → zeros (set m a 1) < zeros m
 unfolding zeros
-fewer-zeros [] i h q = absurd (omega arith)
-fewer-zeros (x ∷ d) zero h q = rw q (omega arith)
-fewer-zeros (x ∷ d) (suc i) h q = let ih = fewer-zeros d i (omega arith) q in omega arith
+fewer-zeros [] a h q = absurd (omega arith)
+fewer-zeros (x ∷ m) zero h q = rw q (omega arith)
+fewer-zeros (x ∷ m) (suc a) h q = let ih = fewer-zeros m a (omega arith) q in omega arith
+
+no-more-zeros : (m : List ℕ) (a : ℕ) → zeros (set m a 2) ≤ zeros m
+unfolding zeros
+no-more-zeros [] a = omega arith
+no-more-zeros (x ∷ m) zero = omega arith
+no-more-zeros (x ∷ m) (suc a) = let ih = no-more-zeros m a in omega arith
+
+-- ---- children of nodes
 
 -- Nodes past the entries are free.
-pub past-free : (s t : List ℕ) (i : ℕ) → 128 ≤ i → nodeOf s t i ≡ free
+past-free : (s t : List ℕ) (i : ℕ) → 128 ≤ i → nodeOf s t i ≡ free
 unfolding nodeOf nodeTag nodeBy
 past-free s t i h = simp (le-ltb i 64 (omega arith), le-ltb i 128 h)
 
-module _ (s t c d : List ℕ) where
-  -- What has ended is finite.
-  ended-finite : Sound s t c d → (j : ℕ) → endedAt c d j ≡ true → Finite (nodeOf s t) (nameOf c) j
-  unfolding endedAt
-  ended-finite sound j e = go (ltb (nameOf c j) 128) refl
-    where
-      go : (b : Bool) → ltb (nameOf c j) 128 ≡ b → Finite (nodeOf s t) (nameOf c) j
-      go true q = finite (sound .ends (nameOf c j) (ltb-true (nameOf c j) 128 q) (rw q at e))
-      go false q = finite (λ k h. absurd (subst (Child k) (past-free s t (nameOf c j) (ltb-false (nameOf c j) 128 q)) h))
-
-  -- What has not ended is an entry that is not marked.
-  not-ended : (j : ℕ) → endedAt c d j ≡ false → (nameOf c j < 128) × (isMarked (getD d (nameOf c j) 0) ≡ false)
-  unfolding endedAt
-  not-ended j e = go (ltb (nameOf c j) 128) refl
-    where
-      go : (b : Bool) → ltb (nameOf c j) 128 ≡ b → (nameOf c j < 128) × (isMarked (getD d (nameOf c j) 0) ≡ false)
-      go true q = (ltb-true (nameOf c j) 128 q, rw q at e)
-      go false q = absurd (true≢false (rw q at e))
-
-  -- All marked: every node is finite.
-  pub all-finite : Sound s t c d → ((i : ℕ) → i < 128 → isMarked (getD d i 0) ≡ true) → (j : ℕ) → Finite (nodeOf s t) (nameOf c) j
-  unfolding endedAt
-  all-finite sound all j = ended-finite sound j (go (ltb (nameOf c j) 128) refl)
-    where
-      go : (b : Bool) → ltb (nameOf c j) 128 ≡ b → third (ltb (nameOf c j) 128) (isMarked (getD d (nameOf c j) 0)) true ≡ true
-      go true q = rw q (all (nameOf c j) (ltb-true (nameOf c j) 128 q))
-      go false q = rw q
-
-  -- Stuck with one not marked: no valid valuation respects the classes.
-  pub stuck-never : Classes (nodeOf s t) (nameOf c) → StuckFrom s t c d 0 → (i : ℕ) → i < 128 → isMarked (getD d i 0) ≡ false
-      → (v : ℕ → Message) → Valid (nodeOf s t) v → Respects (nameOf c) v → ⊥
-  stuck-never cs stuck i h off v valid respects =
-      let w = stuck .waits i (omega arith) h off in
-      endless (nodeOf s t) (nameOf c) v cs valid respects (λ j. endedAt c d j ≡ false)
-      (λ j e. let q = not-ended j e in stuck .waits (nameOf c j) (omega arith) (q .0) (q .1)) (w .0) (w .2)
-
--- One more node is marked, whose children have all ended.
-module _ (s t c d : List ℕ) (i : ℕ) (inside : i < length d) (sound : Sound s t c d) where
-  pub mark-sound : Readiness s t c d i true → Sound s t c (set d i 1)
-  mark-sound r = record { ends = λ k h m. go k h m (eqb k i) refl }
-    where
-      go : (k : ℕ) → k < 128 → isMarked (getD (set d i 1) k 0) ≡ true → (b : Bool) → eqb k i ≡ b → (j : ℕ) → Child j (nodeOf s t k)
-          → Finite (nodeOf s t) (nameOf c) j
-      go k h m true q j child =
-          let e : k ≡ i = eqb-true k i q in
-          ended-finite s t c d sound j (r .ready refl j (subst (λ (n : ℕ). Child j (nodeOf s t n)) e child))
-      go k h m false q j child =
-          let off : (k ≡ i → ⊥) = eqb-false k i q in
-          sound .ends k h (rw (getD-set-other d i k 1 0 off) at m) j child
-
--- Nothing is marked at the start.
-pub none-marked : (s t c d : List ℕ) → ((i : ℕ) → i < 128 → getD d i 0 ≡ 0) → Sound s t c d
-none-marked s t c d zero-all = record { ends = λ i h m. absurd (false≢true (sym (ap isMarked (zero-all i h)) ∙ m)) }
-
--- Down the loop: nothing is asked past the last node; one more node that is marked, or waits.
-pub stuck-none : (s t c d : List ℕ) → StuckFrom s t c d 128
-stuck-none s t c d = record { waits = λ i low high q. absurd (omega arith) }
-
-pub stuck-more : (s t c d : List ℕ) (k : ℕ) → StuckFrom s t c d (k + 1) → (isMarked (getD d k 0) ≡ false → Readiness s t c d k false) → StuckFrom s t c d k
-stuck-more s t c d k stuck here = record { waits = λ i low high q. go i low high q (eqb i k) refl }
-  where
-    go : (i : ℕ) → k ≤ i → i < 128 → isMarked (getD d i 0) ≡ false → (b : Bool) → eqb i k ≡ b → (j : ℕ) × Child j (nodeOf s t i) × (endedAt c d j ≡ false)
-    go i low high q true e =
-        let same : i ≡ k = eqb-true i k e in
-        let w = here (ap (λ (n : ℕ). isMarked (getD d n 0)) (sym same) ∙ q) .waits refl in
-        (w .0, subst (λ (n : ℕ). Child (w .0) (nodeOf s t n)) (sym same) (w .1), w .2)
-    go i low high q false e =
-        let off : (i ≡ k → ⊥) = eqb-false i k e in
-        stuck .waits i (omega arith) high q
-
 -- A node's children by its tag.
 module _ (s t : List ℕ) (i : ℕ) where
-  pub childless : (nodeTag s t i ≡ 2 → ⊥) → (nodeTag s t i ≡ 3 → ⊥) → (j : ℕ) → Child j (nodeOf s t i) → ⊥
+  childless : (nodeTag s t i ≡ 2 → ⊥) → (nodeTag s t i ≡ 3 → ⊥) → (j : ℕ) → Child j (nodeOf s t i) → ⊥
   unfolding nodeOf nodeBy
   childless no-pair no-encryption = go (nodeTag s t i) no-pair no-encryption
     where
@@ -142,93 +105,192 @@ module _ (s t : List ℕ) (i : ℕ) where
       go (suc (suc (suc zero))) p q j child = q refl
       go (suc (suc (suc (suc n)))) p q j child = child
 
-  pub childless-ready : (c d : List ℕ) → (nodeTag s t i ≡ 2 → ⊥) → (nodeTag s t i ≡ 3 → ⊥) → Readiness s t c d i true
-  childless-ready c d no-pair no-encryption = record {
-    ready = λ e j child. absurd (childless no-pair no-encryption j child);
-    waits = λ e. absurd (true≢false e);
+  pair-children : nodeTag s t i ≡ 2 → (j : ℕ) → Child j (nodeOf s t i) → (j ≡ firstChild s t i) ⊎ (j ≡ secondChild s t i)
+  unfolding nodeBy
+  pair-children two j child = subst (Child j) (node-by s t i two) child
+
+  content-children : nodeTag s t i ≡ 3 → (j : ℕ) → Child j (nodeOf s t i) → j ≡ firstChild s t i
+  unfolding nodeBy
+  content-children three j child = subst (Child j) (node-by s t i three) child
+
+-- ---- answers
+
+-- Yes, with the marks kept.
+pub yes-kept : {s t c m n : List ℕ} {P : Type 0} → length n ≡ 128 → Kept s t c m n → P → Walked s t c m n P true
+yes-kept long kept p = record { long = long; ends = λ e. (p, kept); never = λ e. absurd (true≢false e) }
+
+-- Nothing was marked on the way.
+pub kept-same : {s t c m : List ℕ} → Sound s t c m → Kept s t c m m
+kept-same sound = record { sound = sound; fewer = omega arith; open-before = λ a h q. q }
+
+pub yes-at-once : {s t c m : List ℕ} {P : Type 0} → length m ≡ 128 → Sound s t c m → P → Walked s t c m m P true
+yes-at-once long sound = yes-kept long (kept-same sound)
+
+-- A way was found that never ends.
+pub no-way : {s t c m n : List ℕ} {P : Type 0} → length n ≡ 128 → ((v : ℕ → Message) → Valid (nodeOf s t) v → Respects (nameOf c) v → ⊥)
+    → Walked s t c m n P false
+no-way long none = record { long = long; ends = λ e. absurd (false≢true e); never = λ e. none }
+
+-- The same answer for what follows.
+pub answer-map : {s t c m n : List ℕ} {P Q : Type 0} {r : Bool} → (P → Q) → Walked s t c m n P r → Walked s t c m n Q r
+answer-map f w = record { long = w .long; ends = λ e. (f (w .ends e .0), w .ends e .1); never = w .never }
+
+-- ---- at a class: node i, whose class is named a
+
+-- A class that no entry names has no children.
+pub past-ends : (s t c : List ℕ) (i : ℕ) {a : ℕ} → a ≡ nameOf c i → 128 ≤ a → Finite (nodeOf s t) (nameOf c) i
+past-ends s t c i is high =
+    finite (λ j child. absurd (subst (Child j) (past-free s t (nameOf c i) (subst (λ (n : ℕ). 128 ≤ n) is high)) child))
+
+-- A class whose children end.
+pub class-ends : {s t c : List ℕ} (i : ℕ) {a : ℕ} → a ≡ nameOf c i → ChildrenEnd s t c a → Finite (nodeOf s t) (nameOf c) i
+class-ends {s} {t} i is all = finite (λ j child. all .child j (subst (λ (n : ℕ). Child j (nodeOf s t n)) (sym is) child))
+
+-- A way that leads back to mark 1.
+pub back-again : {s t c m : List ℕ} {i a : ℕ} → a ≡ nameOf c i → a < 128 → getD m a 0 ≡ 1 → Below s t c m i
+    → (v : ℕ → Message) → Valid (nodeOf s t) v → Respects (nameOf c) v → ⊥
+back-again {i = i} {a = a} is low one below v valid respects =
+    let less = below .smaller v valid respects a low one in
+    let same : size (v i) ≡ size (v a) = ap size (respects .same i ∙ ap v (sym is)) in
+    omega arith
+
+-- Mark 1 on a: the marks stay sound, and the children of a are below all classes with mark 1.
+module _ {s t c m : List ℕ} {a : ℕ} (inside : a < length m) where
+  pub open-sound : Sound s t c m → Sound s t c (set m a 1)
+  open-sound sound = record {
+    ends = λ b h more. elim (ℕ-discrete b a) [
+      | yes e ↦ let one : getD (set m a 1) b 0 ≡ 1 = rw e (getD-set-same m a 1 0 inside) in absurd (omega arith)
+      | no n ↦ sound .ends b h (rw (getD-set-other m a b 1 0 n) at more)
+    ];
   }
 
-module _ (s t c d : List ℕ) (i : ℕ) where
-  pub pair-ready : nodeTag s t i ≡ 2 → endedAt c d (firstChild s t i) ≡ true → (r : Bool) → r ≡ endedAt c d (secondChild s t i) → Readiness s t c d i r
-  unfolding nodeBy
-  pair-ready two first r second =
-      let is : nodeOf s t i ≡ pairNode (firstChild s t i) (secondChild s t i) = node-by s t i two in
-      record {
-        ready = λ e j child. all e j (subst (Child j) is child);
-        waits = λ e. (secondChild s t i, subst (Child (secondChild s t i)) (sym is) (inr refl), sym second ∙ e);
-      }
+  pub open-below : {i : ℕ} → a ≡ nameOf c i → Below s t c m i → ChildrenBelow s t c (set m a 1) a
+  open-below {i} is below = record { child = λ j child. record { smaller = λ v valid respects. go j child v valid respects } }
     where
-      all : r ≡ true → (j : ℕ) → (j ≡ firstChild s t i) ⊎ (j ≡ secondChild s t i) → endedAt c d j ≡ true
-      all e j (inl q) = rw q first
-      all e j (inr q) = rw q (sym second ∙ e)
+      go : (j : ℕ) → Child j (nodeOf s t a) → (v : ℕ → Message) → Valid (nodeOf s t) v → Respects (nameOf c) v
+          → (b : ℕ) → b < 128 → getD (set m a 1) b 0 ≡ 1 → size (v j) < size (v b)
+      go j child v valid respects b h one =
+          let down = falls (nodeOf s t) (nameOf c) v valid respects i j (subst (λ (n : ℕ). Child j (nodeOf s t n)) is child) in
+          elim (ℕ-discrete b a) [
+            | yes e ↦ let same : v i ≡ v b = respects .same i ∙ ap v (sym (e ∙ is)) in rw same at down
+            | no n ↦ let up = below .smaller v valid respects b h (sym (getD-set-other m a b 1 0 n) ∙ one) in omega arith
+          ]
 
-  pub pair-waits : nodeTag s t i ≡ 2 → endedAt c d (firstChild s t i) ≡ false → Readiness s t c d i false
+-- Mark 2 on a, once its children have ended: n are the marks that their walk left.
+module _ {s t c m n : List ℕ} {a : ℕ} (low : a < 128) (inside : a < length m) (unmet : getD m a 0 ≡ 0) (long : length n ≡ 128) where
+  closed-kept : ChildrenEnd s t c a → Kept s t c (set m a 1) n → Kept s t c m (set n a 2)
+  closed-kept all kept = record {
+    sound = record {
+      ends = λ b h more. elim (ℕ-discrete b a) [ yes e ↦ rw e all | no o ↦ kept .sound .ends b h (rw (getD-set-other n a b 2 0 o) at more) ];
+    };
+    fewer = let first = fewer-zeros m a inside unmet in let then = kept .fewer in let last = no-more-zeros n a in omega arith;
+    open-before = λ b h one. elim (ℕ-discrete b a) [
+      | yes e ↦ let two : getD (set n a 2) b 0 ≡ 2 = rw e (getD-set-same n a 2 0 (omega arith)) in absurd (omega arith)
+      | no o ↦ sym (getD-set-other m a b 1 0 o) ∙ kept .open-before b h (sym (getD-set-other n a b 2 0 o) ∙ one)
+    ];
+  }
+
+  pub closed : (i : ℕ) → a ≡ nameOf c i → ChildrenEnd s t c a × Kept s t c (set m a 1) n → Walked s t c m (set n a 2) (Finite (nodeOf s t) (nameOf c) i) true
+  closed i is done = yes-kept (rw length-set long) (closed-kept (done .0) (done .1)) (class-ends i is (done .0))
+
+-- ---- at the children of node a
+
+-- After a walk a node is still below.
+pub below-kept : {s t c m n : List ℕ} {i : ℕ} → Kept s t c m n → Below s t c m i → Below s t c n i
+below-kept kept below = record { smaller = λ v valid respects a h one. below .smaller v valid respects a h (kept .open-before a h one) }
+
+-- One walk after another.
+pub kept-both : {s t c m n o : List ℕ} → Kept s t c m n → Kept s t c n o → Kept s t c m o
+kept-both first then = record {
+  sound = then .sound;
+  fewer = let p = first .fewer in let q = then .fewer in omega arith;
+  open-before = λ a h one. first .open-before a h (then .open-before a h one);
+}
+
+-- The children of node a, by its tag.
+module _ {s t c : List ℕ} {a : ℕ} where
+  pub first-below : {m : List ℕ} {x : ℕ} → nodeTag s t a ≡ 2 → x ≡ firstChild s t a → ChildrenBelow s t c m a → Below s t c m x
   unfolding nodeBy
-  pair-waits two first =
-      let is : nodeOf s t i ≡ pairNode (firstChild s t i) (secondChild s t i) = node-by s t i two in
-      record { ready = λ e. absurd (false≢true e); waits = λ e. (firstChild s t i, subst (Child (firstChild s t i)) (sym is) (inl refl), first) }
+  first-below two is all = rw is (all .child (firstChild s t a) (subst (Child (firstChild s t a)) (sym (node-by s t a two)) (inl refl)))
 
-  pub encryption-ready : nodeTag s t i ≡ 3 → (r : Bool) → r ≡ endedAt c d (firstChild s t i) → Readiness s t c d i r
+  pub second-below : {m : List ℕ} {x : ℕ} → nodeTag s t a ≡ 2 → x ≡ secondChild s t a → ChildrenBelow s t c m a → Below s t c m x
   unfolding nodeBy
-  encryption-ready three r first =
-      let is : nodeOf s t i ≡ encryptionNode (nodeValue s t i) (firstChild s t i) = node-by s t i three in
-      record {
-        ready = λ e j child. let q : j ≡ firstChild s t i = subst (Child j) is child in rw q (sym first ∙ e);
-        waits = λ e. (firstChild s t i, subst (Child (firstChild s t i)) (sym is) refl, sym first ∙ e);
-      }
+  second-below two is all = rw is (all .child (secondChild s t a) (subst (Child (secondChild s t a)) (sym (node-by s t a two)) (inr refl)))
 
--- A mark, by its test.
-pub zero-mark : {n : ℕ} → n ≡ 0 → isMarked n ≡ false
-zero-mark e = ap isMarked e
+  pub content-below : {m : List ℕ} {x : ℕ} → nodeTag s t a ≡ 3 → x ≡ firstChild s t a → ChildrenBelow s t c m a → Below s t c m x
+  unfolding nodeBy
+  content-below three is all = rw is (all .child (firstChild s t a) (subst (Child (firstChild s t a)) (sym (node-by s t a three)) refl))
 
-pub some-mark : (n : ℕ) → (n ≡ 0 → ⊥) → isMarked n ≡ true
-some-mark zero h = absurd (h refl)
-some-mark (suc n) h = refl
+  pub no-children : (nodeTag s t a ≡ 2 → ⊥) → (nodeTag s t a ≡ 3 → ⊥) → ChildrenEnd s t c a
+  no-children no-pair no-encryption = record { child = λ j child. absurd (childless s t a no-pair no-encryption j child) }
 
-not-zero : (n : ℕ) → not (eqb n 0) ≡ isMarked n
-not-zero zero = refl
-not-zero (suc n) = ap not (ne-eqb (suc n) 0 (λ e. omega arith))
+  pub content-ends : {x : ℕ} → nodeTag s t a ≡ 3 → x ≡ firstChild s t a → Finite (nodeOf s t) (nameOf c) x → ChildrenEnd s t c a
+  content-ends three is first = record { child = λ j child. subst (Finite (nodeOf s t) (nameOf c)) (is ∙ sym (content-children s t a three j child)) first }
 
--- What the function that looks at one class answers.
-pub ended-marked : (c d : List ℕ) (i : ℕ) {a : ℕ} → i < length c → a ≡ getD c i 0 → a < 128 → not (eqb (getD d a 0) 0) ≡ endedAt c d i
-unfolding endedAt
-ended-marked c d i {a} inside e low =
-    let is : a ≡ nameOf c i = e ∙ name-read c i inside in
-    not-zero (getD d a 0) ∙ ap (λ (n : ℕ). isMarked (getD d n 0)) is ∙ sym (rw (← is, lt-ltb a 128 low))
+  halves-end : {x y : ℕ} → nodeTag s t a ≡ 2 → x ≡ firstChild s t a → y ≡ secondChild s t a
+      → Finite (nodeOf s t) (nameOf c) x → Finite (nodeOf s t) (nameOf c) y → ChildrenEnd s t c a
+  halves-end two is-first is-second first second = record { child = λ j child. go j (pair-children s t a two j child) }
+    where
+      go : (j : ℕ) → (j ≡ firstChild s t a) ⊎ (j ≡ secondChild s t a) → Finite (nodeOf s t) (nameOf c) j
+      go j (inl e) = subst (Finite (nodeOf s t) (nameOf c)) (is-first ∙ sym e) first
+      go j (inr e) = subst (Finite (nodeOf s t) (nameOf c)) (is-second ∙ sym e) second
 
-pub ended-past : (c d : List ℕ) (i : ℕ) {a : ℕ} → i < length c → a ≡ getD c i 0 → 128 ≤ a → true ≡ endedAt c d i
-unfolding endedAt
-ended-past c d i {a} inside e high =
-    let is : a ≡ nameOf c i = e ∙ name-read c i inside in
-    sym (rw (← is, le-ltb a 128 high))
+  -- The first half has ended; the second half answers for both.
+  pub halves-walked : {m n o : List ℕ} {x y : ℕ} {r : Bool} → nodeTag s t a ≡ 2 → x ≡ firstChild s t a → y ≡ secondChild s t a
+      → Finite (nodeOf s t) (nameOf c) x × Kept s t c m n → Walked s t c n o (Finite (nodeOf s t) (nameOf c) y) r → Walked s t c m o (ChildrenEnd s t c a) r
+  halves-walked two is-first is-second first w = record {
+    long = w .long;
+    ends = λ e. (halves-end two is-first is-second (first .0) (w .ends e .0), kept-both (first .1) (w .ends e .1));
+    never = w .never;
+  }
 
--- The number of marks over the loop.
-pub no-more-zeros : {S : Type 0} {z z₀ : ℕ} (b : Bool) → (b ≡ true → z < z₀) → (b ≡ false → (z ≡ z₀) × S) → z ≤ z₀
-no-more-zeros true less same = let q = less refl in omega arith
-no-more-zeros false less same = let q = same refl .0 in omega arith
+-- ---- over all entries
 
-pub stuck-down : (s t c d : List ℕ) (left : ℕ) → 0 < left → StuckFrom s t c d left
-    → (isMarked (getD d (left - 1) 0) ≡ false → Readiness s t c d (left - 1) false) → StuckFrom s t c d (left - 1)
-stuck-down s t c d left some stuck here =
-    let up : left ≡ left - 1 + 1 = omega arith in
-    stuck-more s t c d (left - 1) (subst (StuckFrom s t c d) up stuck) here
+-- Nothing is marked at the start.
+module _ (s t c m : List ℕ) (none : (a : ℕ) → a < 128 → getD m a 0 ≡ 0) where
+  pub start-sound : Sound s t c m
+  start-sound = record { ends = λ a h more. let zero-there = none a h in absurd (omega arith) }
 
--- Every node up to i is marked, and the next one.
-pub marked-more : (d : List ℕ) (i : ℕ) → ((k : ℕ) → k < i → isMarked (getD d k 0) ≡ true) → (getD d i 0 ≡ 0 → ⊥) → (k : ℕ) → k < i + 1
-    → isMarked (getD d k 0) ≡ true
-marked-more d i all here k h = go (eqb k i) refl
+  pub start-below : (i : ℕ) → Below s t c m i
+  start-below i = record { smaller = λ v valid respects a h one. let zero-there = none a h in absurd (omega arith) }
+
+-- An entry past the last has no children.
+past-last : {e : List ℕ} → Begins e → (k : ℕ) → length e / 4 ≤ k → (tagIn e k ≡ 2 → ⊥) × (tagIn e k ≡ 3 → ⊥)
+past-last b k h =
+    (λ two. let p = pair-there k b two .is in omega (arith, p .left-fits), λ three. let p = encryption-there k b three .is in omega (arith, p .content-fits))
+
+-- A node with children is an entry of one of the terms.
+parent-inside : {s t : List ℕ} → TwoTerms s t → (a j : ℕ) → Child j (nodeOf s t a) → (a < length s / 4) ⊎ ((64 ≤ a) × (a < 64 + length t / 4))
+unfolding nodeTag
+parent-inside {s} {t} two a j child = elim (decLt a (length s / 4)) [
+  | yes l ↦ inl l
+  | no n ↦ elim (decLt a 64) [
+    | yes l ↦
+        let is : nodeTag s t a ≡ tagIn s a = simp (lt-ltb a 64 l) in
+        let none = past-last (two .left) a (omega arith) in
+        absurd (childless s t a (λ e. none .0 (sym is ∙ e)) (λ e. none .1 (sym is ∙ e)) j child)
+    | no m ↦ elim (decLt a (64 + length t / 4)) [
+      | yes l ↦ inr (omega arith, l)
+      | no o ↦ elim (decLt a 128) [
+        | yes l ↦
+            let is : nodeTag s t a ≡ tagIn t (a - 64) = simp (le-ltb a 64 (omega arith), lt-ltb a 128 l) in
+            let none = past-last (two .right) (a - 64) (omega arith) in
+            absurd (childless s t a (λ e. none .0 (sym is ∙ e)) (λ e. none .1 (sym is ∙ e)) j child)
+        | no p ↦ absurd (subst (Child j) (past-free s t a (omega arith)) child)
+      ]
+    ]
+  ]
+]
+
+-- Where every way down from the entries ends, every way down does.
+pub all-finite : (s t c : List ℕ) → TwoTerms s t → Classes (nodeOf s t) (nameOf c) → EachFrom (Finite (nodeOf s t) (nameOf c)) 0 (length s / 4)
+    → EachFrom (Finite (nodeOf s t) (nameOf c)) 64 (64 + length t / 4) → (i : ℕ) → Finite (nodeOf s t) (nameOf c) i
+all-finite s t c two classes left right i = finite (λ j child. go j child (parent-inside two (nameOf c i) j child))
   where
-    go : (b : Bool) → eqb k i ≡ b → isMarked (getD d k 0) ≡ true
-    go true q = let e : k ≡ i = eqb-true k i q in rw e (some-mark (getD d i 0) here)
-    go false q = let off : (k ≡ i → ⊥) = eqb-false k i q in all k (omega arith)
+    of-name : (j : ℕ) → Child j (nodeOf s t (nameOf c i)) → Finite (nodeOf s t) (nameOf c) (nameOf c i) → Finite (nodeOf s t) (nameOf c) j
+    of-name j child (finite f) = f j (subst (λ (n : ℕ). Child j (nodeOf s t n)) (sym (classes .named i)) child)
 
--- The measure of the sweeps: what is not marked, and whether another sweep is due.
-abbrev pub weigh : Bool → ℕ
-weigh true = 1
-weigh false = 0
-
-pub sweep-falls : {z z₀ : ℕ} (r more : Bool) → more ≡ true → (r ≡ true → z < z₀) → z ≤ z₀ → 2 * z + weigh r < 2 * z₀ + weigh more
-sweep-falls true true e less le = let q = less refl in omega arith
-sweep-falls false true e less le = omega arith
-sweep-falls true false e less le = absurd (false≢true e)
-sweep-falls false false e less le = absurd (false≢true e)
+    go : (j : ℕ) → Child j (nodeOf s t (nameOf c i)) → (nameOf c i < length s / 4) ⊎ ((64 ≤ nameOf c i) × (nameOf c i < 64 + length t / 4))
+        → Finite (nodeOf s t) (nameOf c) j
+    go j child (inl l) = of-name j child (left .each (nameOf c i) (omega arith) l)
+    go j child (inr l) = of-name j child (right .each (nameOf c i) (l .0) (l .1))

@@ -31,6 +31,14 @@ valueOf (encryptionSymbol k) = k
 valueOf (variableSymbol (plain x)) = x
 valueOf (variableSymbol (marked x)) = x
 
+-- How many children an entry of this tag has.
+unfoldable pub childrenOf : ℕ → ℕ
+childrenOf zero = 0
+childrenOf (suc zero) = 0
+childrenOf (suc (suc zero)) = 2
+childrenOf (suc (suc (suc zero))) = 1
+childrenOf (suc (suc (suc (suc n)))) = 0
+
 -- A term entry: tag, a zero byte, value (two bytes, little-endian).
 unfoldable pub entryOf : Symbol → List ℕ
 entryOf s = tagOf s ∷ 0 ∷ valueOf s % 256 ∷ valueOf s / 256 ∷ []

@@ -10,8 +10,25 @@ use borrow.Author.Tests.{ltb-true}
 use lib.ListN.{length, drop, length-drop}
 use lib.Seq.{drop-drop}
 use Rattle.terms.specs.Term.{Term, Variable, variable, atom, pair, encrypted, plain, marked}
-use Rattle.terms.specs.Entry.{Symbol, atomSymbol, pairSymbol, encryptionSymbol, variableSymbol, symbolOf, numbered, before, beforeAll, withZero}
-use Rattle.terms.specs.Entry.{termsOf, termOf, firstOf, tagAt, valueAt, size, Reads, Begins}
+use Rattle.terms.specs.Entry.{Symbol, atomSymbol, pairSymbol, encryptionSymbol, variableSymbol, childrenOf, symbolOf, numbered, before, beforeAll}
+use Rattle.terms.specs.Entry.{withZero, termsOf, termOf, firstOf, tagAt, valueAt, size, Reads, Begins}
+
+-- Any other tag than a pair's and an encryption's has no children.
+pub no-children : (tag : ℕ) → (tag ≡ 2 → ⊥) → (tag ≡ 3 → ⊥) → 0 ≡ childrenOf tag
+unfolding childrenOf
+no-children zero a b = refl
+no-children (suc zero) a b = refl
+no-children (suc (suc zero)) a b = absurd (a refl)
+no-children (suc (suc (suc zero))) a b = absurd (b refl)
+no-children (suc (suc (suc (suc n)))) a b = refl
+
+pub two-children : {tag : ℕ} → tag ≡ 2 → 2 ≡ childrenOf tag
+unfolding childrenOf
+two-children e = rw e refl
+
+pub one-child : {tag : ℕ} → tag ≡ 3 → 1 ≡ childrenOf tag
+unfolding childrenOf
+one-child e = rw e refl
 
 -- The entry of this tag and value, before these entries, makes these terms.
 pub data First (tag n : ℕ) (rest : List ℕ) (l : List (Term Variable)) : Type 0 where

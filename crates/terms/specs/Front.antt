@@ -3,20 +3,12 @@ use mathlib.Core.Path.{_≡_}
 use mathlib.Core.Bool.{Bool, true, false}
 use mathlib.Core.List.{List, [], map}
 use mathlib.Core.Option.{Option, none, some}
-use Prim.Native.Nat.{ℕ, zero, suc, _+_, _*_, _-_, _<_, _≤_}
+use Prim.Native.Nat.{ℕ, _+_, _*_, _-_, _<_, _≤_}
 use lib.Dec.{ltb}
 use lib.ListN.{length, getD, take}
 use Rattle.terms.specs.Term.{Term, Variable, variable, atom, pair, encrypted, plain, marked, replace}
 use Rattle.terms.specs.Entry.{termsOf, termOf, tagAt, valueAt, Reads, Begins}
 use Rattle.terms.specs.WalkLaws.{from}
-
--- How many children an entry of this tag has.
-unfoldable pub childrenOf : ℕ → ℕ
-childrenOf zero = 0
-childrenOf (suc zero) = 0
-childrenOf (suc (suc zero)) = 2
-childrenOf (suc (suc (suc zero))) = 1
-childrenOf (suc (suc (suc (suc n)))) = 0
 
 abbrev pub listOf : Option (List (Term Variable)) → List (Term Variable)
 listOf none = []

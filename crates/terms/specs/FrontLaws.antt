@@ -13,13 +13,13 @@ use lib.Seq.{drop-drop}
 use borrow.Rule.Slice.PartAt.{part-to-end}
 use Rattle.terms.specs.Term.{Term, Variable, variable, atom, pair, encrypted, plain, marked, replace}
 use Rattle.terms.specs.Entry.{Symbol, atomSymbol, pairSymbol, encryptionSymbol, variableSymbol, tagOf, valueOf, before, termOf, tagAt, valueAt}
-use Rattle.terms.specs.Entry.{size, Reads, Begins}
+use Rattle.terms.specs.Entry.{size, childrenOf, Reads, Begins}
 use Rattle.terms.specs.EntryLaws.{First, first-atom, first-pair, first-encrypted, first-plain, first-marked, first, none≢some, termOf-reads}
 use Rattle.terms.specs.EntryLaws.{past, fits, begins, size-positive}
 use Rattle.terms.specs.WalkLaws.{from}
 use Rattle.terms.specs.Occurs.{replace-none}
 use Rattle.terms.specs.Solve.{Says, says-same}
-use Rattle.terms.specs.Front.{childrenOf, frontOf, listOf, SameFirst, Front, Takes}
+use Rattle.terms.specs.Front.{frontOf, listOf, SameFirst, Front, Takes}
 
 -- A part's part is a part.
 pub from-from : (a b : ℕ) (e : List ℕ) → from a (from b e) ≡ from (b + a) e
@@ -27,23 +27,6 @@ from-from a b e = rw (part-to-end, part-to-end, part-to-end, drop-drop)
 
 pub from-length : (n : ℕ) (e : List ℕ) → length (from n e) ≡ length e - n
 from-length n e = rw part-to-end (length-drop n e)
-
--- Any other tag than a pair's and an encryption's has no children.
-pub no-children : (tag : ℕ) → (tag ≡ 2 → ⊥) → (tag ≡ 3 → ⊥) → 0 ≡ childrenOf tag
-unfolding childrenOf
-no-children zero a b = refl
-no-children (suc zero) a b = refl
-no-children (suc (suc zero)) a b = absurd (a refl)
-no-children (suc (suc (suc zero))) a b = absurd (b refl)
-no-children (suc (suc (suc (suc n)))) a b = refl
-
-pub two-children : {tag : ℕ} → tag ≡ 2 → 2 ≡ childrenOf tag
-unfolding childrenOf
-two-children e = rw e refl
-
-pub one-child : {tag : ℕ} → tag ≡ 3 → 1 ≡ childrenOf tag
-unfolding childrenOf
-one-child e = rw e refl
 
 -- A symbol is known by its tag and its value.
 named : ℕ → ℕ → Symbol

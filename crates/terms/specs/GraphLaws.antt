@@ -2,7 +2,7 @@
 use mathlib.Core.Path.{_≡_, refl, sym, ap, ap₂, _∙_, subst, subst₂}
 use mathlib.Core.Logic.{inl, inr}
 use mathlib.Core.Bool.{Bool, true, false, true≢false, false≢true}
-use Prim.Native.Nat.{ℕ, zero, suc, _<_}
+use Prim.Native.Nat.{ℕ, _<_}
 use native.Mathlib.Omega.{arith}
 use lib.Dec.{eqb}
 use borrow.Author.Tests.{eqb-true, eqb-false, eq-eqb, ne-eqb}
@@ -244,8 +244,8 @@ pub record Valued (node : ℕ → Node) (name : ℕ → ℕ) : Type 0 where
 pub valued : {node : ℕ → Node} {name : ℕ → ℕ} → Classes node name → ((i : ℕ) → Finite node name i) → Valued node name
 valued {node} {name} cs ends = record { v = value node name cs ends; respects = value-respects node name cs ends; valid = value-valid node name cs ends }
 
--- A valid valuation that respects the classes meets no set of nodes of which each has a child there.
-module _ (node : ℕ → Node) (name : ℕ → ℕ) (v : ℕ → Message) (cs : Classes node name) (valid : Valid node v) (r : Respects name v) where
+-- Where a valid valuation respects the classes, a child's message is smaller than its parent's.
+module _ (node : ℕ → Node) (name : ℕ → ℕ) (v : ℕ → Message) (valid : Valid node v) (r : Respects name v) where
   smaller : (n : Node) (j : ℕ) → Child j n → size (v j) < size (made v n)
   unfolding made size
   smaller free j h = absurd h
@@ -260,21 +260,11 @@ module _ (node : ℕ → Node) (name : ℕ → ℕ) (v : ℕ → Message) (cs : 
   symbol-of-child (pairNode x y) j h = tt
   symbol-of-child (encryptionNode k c) j h = tt
 
-  falls : (i j : ℕ) → Child j (node (name i)) → size (v j) < size (v i)
+  pub falls : (i j : ℕ) → Child j (node (name i)) → size (v j) < size (v i)
   falls i j h =
       let made-is : v i ≡ made v (node (name i)) = r .same i ∙ valid .makes (name i) (symbol-of-child (node (name i)) j h) in
       let less = smaller (node (name i)) j h in
       rw made-is less
-
-  pub endless : (S : ℕ → Type 0) → ((i : ℕ) → S i → (j : ℕ) × Child j (node (name i)) × S j) → (i : ℕ) → S i → ⊥
-  endless S below i s = go (suc (size (v i))) i s (omega arith)
-    where
-      go : (n i : ℕ) → S i → size (v i) < n → ⊥
-      go zero i s less = omega arith
-      go (suc n) i s less =
-          let next = below i s in
-          let down = falls i (next .0) (next .1) in
-          go n (next .0) (next .2) (omega arith)
 
 -- The answer of a step, said of equal nodes.
 pub moved : {node : ℕ → Node} {Q : (ℕ → Message) → Type 0} {name next : ℕ → ℕ} {x y p q : ℕ} {r : Bool} → x ≡ p → y ≡ q

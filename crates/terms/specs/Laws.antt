@@ -7,7 +7,7 @@ use Prim.Native.Nat.{ℕ}
 use native.Mathlib.Omega.{arith}
 use Rattle.terms.specs.Term.{Term, variable, atom, pair, encrypted, Message, replace, asTerm}
 use Rattle.terms.specs.Place.{Turn, left, right, inside, Place, subtermAt, StrictlyAbove, AtOrAbove}
-use Rattle.terms.specs.Instance.{Matches}
+use Rattle.terms.specs.Instance.{Matches, Share}
 use Rattle.terms.specs.Occurs.{replace-twice}
 
 -- Replacements.
@@ -29,6 +29,14 @@ pub matches-replace : {X Y Z : Type 0} {pattern : Term X} {t : Term Y} (by : Y �
     Matches pattern (replace by t)
 matches-replace {pattern} by h =
     record { by = λ x. replace by (h .by x); same = sym (replace-twice by (h .by) pattern) ∙ ap (replace by) (h .same) }
+
+-- A pattern shares an instance with what it matches: any instance of that.
+pub matched-shares : {X Y : Type 0} {pattern : Term X} {t : Term Y} → Matches pattern t → Share pattern t
+matched-shares {t = t} h = record {
+  message = replace (λ y. atom 0) t;
+  left = matches-replace (λ y. atom 0) h;
+  right = record { by = λ y. atom 0; same = refl };
+}
 
 -- Places.
 

@@ -29,6 +29,7 @@ pub mod EntryLaws
 pub mod WalkLaws
 pub mod Count
 pub mod ValidLaws
+pub mod Limits
 pub mod TermLaws
 -- Sameness and matching on entries: what the walks promise, and their laws.
 pub mod Front
@@ -45,6 +46,5 @@ pub mod UniteLaws
 pub mod UniteAnswers
 pub mod MeetLaws
 pub mod Ending
-pub mod Flat
 pub mod ShareGraph
 pub mod Roots

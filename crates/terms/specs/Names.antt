@@ -25,10 +25,6 @@ pub name-read : (c : List ℕ) (i : ℕ) → i < length c → getD c i 0 ≡ nam
 unfolding nameOf
 name-read c i h = getD-any c i 0 i h
 
-pub name-past : (c : List ℕ) (i : ℕ) → length c ≤ i → nameOf c i ≡ i
-unfolding nameOf
-name-past c i h = List·getD-eq-default c i h
-
 -- Every node is a class by itself.
 pub names-alone : (c : List ℕ) → ((i : ℕ) → i < length c → getD c i 0 ≡ i) → nameOf c ≡ (λ i. i)
 unfolding nameOf

@@ -1,10 +1,10 @@
 -- Laws of the judging of entries, shaped like its branches.
 use mathlib.Core.Path.{_≡_, refl, sym, ap, _∙_}
-use mathlib.Core.Bool.{Bool, true, false}
+use mathlib.Core.Bool.{Bool}
 use mathlib.Core.List.{List}
 use Prim.Native.Nat.{ℕ, _+_, _*_, _/_, _≤_, _<_}
 use native.Mathlib.Omega.{arith}
-use lib.Dec.{ltb, eqb}
+use lib.Dec.{eqb}
 use lib.ListN.{length, getD}
 use lib.Seq.{getD-drop}
 use native.Mathlib.Nat.{add-zero}
@@ -15,13 +15,12 @@ use Rattle.terms.specs.Entry.{Begins, termOf, tagAt, valueAt}
 use Rattle.terms.specs.EntryLaws.{reads-encrypted, termOf-reads}
 use Rattle.terms.specs.WalkLaws.{from, encryption-first}
 use Rattle.terms.specs.Solve.{Says, says-same}
-use Rattle.terms.specs.Decisions.{says-lt, says-eq, says-yes, says-no}
+use Rattle.terms.specs.Decisions.{says-eq}
 use Rattle.terms.specs.First.{fails, holds, first-only}
-use Rattle.terms.specs.Atom.{Atom, atomsOf, kindOf, knownOf, partnerOf, IsKey, key-kind, kind-key, key-listed, NamedBack, PartnerRight}
+use Rattle.terms.specs.Atom.{Atom, atomsOf, kindOf, knownOf, partnerOf, NamedBack, PartnerRight}
 use Rattle.terms.specs.Atom.{principal, nonce, publicKey, privateKey, symmetricKey, AtomRight, Wanted, partner-wanted, partner-right}
 use Rattle.terms.specs.Atom.{atomRight?, wrongAtom, length-atoms, atom-bytes}
-use Rattle.terms.specs.TermEntry.{TagRight, atomEntry, pairEntry, encryptionEntry, plainEntry, markedEntry, EntryRight, Asked, asked, tagRight}
-use Rattle.terms.specs.TermEntry.{rightAt?, wrongEntry}
+use Rattle.terms.specs.TermEntry.{EntryRight, rightAt?, wrongEntry}
 use Rattle.terms.specs.Each.{EntryIs}
 use Rattle.terms.specs.OneTerm.{IsEncryption}
 
@@ -118,76 +117,8 @@ pub atoms-right : (b : List ℕ) → ((k : ℕ) → k < length b / 4 → AtomRig
 unfolding wrongAtom
 atoms-right b all = first-only (atomRight? (atomsOf b)) {count = length (atomsOf b)} (holds refl (λ k l. all k (omega (arith, length-atoms b))))
 
--- The number of a key.
-module _ (b : List ℕ) (n : ℕ) where
-  pub key-away : length b / 4 ≤ n → ¬ IsKey (atomsOf b) n
-  key-away far w = let l = key-listed w in omega (arith, length-atoms b)
-
-  pub key-low : n < length b / 4 → getD b (4 * n) 0 < 3 → ¬ IsKey (atomsOf b) n
-  key-low inside low w = let k = key-kind w in omega (arith, kind-byte b inside)
-
-  pub key-high : n < length b / 4 → 3 ≤ getD b (4 * n) 0 → Says (ltb (getD b (4 * n) 0) 6) (IsKey (atomsOf b) n)
-  key-high inside low = says-same (ltb (getD b (4 * n) 0) 6)
-      (λ h. kind-key (omega (arith, kind-byte b inside)) (omega (arith, kind-byte b inside)))
-      (λ w. (let k = key-kind w in omega (arith, kind-byte b inside))) (says-lt (getD b (4 * n) 0) 6)
-
--- A term entry, by its tag.
+-- The first entry that is not right.
 module _ (b : List ℕ) (kind : ℕ) (e : List ℕ) where
-  abbrev pub Right : Type 0
-  Right = EntryRight (atomsOf b) kind (tagAt e) (getD e 1 0) (valueAt e)
-
-  pub entry-no-tag : (tagAt e ≡ 1 → ⊥) → (tagAt e ≡ 2 → ⊥) → (tagAt e ≡ 3 → ⊥)
-      → (tagAt e ≡ 4 → ⊥) → (tagAt e ≡ 5 → ⊥) → ¬ Right
-  entry-no-tag one two three four five w = go (w .tagged)
-    where
-      go : TagRight (atomsOf b) kind (tagAt e) (valueAt e) → ⊥
-      go (atomEntry t p) = one t
-      go (pairEntry t p) = two t
-      go (encryptionEntry t p) = three t
-      go (plainEntry t p q) = four t
-      go (markedEntry t p q) = five t
-
-  pub entry-secret : tagAt e ≡ 4 → kind ≡ 2 → ¬ Right
-  unfolding Asked
-  entry-secret t k w = (rw t at (asked (atomsOf b) kind (valueAt e) (w .tagged))) .1 k
-
-  pub entry-mark : tagAt e ≡ 5 → (kind ≡ 3 → ⊥) → ¬ Right
-  unfolding Asked
-  entry-mark t k w = k ((rw t at (asked (atomsOf b) kind (valueAt e) (w .tagged))) .1)
-
-  module _ (blank : getD e 1 0 ≡ 0) {n : ℕ} (value : n ≡ valueAt e) where
-    by-tag : (tag : ℕ) → tagAt e ≡ tag → (r : Bool) → Says r (Asked (atomsOf b) kind n tag) → Says r Right
-    by-tag tag t r says = says-same r (λ a. record { blank = blank; tagged = rw (t, ← value) (tagRight (atomsOf b) kind n tag a) })
-        (λ w. rw (t, ← value) at (asked (atomsOf b) kind (valueAt e) (w .tagged))) says
-
-    pub entry-atom : tagAt e ≡ 1 → Says (ltb n (length b / 4)) Right
-    unfolding Asked
-    entry-atom t = by-tag 1 t (ltb n (length b / 4)) (rw (length-atoms b) (says-lt n (length b / 4)))
-
-    pub entry-pair : tagAt e ≡ 2 → Says (eqb n 0) Right
-    unfolding Asked
-    entry-pair t = by-tag 2 t (eqb n 0) (says-eq n 0)
-
-    pub entry-encryption : tagAt e ≡ 3 → (r : Bool) → Says r (IsKey (atomsOf b) n) → Says r Right
-    unfolding Asked
-    entry-encryption t r says = by-tag 3 t r says
-
-    pub entry-plain : tagAt e ≡ 4 → (kind ≡ 2 → ⊥) → Says (ltb n 8) Right
-    unfolding Asked
-    entry-plain t k = by-tag 4 t (ltb n 8) (says-same (ltb n 8) (λ l. (l, k)) (λ h. h .0) (says-lt n 8))
-
-    pub entry-marked : tagAt e ≡ 5 → kind ≡ 3 → Says (ltb n 8) Right
-    unfolding Asked
-    entry-marked t k = by-tag 5 t (ltb n 8) (says-same (ltb n 8) (λ l. (l, k)) (λ h. h .0) (says-lt n 8))
-
--- The first entry that is not right, where each is judged as it stands first.
-module _ (b : List ℕ) (kind : ℕ) (e : List ℕ) where
-  pub entry-yes : (n : ℕ) (r : Bool) → Says r (Right b kind (from (4 * n) e)) → r ≡ true → EntryIs (EntryRight (atomsOf b) kind) e n
-  entry-yes n r says t = rw part-to-end at (says-yes {P = Right b kind (from (4 * n) e)} r says t)
-
-  pub entry-no : (n : ℕ) (r : Bool) → Says r (Right b kind (from (4 * n) e)) → r ≡ false → ¬ EntryIs (EntryRight (atomsOf b) kind) e n
-  entry-no n r says f w = says-no {P = Right b kind (from (4 * n) e)} r says f (rw part-to-end w)
-
   pub entry-wrong : (n : ℕ) → n < length e / 4
       → ((k : ℕ) → k < n → EntryIs (EntryRight (atomsOf b) kind) e k) → ¬ EntryIs (EntryRight (atomsOf b) kind) e n
       → At n ≡ wrongEntry (atomsOf b) kind e

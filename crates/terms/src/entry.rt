@@ -1,8 +1,8 @@
 // The entries of a block as terms: four bytes an entry, parents before children, left before right.
 ghost use mathlib.Core.Path.{_≡_};
 ghost use Prim.Native.Nat.{_+_, _*_, _≤_};
-ghost use lib.ListN.{length, getD};
-ghost use Rattle.terms.specs.Entry.{Begins, termOf, size, tagAt, valueAt};
+ghost use lib.ListN.{length};
+ghost use Rattle.terms.specs.Entry.{Begins, termOf, size, childrenOf, valueAt};
 
 // A byte, wider.
 fn wide(x: u8) -> usize
@@ -17,6 +17,16 @@ pub fn value(e: &[u8]) -> usize
     ensures { λ r. ⌜ (r ≡ valueAt (now (e .entry))) × (r ≤ 65535) ⌝ }
 {
     wide(e[2]) + 256 * wide(e[3])
+}
+
+// How many children an entry of this tag has.
+pub(crate) fn children(tag: u8) -> usize
+    ensures { λ r. ⌜ (r ≡ childrenOf tag) × (r ≤ 2) ⌝ }
+{
+    if tag == 2 {
+        return 2;
+    }
+    if tag == 3 { 1 } else { 0 }
 }
 
 // How many entries the term has that stands first, walked child by child.

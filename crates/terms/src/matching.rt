@@ -2,25 +2,14 @@
 ghost use mathlib.Core.Path.{_≡_};
 ghost use Prim.Native.Nat.{_<_, _≤_};
 ghost use lib.ListN.{length, set};
+ghost use mathlib.Core.Bool.{true};
 ghost use Rattle.terms.specs.Term.{variable};
+ghost use Rattle.terms.specs.Instance.{Matches};
 ghost use Rattle.terms.specs.Entry.{Begins, termOf};
 ghost use Rattle.terms.specs.Solve.{Says};
 ghost use Rattle.terms.specs.Decide.{answer, variable?, term?, match?};
-ghost use Rattle.terms.specs.Front.{childrenOf, slotOf, SameFirst, Comparable, Bindable, Front, Takes, Ready, Made};
+ghost use Rattle.terms.specs.Front.{slotOf, SameFirst, Comparable, Bindable, Front, Takes, Ready, Made};
 use super::entry;
-
-// How many children an entry of this tag has.
-fn children(tag: u8) -> usize
-    ensures { λ r. ⌜ (r ≡ childrenOf tag) × (r ≤ 2) ⌝ }
-{
-    if tag == 2 {
-        2
-    } else if tag == 3 {
-        1
-    } else {
-        0
-    }
-}
 
 // Do both begin with the same entry?
 fn same_entry(s: &[u8], t: &[u8]) -> bool
@@ -42,18 +31,22 @@ fn same_front(s: &[u8], t: &[u8], need: usize) -> bool
     if need == 0 {
         true
     } else if same_entry(s, t) {
-        same_front(&s[4..], &t[4..], need - 1 + children(s[0]))
+        same_front(&s[4..], &t[4..], need - 1 + entry::children(s[0]))
     } else {
         false
     }
 }
 
-// Are the terms that stand first the same, symbol for symbol?
+// Are the terms that stand first the same, symbol for symbol? Most differ in their first entries.
 pub fn same(s: &[u8], t: &[u8]) -> bool
     requires { ⌜ Begins (now s) × Begins (now t) ⌝ }
     ensures { λ r. ⌜ r ≡ answer (term? variable? (termOf (now (s .entry))) (termOf (now (t .entry)))) ⌝ }
 {
-    same_front(s, t, 1)
+    if same_entry(s, t) {
+        same_front(&s[4..], &t[4..], entry::children(s[0]))
+    } else {
+        false
+    }
 }
 
 // The slot of the variable that stands first: 0 to 7 plain, 8 to 15 marked; 16 where none does.
@@ -112,16 +105,32 @@ fn match_front(p: &[u8], t: &[u8], at: usize, need: usize, bound: [u8; 16]) -> b
             false
         }
     } else if same_entry(p, &t[4 * at..]) {
-        match_front(&p[4..], t, at + 1, need - 1 + children(p[0]), bound)
+        match_front(&p[4..], t, at + 1, need - 1 + entry::children(p[0]), bound)
     } else {
         false
     }
 }
 
-// Is the term the pattern with its variables replaced by terms?
+// Do the first entries rule out that p's term becomes t's: a symbol against another entry?
+fn clash_first(p: &[u8], t: &[u8]) -> bool
+    requires { ⌜ Begins (now p) × Begins (now t) ⌝ }
+    ensures { λ r. ⌜ (r ≡ true → Matches (termOf (now (p .entry))) (termOf (now (t .entry))) → ⊥) ⌝ }
+{
+    if slot(p) < 16 {
+        false
+    } else {
+        !same_entry(p, t)
+    }
+}
+
+// Is the term the pattern with its variables replaced by terms? Most tests end at the first entries.
 pub fn matches(p: &[u8], t: &[u8]) -> bool
     requires { ⌜ Begins (now p) × Begins (now t) × (length (now t) ≤ 252) ⌝ }
     ensures { λ r. ⌜ r ≡ answer (match? variable? variable? (termOf (now (p .entry))) (termOf (now (t .entry)))) ⌝ }
 {
-    match_front(p, t, 0, 1, [255; 16])
+    if clash_first(p, t) {
+        false
+    } else {
+        match_front(p, t, 0, 1, [255; 16])
+    }
 }

@@ -2,6 +2,7 @@
 // messages are united; at the end every way down over the classes must come to an end.
 use crate::ending::is_finite;
 use crate::entry::value;
+use crate::matching::matches;
 use crate::node::byte_at;
 use crate::node::first_child;
 use crate::node::home;
@@ -241,13 +242,15 @@ fn shares_by_classes(s: &[u8], t: &[u8]) -> bool
 }
 
 // Two terms share an instance: some finite message is an instance of both, each term with variables of its own. Most
-// tests end at the roots.
+// tests end at the roots, or as the second is the first with its variables replaced.
 pub fn shares(s: &[u8], t: &[u8]) -> bool
     requires { ⌜ TwoTerms (now s) (now t) ⌝ }
     ensures { λ r. ⌜ r ≡ answer (share? variable? variable? (termOf (now (s .entry))) (termOf (now (t .entry)))) ⌝ }
 {
     if roots_differ(s, t) {
         false
+    } else if matches(s, t) {
+        true
     } else {
         shares_by_classes(s, t)
     }

@@ -1,16 +1,20 @@
 // What numbers 6, 7 and 8 ask of the entries of one block: four bytes an entry.
 ghost use mathlib.Core.Path.{_≡_};
-ghost use Prim.Native.Nat.{_+_, _/_, _^_, _<_, _≤_};
-ghost use lib.ListN.{length, getD};
+ghost use Prim.Native.Nat.{_+_, _/_, _<_, _≤_};
+ghost use lib.ListN.{length, take};
+ghost use lib.Seq.{slice};
 ghost use Rattle.terms.specs.Solve.{Says};
 ghost use Rattle.terms.specs.Decide.{answer};
-ghost use Rattle.terms.specs.Entry.{Begins, termOf, termsOf, tagAt, valueAt};
-ghost use Rattle.terms.specs.Atom.{atomsOf, NamedBack, AtomRight, wrongAtom, IsKey};
-ghost use Rattle.terms.specs.TermEntry.{EntryRight, wrongEntry};
+ghost use Rattle.terms.specs.Entry.{Begins, termOf};
+ghost use Rattle.terms.specs.Atom.{atomsOf, NamedBack, AtomRight, wrongAtom};
+ghost use Rattle.terms.specs.TermEntry.{wrongEntry};
+ghost use Rattle.terms.specs.Limits.{listedKind, plainLimit, markedLimit, limitsOf, Within};
 ghost use Rattle.terms.specs.Each.{Each};
 ghost use Rattle.terms.specs.OneTerm.{HasSymbol, oneTerm?, encryption?};
-ghost use Rattle.terms.specs.Count.{Count};
+ghost use Rattle.terms.specs.Count.{tagsOf, areTerms};
+use crate::entry::children;
 use crate::entry::value;
+use crate::node::wide;
 
 // The first entry that is not right, or none.
 pub enum Found {
@@ -77,52 +81,59 @@ pub fn wrong_atom(atoms: &[u8]) -> Found
     Found::Nothing
 }
 
-// The number is a key's.
-fn is_key(atoms: &[u8], n: usize) -> bool
-    ensures { λ r. ⌜ Says r (IsKey (atomsOf (now (atoms .entry))) n) ⌝ }
+// The kind of atom n, 1 to 5; 0 for no atom and for no kind.
+fn listed_kind(atoms: &[u8], n: usize) -> u8
+    ensures { λ r. ⌜ r ≡ listedKind (atomsOf (now (atoms .entry))) n ⌝ }
 {
     if atoms.len() / 4 <= n {
-        return false;
+        return 0;
     }
     let kind = atoms[4 * n];
-    if kind < 3 {
-        return false;
-    }
-    kind < 6
+    if kind < 6 { kind } else { 0 }
 }
 
-// The term entry that stands first is right in a block of this kind.
-fn right_entry(atoms: &[u8], kind: u8, e: &[u8]) -> bool
-    requires { ⌜ 4 ≤ length (now e) ⌝ }
-    ensures { λ r. ⌜ Says r (EntryRight (atomsOf (now (atoms .entry))) kind (tagAt (now (e .entry))) (getD (now (e .entry)) 1 0) (valueAt (now (e .entry)))) ⌝ }
+// How many plain variables a block of this kind may have: a secret none.
+fn plain_limit(kind: u8) -> usize
+    ensures { λ r. ⌜ r ≡ plainLimit kind ⌝ }
 {
-    let tag = e[0];
-    let blank = e[1];
-    let n = value(e);
-    if blank != 0 {
+    if kind == 2 { 0 } else { 8 }
+}
+
+// How many marked variables a block of this kind may have: any but a good pattern none.
+fn marked_limit(kind: u8) -> usize
+    ensures { λ r. ⌜ r ≡ markedLimit kind ⌝ }
+{
+    if kind == 3 { 8 } else { 0 }
+}
+
+// For each tag, what the values of its entries are below.
+fn limits(kind: u8, count: usize) -> [usize; 6]
+    ensures { λ r. ⌜ r ≡ limitsOf kind count ⌝ }
+{
+    [0, count, 1, count, plain_limit(kind), marked_limit(kind)]
+}
+
+// The term entry that stands first is right by the tables: its value is below its tag's limit, and the atom of that
+// number has not less than its tag's least kind.
+fn right_entry(atoms: &[u8], limits: &[usize; 6], least: &[u8; 6], e: &[u8]) -> bool
+    requires { ⌜ (4 ≤ length (now e)) × (length (now limits) ≡ 6) × (length (now least) ≡ 6) ⌝ }
+    ensures { λ r. ⌜ Says r (Within (atomsOf (now (atoms .entry))) (now (limits .entry)) (now (least .entry)) (now (e .entry))) ⌝ }
+{
+    if e[1] != 0 {
         return false;
     }
-    if tag == 1 {
-        return n < atoms.len() / 4;
+    let tag = wide(e[0]);
+    if 5 < tag {
+        return false;
     }
-    if tag == 2 {
-        return n == 0;
+    let n = value(e);
+    if limits[tag] <= n {
+        return false;
     }
-    if tag == 3 {
-        return is_key(atoms, n);
+    if listed_kind(atoms, n) < least[tag] {
+        return false;
     }
-    if tag == 4 {
-        if kind == 2 {
-            return false;
-        }
-        return n < 8;
-    }
-    if tag == 5 {
-        if kind == 3 {
-            return n < 8;
-        }
-    }
-    false
+    true
 }
 
 // Number 7: the first entry that is not right.
@@ -130,9 +141,12 @@ pub fn wrong_entry(atoms: &[u8], kind: u8, e: &[u8]) -> Found
     ensures { λ r. ⌜ r ≡ wrongEntry (atomsOf (now (atoms .entry))) kind (now (e .entry)) ⌝ }
 {
     let count = e.len() / 4;
+    let limits = limits(kind, atoms.len() / 4);
+    // The value of an encryption is the number of a key: an atom of kind 3 or more.
+    let least = [0u8, 0, 0, 3, 0, 0];
     let mut i = 0;
     while i < count {
-        if right_entry(atoms, kind, &e[4 * i..]) {
+        if right_entry(atoms, &limits, &least, &e[4 * i..]) {
             i += 1;
         } else {
             return Found::At(i);
@@ -141,33 +155,42 @@ pub fn wrong_entry(atoms: &[u8], kind: u8, e: &[u8]) -> Found
     Found::Nothing
 }
 
-// The entries left are so many terms.
-fn are_terms(e: &[u8], need: usize) -> bool
-    requires { ⌜ Each HasSymbol (now e) × (need + length (now e) < 2 ^ 64) ⌝ }
-    ensures { λ r. ⌜ Says r (Count (termsOf (now (e .entry))) need) ⌝ }
+// The tags of the entries, a byte for each.
+fn tags(e: &[u8]) -> [u8; 128]
+    requires { ⌜ length (now e) ≤ 512 ⌝ }
+    ensures { λ r. ⌜ take (length (now (e .entry)) / 4) r ≡ tagsOf (now (e .entry)) ⌝ }
 {
-    if e.len() < 4 {
+    let count = e.len() / 4;
+    let mut tags = [0u8; 128];
+    let mut k = 0usize;
+    while k < count {
+        tags[k] = e[4 * k];
+        k += 1;
+    }
+    tags
+}
+
+// The entries left, from entry `at` up to entry `count`, are so many terms.
+fn are_terms(tags: &[u8; 128], at: usize, count: usize, need: usize) -> bool
+    requires { ⌜ (length (now tags) ≡ 128) × (count ≤ 128) × (need ≤ at + 1) ⌝ }
+    ensures { λ r. ⌜ r ≡ areTerms (slice at count (now (tags .entry))) need ⌝ }
+{
+    if count <= at {
         return need == 0;
     }
     if need == 0 {
         return false;
     }
-    let tag = e[0];
-    if tag == 2 {
-        are_terms(&e[4..], need + 1)
-    } else if tag == 3 {
-        are_terms(&e[4..], need)
-    } else {
-        are_terms(&e[4..], need - 1)
-    }
+    are_terms(tags, at + 1, count, need - 1 + children(tags[at]))
 }
 
 // Number 8: the entries are exactly one term, walked entry by entry.
 pub fn is_one_term(e: &[u8]) -> bool
-    requires { ⌜ Each HasSymbol (now e) ⌝ }
+    requires { ⌜ Each HasSymbol (now e) × (length (now e) ≤ 512) ⌝ }
     ensures { λ r. ⌜ r ≡ answer (oneTerm? (now (e .entry))) ⌝ }
 {
-    are_terms(e, 1)
+    let tags = tags(e);
+    are_terms(&tags, 0, e.len() / 4, 1)
 }
 
 // Number 8: the root is an encryption.

@@ -274,10 +274,9 @@ impl<'r> Maker<'r> {
 
     fn make_rule(&mut self) {
         loop {
-            self.choose_variables();
-            let mut premise = self.random.chance(80).then(|| self.premise());
+            let mut premise = self.next_premise();
             let open = self.seemingly_open(premise.as_ref());
-            let mut conclusion = self.conclusion(3, &open);
+            let mut conclusion = self.next_conclusion(&open);
             if self.random.chance(6) {
                 conclusion = self.mutated(&conclusion);
             }
@@ -296,6 +295,27 @@ impl<'r> Maker<'r> {
                 return;
             }
         }
+    }
+
+    /// A premise or none; at times that of the rule before, with its variables.
+    fn next_premise(&mut self) -> Option<Term> {
+        if self.random.chance(12) {
+            if let Some((premise, _)) = self.sketch.rules.last() {
+                return premise.clone();
+            }
+        }
+        self.choose_variables();
+        self.random.chance(80).then(|| self.premise())
+    }
+
+    /// A conclusion; at times that of the rule before.
+    fn next_conclusion(&mut self, open: &[Term]) -> Term {
+        if self.random.chance(4) {
+            if let Some((_, conclusion)) = self.sketch.rules.last() {
+                return conclusion.clone();
+            }
+        }
+        self.conclusion(3, open)
     }
 
     /// Rules repeated up to the 64th block, in a few files one beyond.

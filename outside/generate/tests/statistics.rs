@@ -88,6 +88,25 @@ fn blocks_and_places_vary() {
     }
 }
 
+/// Rules behind one that has the same premise or the same conclusion, but not both.
+#[test]
+fn rules_repeat_a_part() {
+    let (mut premises, mut conclusions) = (0, 0);
+    for seed in 0..FILES / 4 {
+        let Ok(certificate) = read(&generate::certificate(seed)) else {
+            continue;
+        };
+        for two in certificate.rules.windows(2) {
+            let premise = two[0].premise == two[1].premise && two[0].premise.is_some();
+            let conclusion = two[0].conclusion == two[1].conclusion;
+            premises += u64::from(premise && !conclusion);
+            conclusions += u64::from(conclusion && !premise);
+        }
+    }
+    println!("the premise of the rule before: {premises}, its conclusion: {conclusions}");
+    assert!(premises >= FILES / 40 && conclusions >= FILES / 200);
+}
+
 /// What accepted certificates rest on.
 #[derive(Default, Debug)]
 struct Reasons {

@@ -18,7 +18,7 @@ is-term-spec = tie.close (tie.spec
     (λ c. search needs)  -- enum-told
     (λ c. search needs)  -- enum-told-2
     (λ c κs. let args = c .before .before .before .before .before .before .before .args in let if2 = c .before .before .before .before .if2 in
-    found-symbols (args .e .now) (if2 .left) (c .before .before .wrong-entry .ensures) (c .enum-told2 .given .1))  -- is-one-term-requires
+    (found-symbols (args .e .now) (if2 .left) (c .before .before .wrong-entry .ensures) (c .enum-told2 .given .1), search needs))  -- is-one-term-requires
     (λ c. let args = c .before .before .before .before .before .before .before .args in let if1 = c .before .before .before .before .before .if1 in
     let if2 = c .before .before .before .before .if2 in
     by-entries (args .e .now) false (if1 .left) (if2 .left) (c .before .before .wrong-entry .ensures)

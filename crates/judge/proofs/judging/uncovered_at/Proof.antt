@@ -3,6 +3,7 @@ use mathlib.Core.Path.{_∙_}
 use Prim.Native.Nat.{_+_, _<_}
 use native.Mathlib.Omega.{arith}
 use Rattle.judge.proofs.JudgingLaws.{place-small, rule-at, open-other, open-found, open-fine}
+use Rattle.judge.proofs.Repeats.{known-here}
 use borrow.Author.Needs.{needs}
 use Rattle.judge.proofs.judging.uncovered_at.Statement.{statement}
 use Rattle.judge.proofs.judging.uncovered_at.Tie as tie
@@ -23,12 +24,15 @@ uncovered-at-spec = tie.close (tie.spec
     (λ c. open-other _ _ _ (c .before .before .block .ensures .0) (c .before .kind .ensures) (c .if1 .taken))  -- returns
     (λ c κs.
     let pre = c .before .before .before .before .before .pre in
-    (pre .2 .laid, rule-at (pre .0) (pre .1) (c .before .before .block .ensures .0) (c .before .kind .ensures) (c .if1 .left), pre .3))  -- uncovered-requires
+    let same = c .before .before .block .ensures .0 in
+    let kind = c .before .kind .ensures in
+    let five = c .if1 .left in
+    (pre .2 .laid, rule-at (pre .0) (pre .1) same kind five, pre .3, known-here (pre .0) (pre .1) same (pre .4) kind five, known-here (pre .0) (pre .1) same (pre .5) kind five))  -- uncovered-requires
     (λ c. search needs)  -- enum-known-k
-    (λ c. let few = c .before .before .before .before .before .before .before .before .before .pre .0 .few in search needs)  -- cast-t10
+    (λ c. let few = c .before .before .before .before .before .before .before .before .before .pre .0 .few in search needs)  -- cast-t13
     (λ c κs. search needs)  -- first-count-requires
-    (λ c. let s = small c in search needs)  -- add-t12
-    (λ c. let s = small c in search needs)  -- cast-t13
+    (λ c. let s = small c in search needs)  -- add-t15
+    (λ c. let s = small c in search needs)  -- cast-t16
     (λ c. search needs)  -- enum-told
     (λ c.
     let at = c .before .before .before .before in

@@ -7,7 +7,7 @@ use Rattle.judge.proofs.layout.conclusion_fault.Tie as tie
 pub conclusion-fault-spec : {M : Type 1} → statement M
 conclusion-fault-spec = tie.close (tie.spec
     (λ c κs. search needs)  -- second-entries-requires
-    (λ c κs. rw (c .second-entries .ensures .0) (c .before .before .pre .second))  -- is-one-term-requires
+    (λ c κs. (rw (c .second-entries .ensures .0) (c .before .before .pre .second), search needs))  -- is-one-term-requires
     (λ c κs. search needs)  -- first-count-requires
     (λ c. search needs)  -- cast-t7
     (λ c. conclusion-fine _ _ (c .before .before .second-entries .ensures .0) (c .before .is-one-term .ensures) (c .if1 .taken))  -- returns

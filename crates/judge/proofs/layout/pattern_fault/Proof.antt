@@ -8,7 +8,7 @@ use Rattle.judge.proofs.layout.pattern_fault.Tie as tie
 pub pattern-fault-spec : {M : Type 1} → statement M
 pattern-fault-spec = tie.close (tie.spec
     (λ c κs. search needs)  -- first-entries-requires
-    (λ c κs. rw (c .first-entries .ensures .0) (c .before .before .pre .first))  -- is-one-term-requires
+    (λ c κs. (rw (c .first-entries .ensures .0) (c .before .before .pre .first), search needs))  -- is-one-term-requires
     (λ c. pattern-broken _ _ (c .before .before .first-entries .ensures .0) (c .before .is-one-term .ensures) (not-true _ (c .if1 .taken)))  -- returns
     (λ c κs. search needs)  -- kind-requires
     (λ c κs. begins-one (c .before .before .is-one-term .ensures) (not-false _ (c .before .if1 .left)))  -- root-right-requires

@@ -10,7 +10,7 @@ rule-parts-fault-spec = tie.close (tie.spec
     (λ c κs. search needs)  -- conclusion-fault-requires
     (λ c. rule-bare _ _ (c .before .before .first-count .ensures .0) (c .before .if1 .taken) (c .conclusion-fault .ensures))  -- returns
     (λ c κs. search needs)  -- first-entries-requires
-    (λ c κs. rw (c .first-entries .ensures .0) (c .before .before .before .before .pre .first))  -- is-one-term-requires
+    (λ c κs. (rw (c .first-entries .ensures .0) (c .before .before .before .before .pre .first), search needs))  -- is-one-term-requires
     (λ c κs. search needs)  -- conclusion-fault-requires-2
     (λ c.
     let at = c .before .before in

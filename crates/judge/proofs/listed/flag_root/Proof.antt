@@ -1,10 +1,10 @@
 -- `judge::listed::flag_root` meets its contract. Assumes nothing.
 use mathlib.Core.Path.{ap, _∙_}
-use Prim.Native.Nat.{ℕ, _%_, _<_}
+use Prim.Native.Nat.{_<_}
 use native.Mathlib.Omega.{arith}
 use lib.ListN.{length, length-set}
-use Rattle.terms.specs.Entry.{valueAt}
 use Rattle.terms.specs.Decisions.{says-yes, says-no}
+use Rattle.judge.specs.Listed.{slotAt}
 use Rattle.judge.proofs.Listing.{term-block}
 use Rattle.judge.proofs.Roots.{flag-kept, flag-here}
 use borrow.Author.Needs.{needs}
@@ -17,17 +17,17 @@ flag-root-spec = tie.close (tie.spec
     (λ c κs.
     let pre = c .before .before .before .pre in
     (pre .1, term-block (pre .0) (omega arith) (omega arith) (pre .1) (says-yes (c .before .is-kind .result) (c .before .is-kind .ensures) (c .if1 .taken))))  -- term-at-requires
-    (λ c κs. c .term-at .ensures .term .room)  -- value-requires
+    (λ c κs. c .term-at .ensures .term)  -- root-slot-requires
     (λ c. search needs)  -- element-write-roots
     (λ c.
     let pre = c .before .before .before .before .before .pre in
     let old = c .before .before .before .before .before .args .roots .now in
-    let same = c .value .ensures .0 ∙ ap valueAt (c .before .term-at .ensures .part) in
-    let inside : c .value .result % 256 < length old = search needs in
+    let same = c .root-slot .ensures .0 ∙ ap slotAt (c .before .term-at .ensures .part) in
+    let inside : c .root-slot .result < length old = search needs in
     record {
       long = simp length-set (pre .2);
       kept = flag-kept old inside;
-      here = λ kind. flag-here old inside (ap (λ (n : ℕ). n % 256) same);
+      here = λ kind. flag-here old inside same;
     })  -- returns
     (λ c. let pre = c .before .before .before .pre in record { long = pre .2; kept = λ k on. on; here = λ kind. absurd (says-no (c .before .is-kind .result) (c .before .is-kind .ensures) (c .if1 .left) kind) })  -- returns-2
     )

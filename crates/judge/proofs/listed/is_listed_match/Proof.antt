@@ -7,7 +7,7 @@ use Rattle.terms.specs.Entry.{termOf}
 use Rattle.terms.specs.Decisions.{says-no}
 use Rattle.judge.specs.File.{blockCount}
 use Rattle.judge.specs.Listed.{HoldsAt, matches-listed?}
-use Rattle.judge.proofs.Listing.{found-answer, none-answer, above-more}
+use Rattle.judge.proofs.Listing.{found-answer, none-answer, lower-answer, above-more}
 use Rattle.judge.proofs.listed.is_listed_match.Statement.{statement}
 use Rattle.judge.proofs.listed.is_listed_match.Tie as tie
 
@@ -26,10 +26,15 @@ is-listed-match-spec = tie.close (tie.spec Inv-loop μ-loop
     (λ c. let s = c .before .before .before .before .before .before in let at = c .before .matches-at in
     found-answer (s .pre) (λ p. Matches p (termOf (s .args .e .now))) (search needs) (at .result) (at .ensures) (c .if1 .taken)
     (matches-listed? _ _ _))  -- returns
+    (λ c. search needs)  -- sub-kind-at
+    (λ c κs. search needs)  -- kind-at-requires
+    (λ c. let loop = c .before .before .before .before .before in let s = loop .before .before .before in
+    lower-answer (s .pre) (λ p. Matches p (termOf (s .args .e .now))) (search needs) (c .before .kind-at .ensures) (c .if2 .taken)
+    (λ k l. loop .loop .inv .1 k (omega arith)) (matches-listed? _ _ _))  -- returns-2
     (λ c. search needs)  -- sub-left
     (λ c. search needs)  -- loop-less
-    (λ c. let at = c .before .matches-at in
-    (search needs, above-more _ _ (c .before .before .before .loop .inv .1) (says-no (at .result) (at .ensures) (c .if1 .left))))  -- loop-again
+    (λ c. let at = c .before .before .before .matches-at in
+    (search needs, above-more _ _ (c .before .before .before .before .before .loop .inv .1) (says-no (at .result) (at .ensures) (c .before .before .if1 .left))))  -- loop-again
     (λ c. let s = c .before .before .before .before in
-    none-answer (s .pre) (λ p. Matches p (termOf (s .args .e .now))) (λ k l. c .before .loop .inv .1 k (omega arith) l) (matches-listed? _ _ _))  -- returns-2
+    none-answer (s .pre) (λ p. Matches p (termOf (s .args .e .now))) (λ k l. c .before .loop .inv .1 k (omega arith) l) (matches-listed? _ _ _))  -- returns-3
     )

@@ -8,7 +8,7 @@ use Rattle.terms.specs.Entry.{termOf}
 use Rattle.terms.specs.Decisions.{says-no}
 use Rattle.judge.specs.File.{blockCount}
 use Rattle.judge.specs.Listed.{HoldsAt, is-secret?}
-use Rattle.judge.proofs.Listing.{found-answer, none-answer}
+use Rattle.judge.proofs.Listing.{found-answer, none-answer, higher-answer}
 use Rattle.judge.proofs.listed.is_listed_secret.Statement.{statement}
 use Rattle.judge.proofs.listed.is_listed_secret.Tie as tie
 
@@ -25,10 +25,13 @@ is-listed-secret-spec = tie.close (tie.spec Inv-loop μ-loop
     (λ c. let s = c .before .before .before .before .before .before in let at = c .before .same-at in
     found-answer (s .pre) (λ p. p ≡ termOf (s .args .e .now)) (c .before .before .loop-test .taken) (at .result) (at .ensures) (c .if1 .taken)
     (is-secret? _ _))  -- returns
+    (λ c κs. search needs)  -- kind-at-requires
+    (λ c. let loop = c .before .before .before .before .before in let s = loop .before .before .before in
+    higher-answer (s .pre) (λ p. p ≡ termOf (s .args .e .now)) (c .before .kind-at .ensures) (c .if2 .taken) (loop .loop .inv .1) (is-secret? _ _))  -- returns-2
     (λ c. search needs)  -- add-i
     (λ c. search needs)  -- loop-less
-    (λ c. let at = c .before .same-at in
-    (search needs, below-more _ _ (c .before .before .before .loop .inv .1) (says-no (at .result) (at .ensures) (c .if1 .left))))  -- loop-again
+    (λ c. let at = c .before .before .before .same-at in
+    (search needs, below-more _ _ (c .before .before .before .before .before .loop .inv .1) (says-no (at .result) (at .ensures) (c .before .before .if1 .left))))  -- loop-again
     (λ c. let s = c .before .before .before .before in
-    none-answer (s .pre) (λ p. p ≡ termOf (s .args .e .now)) (λ k l. c .before .loop .inv .1 k (omega arith)) (is-secret? _ _))  -- returns-2
+    none-answer (s .pre) (λ p. p ≡ termOf (s .args .e .now)) (λ k l. c .before .loop .inv .1 k (omega arith)) (is-secret? _ _))  -- returns-3
     )

@@ -1,18 +1,28 @@
 -- `judge::listed::may_be_secret` meets its contract. Assumes nothing.
 use mathlib.Core.Path.{sym, ap, _∙_}
 use mathlib.Core.Bool.{true≢false}
-use Prim.Native.Nat.{ℕ, _%_}
+use mathlib.Core.Logic.{⊎-elim}
+use Prim.Native.Nat.{ℕ}
+use native.Mathlib.Omega.{arith}
 use lib.ListN.{getD}
-use Rattle.judge.proofs.Roots.{absent-told}
+use Rattle.judge.proofs.Roots.{pair-room, left-tag, absent-told}
 use borrow.Author.Needs.{needs}
 use Rattle.judge.proofs.listed.may_be_secret.Statement.{statement}
 use Rattle.judge.proofs.listed.may_be_secret.Tie as tie
 
 pub may-be-secret-spec : {M : Type 1} → statement M
 may-be-secret-spec = tie.close (tie.spec
-    (λ c. let room = c .before .before .pre .1 .room in search needs)  -- shared-slice-read-if1
+    (λ c. let room = c .before .before .pre .1 .room in search needs)  -- shared-slice-read-tag
     (λ c. λ e. absurd (true≢false e))  -- returns
-    (λ c κs. let room = c .before .before .before .pre .1 .room in search needs)  -- value-requires
+    (λ c. omega (arith, pair-room (c .before .before .before .before .before .pre .1) (c .before .if2 .taken)))  -- shared-slice-read-if3
+    (λ c. λ e. absurd (true≢false e))  -- returns-2
+    (λ c κs. c .before .before .before .before .pre .1)  -- root-slot-requires
     (λ c. search needs)  -- element-copy-out-result
-    (λ c. λ e. record { symbol = c .before .before .if1 .left; absent = ap (λ (n : ℕ). getD (c .before .before .before .before .before .args .roots .now) (n % 256) 0) (sym (c .before .value .ensures .0)) ∙ absent-told e })  -- returns-2
+    (λ c. λ e.
+    let start = c .before .before .before .before .before .before in
+    record {
+      symbol = c .before .before .before .if1 .left;
+      left-symbol = λ two. ⊎-elim (λ w. left-tag (start .args .e .now) (w .2 .left)) (λ w. absurd (w .left two)) (c .before .before .if2 .came);
+      absent = ap (λ (n : ℕ). getD (start .args .roots .now) n 0) (sym (c .before .root-slot .ensures .0)) ∙ absent-told e;
+    })  -- returns-3
     )

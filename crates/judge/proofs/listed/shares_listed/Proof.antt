@@ -7,7 +7,7 @@ use Rattle.terms.specs.Entry.{termOf}
 use Rattle.terms.specs.Decisions.{says-no}
 use Rattle.judge.specs.File.{blockCount}
 use Rattle.judge.specs.Listed.{HoldsAt, shares-listed?}
-use Rattle.judge.proofs.Listing.{found-answer, none-answer, above-more}
+use Rattle.judge.proofs.Listing.{found-answer, none-answer, lower-answer, above-more}
 use Rattle.judge.proofs.listed.shares_listed.Statement.{statement}
 use Rattle.judge.proofs.listed.shares_listed.Tie as tie
 
@@ -25,10 +25,15 @@ shares-listed-spec = tie.close (tie.spec Inv-loop μ-loop
     (λ c κs. search needs)  -- shares-at-requires
     (λ c. let s = c .before .before .before .before .before .before in let at = c .before .shares-at in
     found-answer (s .pre) (λ p. Share p (termOf (s .args .e .now))) (search needs) (at .result) (at .ensures) (c .if1 .taken) (shares-listed? _ _ _))  -- returns
+    (λ c. search needs)  -- sub-kind-at
+    (λ c κs. search needs)  -- kind-at-requires
+    (λ c. let loop = c .before .before .before .before .before in let s = loop .before .before .before in
+    lower-answer (s .pre) (λ p. Share p (termOf (s .args .e .now))) (search needs) (c .before .kind-at .ensures) (c .if2 .taken)
+    (λ k l. loop .loop .inv .1 k (omega arith)) (shares-listed? _ _ _))  -- returns-2
     (λ c. search needs)  -- sub-left
     (λ c. search needs)  -- loop-less
-    (λ c. let at = c .before .shares-at in
-    (search needs, above-more _ _ (c .before .before .before .loop .inv .1) (says-no (at .result) (at .ensures) (c .if1 .left))))  -- loop-again
+    (λ c. let at = c .before .before .before .shares-at in
+    (search needs, above-more _ _ (c .before .before .before .before .before .loop .inv .1) (says-no (at .result) (at .ensures) (c .before .before .if1 .left))))  -- loop-again
     (λ c. let s = c .before .before .before .before in
-    none-answer (s .pre) (λ p. Share p (termOf (s .args .e .now))) (λ k l. c .before .loop .inv .1 k (omega arith) l) (shares-listed? _ _ _))  -- returns-2
+    none-answer (s .pre) (λ p. Share p (termOf (s .args .e .now))) (λ k l. c .before .loop .inv .1 k (omega arith) l) (shares-listed? _ _ _))  -- returns-3
     )

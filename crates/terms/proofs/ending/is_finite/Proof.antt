@@ -1,13 +1,39 @@
 -- `terms::ending::is_finite` meets its contract. Assumes nothing.
-use mathlib.Core.Bool.{true≢false}
+use mathlib.Core.Path.{refl}
+use mathlib.Core.Bool.{false≢true}
+use lib.ListN.{replicate, getD-replicate}
 use borrow.Author.Needs.{needs}
+use Rattle.terms.specs.Ending.{start-sound, start-below, below-kept, all-finite}
 use Rattle.terms.proofs.ending.is_finite.Statement.{statement}
 use Rattle.terms.proofs.ending.is_finite.Tie as tie
 
 pub is-finite-spec : {M : Type 1} → statement M
 is-finite-spec = tie.close (tie.spec
-    (λ c κs. search needs)  -- is-flat-requires
-    (λ c κs. c .before .before .before .before .pre)  -- all-end-requires
-    (λ c. (λ e. c .before .is-flat .ensures (c .if1 .taken), λ e. absurd (true≢false e)))  -- returns
-    (λ c. c .all-end .ensures)  -- returns-2
+    (λ c. search needs)  -- add-side-ends
+    (λ c κs. let pre = c .before .before .before .pre in (
+      pre .0,
+      pre .1,
+      refl,
+      search needs,
+      search needs,
+      start-sound _ _ _ (replicate 128 0) (λ a h. getD-replicate 128 a 0 0 h),
+      start-below _ _ _ (replicate 128 0) (λ a h. getD-replicate 128 a 0 0 h),
+    ))  -- side-ends-requires
+    (λ c κs. let walk = c .before .before .side-ends in let pre = c .before .before .before .before .before .before .pre in
+    let ended = walk .ensures .ends (c .before .if1 .taken) in (
+      pre .0,
+      pre .1,
+      walk .ensures .long,
+      search needs,
+      search needs,
+      ended .1 .sound,
+      λ i. below-kept (ended .1) (start-below _ _ _ (replicate 128 0) (λ a h. getD-replicate 128 a 0 0 h) i),
+    ))  -- side-ends-requires-2
+    (λ c. let first = c .before .before .before .side-ends in let start = c .before .before .before .before .before .before .before in
+    let args = start .args in (
+      (λ e. all-finite (args .s .now) (args .t .now) (args .c .now) (start .pre .0) (start .pre .2) (c .side-ends2 .ensures .ends e .0)
+          (first .ensures .ends (c .before .before .if1 .taken) .0)),
+      c .side-ends2 .ensures .never,
+    ))  -- returns
+    (λ c. (λ e. absurd (false≢true e), λ e. c .before .side-ends .ensures .never (c .if1 .left)))  -- returns-2
     )

@@ -13,7 +13,7 @@ use Rattle.terms.proofs.matching.+match_front.Lts-match_front as match-
 use Rattle.terms.proofs.entry.term_size.Reads as term-size-reads
 use Rattle.terms.proofs.matching.bind.Reads as bind-reads
 use Rattle.terms.proofs.matching.bindable.Reads as bindable-reads
-use Rattle.terms.proofs.matching.children.Reads as children-reads
+use Rattle.terms.proofs.entry.children.Reads as children-reads
 use Rattle.terms.proofs.matching.same_entry.Reads as same-entry-reads
 use Rattle.terms.proofs.matching.slot.Reads as slot-reads
 use Rattle.terms.proofs.matching.+match_front.{statement}

@@ -8,7 +8,7 @@ use borrow.Fn.PlainCycle.{Measures, is, falls, and}
 use Rattle.terms.proofs.matching.same_front.Reads as same-front
 use Rattle.terms.proofs.matching.same_front.Kinds as same-front-kinds
 use Rattle.terms.proofs.matching.+same_front.Lts-same_front as same-front-lts
-use Rattle.terms.proofs.matching.children.Reads as children-reads
+use Rattle.terms.proofs.entry.children.Reads as children-reads
 use Rattle.terms.proofs.matching.same_entry.Reads as same-entry-reads
 use Rattle.terms.proofs.matching.+same_front.{statement}
 use Rattle.terms.proofs.matching.+same_front.Tie.{close}

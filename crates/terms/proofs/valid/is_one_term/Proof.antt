@@ -8,8 +8,9 @@ use Rattle.terms.proofs.valid.is_one_term.Tie as tie
 
 pub is-one-term-spec : {M : Type 1} → statement M
 is-one-term-spec = tie.close (tie.spec
+    (λ c κs. search needs)  -- tags-requires
     (λ c κs. search needs)  -- are-terms-requires
-    (λ c. let a = c .before .before .args in
-    says-answer _ (count-one (a .e .now) (λ i. c .before .shared-slice-known .given i .fits) (c .are-terms .result) (c .are-terms .ensures))
-    (oneTerm? (a .e .now)))  -- returns
+    (λ c. let known = c .before .before .before in let start = known .before in
+    says-answer _ (count-one (start .pre .0) (λ i. known .shared-slice-known .given i .fits) (c .before .before .tags .ensures) (c .are-terms .ensures))
+    (oneTerm? (start .args .e .now)))  -- returns
     )

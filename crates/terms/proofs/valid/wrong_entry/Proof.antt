@@ -7,18 +7,20 @@ use borrow.Author.Count.{below-none, below-more}
 use Rattle.terms.specs.Atom.{atomsOf}
 use Rattle.terms.specs.TermEntry.{EntryRight}
 use Rattle.terms.specs.Each.{EntryIs}
-use Rattle.terms.specs.ValidLaws.{entry-yes, entry-no, entry-wrong, entries-right}
+use Rattle.terms.specs.Limits.{entry-yes, entry-no}
+use Rattle.terms.specs.ValidLaws.{entry-wrong, entries-right}
 use Rattle.terms.proofs.valid.wrong_entry.Statement.{statement}
 use Rattle.terms.proofs.valid.wrong_entry.Tie as tie
 
 abbrev Inv-loop : tie.InvT-loop
-Inv-loop atoms kind e count i₀ i = (i ≤ length e / 4) × ((k : ℕ) → k < i → EntryIs (EntryRight (atomsOf atoms) kind) e k)
+Inv-loop atoms kind e count limits least i₀ i = (i ≤ length e / 4) × ((k : ℕ) → k < i → EntryIs (EntryRight (atomsOf atoms) kind) e k)
 
 abbrev μ-loop : tie.MeasureT-loop
-μ-loop atoms kind e count i₀ i = length e / 4 - i
+μ-loop atoms kind e count limits least i₀ i = length e / 4 - i
 
 pub wrong-entry-spec : {M : Type 1} → statement M
 wrong-entry-spec = tie.close (tie.spec Inv-loop μ-loop
+    (λ c κs. search needs)  -- limits-requires
     (λ c. (search needs, below-none _))  -- loop-holds
     (λ c. search needs)  -- mul-right-entry
     (λ c. search needs)  -- sub-right-entry
@@ -27,16 +29,16 @@ wrong-entry-spec = tie.close (tie.spec Inv-loop μ-loop
     (λ c κs. search needs)  -- right-entry-requires
     (λ c. search needs)  -- add-i
     (λ c. search needs)  -- loop-less
-    (λ c. let args = c .before .before .before .before .before .before .before .args in let loop = c .before .before .before .before .loop in
-    let right-entry = c .before .right-entry in let a = args in (
+    (λ c. let at = c .before .before .before .before .before .before in let a = at .before .before .before .before .args in
+    let one = c .before .right-entry in (
       search needs,
-      below-more _ _ (loop .inv .1) (entry-yes (a .atoms .now) (a .kind) (a .e .now) (loop .i) (right-entry .result)
-          (right-entry .ensures) (c .if1 .taken)),
+      below-more _ _ (at .loop .inv .1) (entry-yes (a .atoms .now) (a .kind) (a .e .now) (at .before .limits .ensures) (at .loop .i)
+          (one .result) (one .ensures) (c .if1 .taken)),
     ))  -- loop-again
-    (λ c. let args = c .before .before .before .before .before .before .before .args in let loop = c .before .before .before .before .loop in
-    let right-entry = c .before .right-entry in let a = args in
-    entry-wrong (a .atoms .now) (a .kind) (a .e .now) (loop .i) (search needs) (loop .inv .1)
-    (entry-no (a .atoms .now) (a .kind) (a .e .now) (loop .i) (right-entry .result) (right-entry .ensures) (c .if1 .left)))  -- returns
-    (λ c. let args = c .before .before .before .before .args in let a = args in
+    (λ c. let at = c .before .before .before .before .before .before in let a = at .before .before .before .before .args in
+    let one = c .before .right-entry in
+    entry-wrong (a .atoms .now) (a .kind) (a .e .now) (at .loop .i) (search needs) (at .loop .inv .1)
+    (entry-no (a .atoms .now) (a .kind) (a .e .now) (at .before .limits .ensures) (at .loop .i) (one .result) (one .ensures) (c .if1 .left)))  -- returns
+    (λ c. let args = c .before .before .before .before .before .args in let a = args in
     entries-right (a .atoms .now) (a .kind) (a .e .now) (λ k l. c .before .loop .inv .1 k (omega arith)))  -- returns-2
     )

@@ -1,0 +1,171 @@
+-- Number 7 by two tables over the tags: the value of an entry is below its tag's limit, and the atom of that number has
+-- not less than its tag's least kind.
+use mathlib.Core.Path.{_≡_, refl, ap}
+use mathlib.Core.Bool.{Bool, true, false}
+use mathlib.Core.List.{List, [], _∷_}
+use Prim.Native.Nat.{ℕ, zero, suc, _*_, _/_, _≤_, _<_}
+use native.Mathlib.Omega.{arith}
+use lib.Dec.{ltb, eqb}
+use borrow.Author.Tests.{ltb-true, eqb-true, eqb-false, lt-ltb, le-ltb, eq-eqb, ne-eqb}
+use lib.ListN.{length, getD, List·getD-eq-default}
+use borrow.Rule.Slice.PartAt.{part-to-end}
+use Rattle.terms.specs.Entry.{tagAt, valueAt}
+use Rattle.terms.specs.WalkLaws.{from}
+use Rattle.terms.specs.Solve.{Says, says-same}
+use Rattle.terms.specs.Decisions.{says-yes, says-no}
+use Rattle.terms.specs.Atom.{Atom, atomsOf, atomAt, kindOf, IsKey, key-kind, kind-key, key-listed, length-atoms}
+use Rattle.terms.specs.TermEntry.{EntryRight, Asked, asked, tagRight}
+use Rattle.terms.specs.Each.{EntryIs}
+use Rattle.terms.specs.ValidLaws.{kind-byte}
+
+-- One of two numbers, by a test.
+abbrev pub pick : Bool → ℕ → ℕ → ℕ
+pick true a b = a
+pick false a b = b
+
+-- The kind of an atom, 1 to 5; 0 for no atom and for no kind.
+unfoldable pub listedKind : List Atom → ℕ → ℕ
+listedKind atoms n = pick (ltb (kindOf atoms n) 6) (kindOf atoms n) 0
+
+-- How many plain and how many marked variables a block of this kind may have.
+unfoldable pub plainLimit : ℕ → ℕ
+plainLimit kind = pick (eqb kind 2) 0 8
+
+unfoldable pub markedLimit : ℕ → ℕ
+markedLimit kind = pick (eqb kind 3) 8 0
+
+-- The limits of the tags, with so many atoms, and their least kinds.
+unfoldable pub limitsOf : ℕ → ℕ → List ℕ
+limitsOf kind count = 0 ∷ count ∷ 1 ∷ count ∷ plainLimit kind ∷ markedLimit kind ∷ []
+
+abbrev pub leastKinds : List ℕ
+leastKinds = 0 ∷ 0 ∷ 0 ∷ 3 ∷ 0 ∷ 0 ∷ []
+
+-- The entry that stands first is right by these tables.
+pub record Within (atoms : List Atom) (limits least e : List ℕ) : Type 0 where
+  pub blank : getD e 1 0 ≡ 0
+  pub below : valueAt e < getD limits (tagAt e) 0
+  pub kept : getD least (tagAt e) 0 ≤ listedKind atoms (valueAt e)
+
+-- The kind of an atom, by its byte.
+module _ (b : List ℕ) (n : ℕ) where
+  pub kind-away : length b / 4 ≤ n → 0 ≡ listedKind (atomsOf b) n
+  unfolding listedKind atomAt
+  kind-away far = let none-there : kindOf (atomsOf b) n ≡ 0 = ap (λ (a : Atom). a .kind) (List·getD-eq-default (atomsOf b) _ (omega (arith, length-atoms b))) in
+      rw none-there
+
+  pub kind-low : n < length b / 4 → getD b (4 * n) 0 < 6 → getD b (4 * n) 0 ≡ listedKind (atomsOf b) n
+  unfolding listedKind
+  kind-low inside low = rw (kind-byte b inside, lt-ltb (getD b (4 * n) 0) 6 low)
+
+  pub kind-high : n < length b / 4 → 6 ≤ getD b (4 * n) 0 → 0 ≡ listedKind (atomsOf b) n
+  unfolding listedKind
+  kind-high inside high = rw (kind-byte b inside, le-ltb (getD b (4 * n) 0) 6 high)
+
+-- How many variables, by the kind of the block.
+module _ {kind : ℕ} where
+  pub plain-secret : kind ≡ 2 → 0 ≡ plainLimit kind
+  unfolding plainLimit
+  plain-secret e = rw (eq-eqb kind 2 e)
+
+  pub plain-other : (kind ≡ 2 → ⊥) → 8 ≡ plainLimit kind
+  unfolding plainLimit
+  plain-other e = rw (ne-eqb kind 2 e)
+
+  pub marked-good : kind ≡ 3 → 8 ≡ markedLimit kind
+  unfolding markedLimit
+  marked-good e = rw (eq-eqb kind 3 e)
+
+  pub marked-other : (kind ≡ 3 → ⊥) → 0 ≡ markedLimit kind
+  unfolding markedLimit
+  marked-other e = rw (ne-eqb kind 3 e)
+
+-- What the tables ask of an entry is what number 7 asks, tag by tag.
+module _ (atoms : List Atom) (kind value : ℕ) where
+  kind-key-listed : 3 ≤ listedKind atoms value → IsKey atoms value
+  unfolding listedKind
+  kind-key-listed = go (ltb (kindOf atoms value) 6) refl
+    where
+      go : (t : Bool) → ltb (kindOf atoms value) 6 ≡ t → 3 ≤ pick t (kindOf atoms value) 0 → IsKey atoms value
+      go true e h = let l = ltb-true (kindOf atoms value) 6 e in kind-key h (omega arith)
+      go false e h = absurd (omega arith)
+
+  key-kind-listed : IsKey atoms value → 3 ≤ listedKind atoms value
+  unfolding listedKind
+  key-kind-listed k = let b = key-kind k in rw (lt-ltb (kindOf atoms value) 6 (omega arith)) (b .0)
+
+  within-asked : (tag : ℕ) → value < getD (limitsOf kind (length atoms)) tag 0 → getD leastKinds tag 0 ≤ listedKind atoms value
+      → Asked atoms kind value tag
+  unfolding Asked limitsOf
+  within-asked zero below kept = absurd (omega arith)
+  within-asked (suc zero) below kept = below
+  within-asked (suc (suc zero)) below kept = omega arith
+  within-asked (suc (suc (suc zero))) below kept = kind-key-listed kept
+  within-asked (suc (suc (suc (suc zero)))) below kept = go (eqb kind 2) refl
+    where
+      go : (t : Bool) → eqb kind 2 ≡ t → (value < 8) × (kind ≡ 2 → ⊥)
+      go true e = absurd (omega (arith, plain-secret (eqb-true kind 2 e)))
+      go false e = (omega (arith, plain-other (eqb-false kind 2 e)), eqb-false kind 2 e)
+  within-asked (suc (suc (suc (suc (suc zero))))) below kept = go (eqb kind 3) refl
+    where
+      go : (t : Bool) → eqb kind 3 ≡ t → (value < 8) × (kind ≡ 3)
+      go true e = (omega (arith, marked-good (eqb-true kind 3 e)), eqb-true kind 3 e)
+      go false e = absurd (omega (arith, marked-other (eqb-false kind 3 e)))
+  within-asked (suc (suc (suc (suc (suc (suc t)))))) below kept = absurd (omega arith)
+
+  asked-within : (tag : ℕ) → Asked atoms kind value tag
+      → (value < getD (limitsOf kind (length atoms)) tag 0) × (getD leastKinds tag 0 ≤ listedKind atoms value)
+  unfolding Asked limitsOf
+  asked-within zero a = absurd a
+  asked-within (suc zero) a = (a, omega arith)
+  asked-within (suc (suc zero)) a = (omega arith, omega arith)
+  asked-within (suc (suc (suc zero))) a = (key-listed a, key-kind-listed a)
+  asked-within (suc (suc (suc (suc zero)))) a = (omega (arith, a .0, plain-other (a .1)), omega arith)
+  asked-within (suc (suc (suc (suc (suc zero))))) a = (omega (arith, a .0, marked-good (a .1)), omega arith)
+  asked-within (suc (suc (suc (suc (suc (suc t)))))) a = absurd a
+
+abbrev Right : List ℕ → ℕ → List ℕ → Type 0
+Right b kind e = EntryRight (atomsOf b) kind (tagAt e) (getD e 1 0) (valueAt e)
+
+within-right : (b : List ℕ) (kind : ℕ) (e : List ℕ) {limits : List ℕ} → limits ≡ limitsOf kind (length b / 4)
+    → (r : Bool) → Says r (Within (atomsOf b) limits leastKinds e) → Says r (Right b kind e)
+within-right b kind e {limits} is r says = says-same {P = Within (atomsOf b) limits leastKinds e} r
+    (λ w. record {
+      blank = w .blank;
+      tagged = tagRight (atomsOf b) kind (valueAt e) (tagAt e) (within-asked (atomsOf b) kind (valueAt e) (tagAt e)
+          (rw tables at (w .below)) (w .kept));
+    })
+    (λ w. (let a = asked-within (atomsOf b) kind (valueAt e) (tagAt e) (asked (atomsOf b) kind (valueAt e) (w .tagged)) in
+    record { blank = w .blank; below = rw tables (a .0); kept = a .1 })) says
+  where
+    tables : limits ≡ limitsOf kind (length (atomsOf b))
+    tables = rw (length-atoms b) is
+
+-- What is said of entry n by the tables is said by number 7.
+module _ (b : List ℕ) (kind : ℕ) (e : List ℕ) {limits : List ℕ} (is : limits ≡ limitsOf kind (length b / 4)) (n : ℕ) (r : Bool)
+    (says : Says r (Within (atomsOf b) limits leastKinds (from (4 * n) e))) where
+  right-there : Says r (Right b kind (from (4 * n) e))
+  right-there = within-right b kind (from (4 * n) e) is r says
+
+  pub entry-yes : r ≡ true → EntryIs (EntryRight (atomsOf b) kind) e n
+  entry-yes t = rw part-to-end at (says-yes {P = Right b kind (from (4 * n) e)} r right-there t)
+
+  pub entry-no : r ≡ false → ¬ EntryIs (EntryRight (atomsOf b) kind) e n
+  entry-no f w = says-no {P = Right b kind (from (4 * n) e)} r right-there f (rw part-to-end w)
+
+-- The steps of the test.
+module _ {atoms : List Atom} {limits least e : List ℕ} {tag : ℕ} (is-tag : tag ≡ tagAt e) where
+  pub past-tables : length limits ≡ 6 → 5 < tag → ¬ Within atoms limits least e
+  past-tables long far w = let z : getD limits (tagAt e) 0 ≡ 0 = List·getD-eq-default limits 0 (omega arith) in let h = w .below in omega arith
+
+  module _ {n : ℕ} (is-value : n ≡ valueAt e) where
+    pub past-limit : getD limits tag 0 ≤ n → ¬ Within atoms limits least e
+    past-limit far w = let h = w .below in let k = rw (is-tag, is-value) at far in omega arith
+
+    module _ {k : ℕ} (is-kind : k ≡ listedKind atoms n) where
+      pub less-kind : k < getD least tag 0 → ¬ Within atoms limits least e
+      less-kind low w = let h = w .kept in let l = rw (is-kind, is-tag, is-value) at low in omega arith
+
+      pub within : getD e 1 0 ≡ 0 → n < getD limits tag 0 → getD least tag 0 ≤ k → Within atoms limits least e
+      within blank below kept =
+          record { blank = blank; below = rw (is-tag, is-value) at below; kept = rw (is-kind, is-tag, is-value) at kept }
