@@ -1,28 +1,25 @@
 -- Laws of the flags that are handed from one rule to the next, and serve again where its part is the same. Assumes nothing.
 use mathlib.Core.Path.{_≡_, refl, sym, ap, subst, _∙_}
-use mathlib.Core.Bool.{Bool, true, false≢true}
-use mathlib.Core.List.{List, [], _∷_}
-use Prim.Native.Nat.{ℕ, zero, suc, _+_, _-_, _<_, _≤_}
+use mathlib.Core.Bool.{Bool, true, false}
+use mathlib.Core.List.{List}
+use Prim.Native.Nat.{ℕ, _+_, _-_, _<_}
 use native.Mathlib.Omega.{arith}
 use lib.Dec.{eqb}
-use borrow.Author.Tests.{eqb-true}
-use lib.ListN.{length, getD, replicate}
+use borrow.Author.Tests.{eqb-true, eqb-false}
+use lib.ListN.{length}
 use Rattle.blocks.specs.Block.{blockAt, kindOf, Fitting}
+use Rattle.terms.specs.Solve.{Says}
 use Rattle.judge.specs.File.{blockCount}
 use Rattle.judge.specs.Laid.{Laid}
 use Rattle.judge.specs.CoverEntries.{AfterRule, Before}
 
--- Lists of one length with the same entries are one list.
-pub same-lists : (xs ys : List ℕ) → length xs ≡ length ys → ((k : ℕ) → k < length xs → getD xs k 0 ≡ getD ys k 0) → xs ≡ ys
-same-lists [] [] long each = refl
-same-lists [] (y ∷ ys) long each = absurd (omega arith)
-same-lists (x ∷ xs) [] long each = absurd (omega arith)
-same-lists (x ∷ xs) (y ∷ ys) long each =
-    cc (each 0 (omega arith), same-lists xs ys (omega arith) (λ k inside. each (suc k) (omega arith)))
-
 -- The block before block i, as the code finds it.
-pub rule-before : {file : List ℕ} {i k : ℕ} {b : List ℕ} → (i ≡ 0 → ⊥) → b ≡ blockAt file (i - 1) → k ≡ kindOf b → eqb k 5 ≡ true → AfterRule file i
-rule-before {k = k} some-block same kind told = record { behind = omega arith; rule = ap kindOf (sym same) ∙ sym kind ∙ eqb-true k 5 told }
+pub rule-before : (file : List ℕ) (i : ℕ) → (i ≡ 0 → ⊥) → {k : ℕ} {b : List ℕ} → b ≡ blockAt file (i - 1) → k ≡ kindOf b → Says (eqb k 5) (AfterRule file i)
+rule-before file i some-block {k} same kind = go (eqb k 5) refl
+  where
+    go : (t : Bool) → eqb k 5 ≡ t → Says t (AfterRule file i)
+    go true q = record { behind = omega arith; rule = ap kindOf (sym same) ∙ sym kind ∙ eqb-true k 5 q }
+    go false q = λ after. eqb-false k 5 q (kind ∙ ap kindOf same ∙ after .rule)
 
 pub fitting-before : {file : List ℕ} {i : ℕ} {b : List ℕ} → Laid file → i < blockCount file → AfterRule file i → b ≡ blockAt file (i - 1) → Fitting b
 fitting-before {i = i} laid inside after same = rw same (laid .rules (i - 1) (omega (arith, after .behind)) (after .rule) .fitting)

@@ -2,17 +2,16 @@
 -- rising, premise before conclusion); then 4; then 9, 10, 11, 12, each over all blocks in file order". `none` is: no
 -- fault here.
 use mathlib.Core.Bool.{Bool, true, false, _&&_}
-use mathlib.Core.List.{List, []}
+use mathlib.Core.List.{List}
 use mathlib.Core.Option.{Option, none, some}
-use Prim.Native.Nat.{ℕ, zero, suc, _+_, _*_, _%_}
+use Prim.Native.Nat.{ℕ, zero, suc, _+_, _%_}
 use lib.Dec.{eqb, leb}
-use lib.ListN.{length, take, getD}
-use Rattle.blocks.specs.Block.{blockAt, kindOf, firstCount, secondCount, entriesOf, firstEntries, secondEntries}
+use lib.ListN.{length}
+use Rattle.blocks.specs.Block.{blockAt, kindOf, firstCount, entriesOf, firstEntries, secondEntries}
 use Rattle.blocks.specs.Check.{checkRight, checkA, checkB, total, weighted}
 use Rattle.blocks.specs.Layout.{within, layoutRight, countsRight, zeroFrom, allZero}
 use Rattle.terms.specs.declared.valid.Found.{Found}
 use Rattle.terms.specs.declared.valid.Found.the-variants.{At, Nothing}
-use Rattle.terms.specs.Term.{Term, Variable}
 use Rattle.terms.specs.Entry.{termOf, size}
 use Rattle.terms.specs.Atom.{Atom, atomsOf, wrongAtom}
 use Rattle.terms.specs.TermEntry.{wrongEntry}

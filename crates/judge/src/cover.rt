@@ -1,7 +1,7 @@
 // Number 12, on the entries of a rule: entry k stands at the k-th place, and the subterm there is the part from it on.
 ghost use mathlib.Core.Path.{_≡_};
-ghost use Prim.Native.Nat.{ℕ, _*_, _<_, _≤_};
-ghost use lib.ListN.{length, getD};
+ghost use Prim.Native.Nat.{_*_, _<_, _≤_};
+ghost use lib.ListN.{length};
 ghost use Rattle.blocks.specs.Block.{firstEntries, secondEntries};
 ghost use Rattle.terms.specs.Entry.{Begins, termOf, size};
 ghost use Rattle.terms.specs.Instance.{Matches};
@@ -12,7 +12,7 @@ ghost use Rattle.judge.specs.Laid.{Laid, RuleBlock};
 ghost use Rattle.judge.specs.Cover.{NoHat, Risky};
 ghost use Rattle.judge.specs.Verdict as verdicts;
 ghost use Rattle.judge.specs.Listed.{HoldsAt, AnyListed, Searching, IsSecret, RootsOf};
-ghost use Rattle.judge.specs.CoverEntries.{subAt, Painted, Raised, MarkOver, Laying, Standing, HatOver, HatBelow, Flags};
+ghost use Rattle.judge.specs.CoverEntries.{subAt, Painted, Raised, MarkOver, Laying, Standing, HatOver, Flags};
 ghost use Rattle.judge.specs.CoverEntries.{HatFlags, Entries, OpenBelow, OpenFlags, Opened, OpenWith, SomeOpen, ClosedBelow, FineEntry, Judging};
 use crate::listed;
 use terms::entry;
@@ -278,7 +278,7 @@ fn first_uncovered(
 }
 
 // The first place of a rule's conclusion that is risky and not covered; nothing where the rule is dead. The roots of the
-// secrets are flagged once for all rules.
+// secrets, the premise's open places and the conclusion's sure hats come flagged.
 pub fn uncovered(
     file: &[u8],
     roots: &[u8; 384],

@@ -1,8 +1,8 @@
 // The verdict of a file: numbers 1 to 12 in document 01's order.
 ghost use mathlib.Core.Path.{_≡_};
-ghost use mathlib.Core.Bool.{true};
 ghost use Prim.Native.Nat.{_+_, _<_};
 ghost use Rattle.blocks.specs.Block.{firstEntries, secondEntries};
+ghost use Rattle.terms.specs.Solve.{Says};
 ghost use Rattle.judge.specs.File.{blockCount, certificateOf};
 ghost use Rattle.judge.specs.Laid.{Laid};
 ghost use Rattle.judge.specs.Judgement.{judgedOf, OnlyRulesFrom, Heads};
@@ -17,7 +17,7 @@ use crate::verdict::Fault;
 use crate::verdict::Verdict;
 use terms::valid::Found;
 
-// How many blocks stand before the rules at the file's end: they list all secrets and patterns.
+// So many blocks that only rules stand behind them: they list all secrets and patterns.
 fn leading(file: &[u8]) -> usize
     requires { ⌜ Laid (now file) ⌝ }
     ensures { λ r. ⌜ OnlyRulesFrom (now (file .entry)) r ⌝ }
@@ -34,7 +34,7 @@ fn leading(file: &[u8]) -> usize
 
 // Do both have the same bytes?
 fn same_bytes(a: &[u8], b: &[u8]) -> bool
-    ensures { λ r. ⌜ (r ≡ true → now (a .entry) ≡ now (b .entry)) ⌝ }
+    ensures { λ r. ⌜ Says r (now (a .entry) ≡ now (b .entry)) ⌝ }
 {
     if a.len() != b.len() {
         return false;
@@ -52,7 +52,7 @@ fn same_bytes(a: &[u8], b: &[u8]) -> bool
 // Is the block before block i a rule?
 fn is_after_rule(file: &[u8], i: usize) -> bool
     requires { ⌜ i < blockCount (now file) ⌝ }
-    ensures { λ r. ⌜ (r ≡ true → AfterRule (now (file .entry)) i) ⌝ }
+    ensures { λ r. ⌜ Says r (AfterRule (now (file .entry)) i) ⌝ }
 {
     if i == 0 {
         return false;

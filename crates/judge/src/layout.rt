@@ -2,7 +2,6 @@
 ghost use mathlib.Core.Path.{_≡_};
 ghost use mathlib.Core.Bool.{true};
 ghost use Prim.Native.Nat.{_+_, _*_, _<_, _≤_};
-ghost use lib.ListN.{length};
 ghost use Rattle.blocks.specs.Block.{HasBlock, blockAt, Fitting};
 ghost use Rattle.terms.specs.Entry.{Begins};
 ghost use Rattle.terms.specs.Atom.{atomsOf};

@@ -10,7 +10,6 @@ use judge::verdict::Counts;
 use judge::verdict::Fault;
 use judge::verdict::Verdict;
 ghost use mathlib.Core.Path.{_≡_};
-ghost use lib.ListN.{length};
 ghost use Rattle.blocks.specs.Check.{sealing, afterSealing};
 ghost use Rattle.judge.specs.Verdict.{verdictOf};
 ghost use Rattle.judge.specs.Line.{printing, afterPrinting};

@@ -6,10 +6,6 @@ use terms::valid::Found;
 use terms::valid::is_one_term;
 use terms::valid::wrong_entry;
 ghost use mathlib.Core.Path.{_≡_};
-ghost use mathlib.Core.Bool.{true};
-ghost use Prim.Native.Nat.{_≤_};
-ghost use lib.ListN.{length};
-ghost use Rattle.terms.specs.Entry.{Begins};
 ghost use Rattle.term_tests.specs.Asked.{isTerm, yesNumber, shareNumber, matchNumber, sameNumber};
 
 // The bytes are one term of at most 63 entries, over 126 atoms that are all keys, with variables of both kinds.

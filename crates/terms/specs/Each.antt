@@ -1,13 +1,11 @@
 -- What is said of each entry of a block, by its tag, its second byte and its value.
 use mathlib.Core.Path.{_≡_}
 use mathlib.Core.List.{List, [], _∷_}
-use Prim.Native.Nat.{ℕ, zero, suc, _+_, _*_, _-_, _/_, _%_, _<_}
+use Prim.Native.Nat.{ℕ, zero, suc, _+_, _*_, _/_, _%_, _<_}
 use native.Mathlib.Omega.{arith}
 use lib.ListN.{length, getD, take, drop}
 use lib.Seq.{take-nil, drop-nil}
-use borrow.Rule.Slice.PartAt.{part-to-end}
 use Rattle.terms.specs.Entry.{tagAt, valueAt}
-use Rattle.terms.specs.WalkLaws.{from}
 
 -- The bytes are whole entries, and P holds of each.
 pub data Each (P : ℕ → ℕ → ℕ → Type 0) : List ℕ → Type 0 where
@@ -41,13 +39,6 @@ module _ {P : ℕ → ℕ → ℕ → Type 0} where
   each-take zero r = none-left
   each-take (suc n) none-left = rw (take-nil (4 * suc n)) none-left
   each-take (suc n) (one-more p r) = let far : 4 * suc n ≡ suc (suc (suc (suc (4 * n)))) = omega arith in rw far (one-more p (each-take n r))
-
-  -- The entries of a part `&e[4 * m..4 * n]`, and of a part `&e[4 * n..]`.
-  pub each-part : {e : List ℕ} (m n : ℕ) → Each P e → Each P (take (4 * n - 4 * m) (drop (4 * m) e))
-  each-part m n r = let same : 4 * (n - m) ≡ 4 * n - 4 * m = omega arith in rw same at (each-take (n - m) (each-drop m r))
-
-  pub each-from : {e : List ℕ} (n : ℕ) → Each P e → Each P (from (4 * n) e)
-  each-from n r = rw part-to-end (each-drop n r)
 
   -- What follows of each entry.
   pub each-map : {Q : ℕ → ℕ → ℕ → Type 0} → ((t z v : ℕ) → P t z v → Q t z v) → {e : List ℕ} → Each P e → Each Q e

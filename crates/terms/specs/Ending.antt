@@ -137,7 +137,7 @@ answer-map f w = record { long = w .long; ends = λ e. (f (w .ends e .0), w .end
 
 -- ---- at a class: node i, whose class is named a
 
--- A class that no entry names has no children.
+-- A class whose name is no entry's node: nothing stands below it.
 pub past-ends : (s t c : List ℕ) (i : ℕ) {a : ℕ} → a ≡ nameOf c i → 128 ≤ a → Finite (nodeOf s t) (nameOf c) i
 past-ends s t c i is high =
     finite (λ j child. absurd (subst (Child j) (past-free s t (nameOf c i) (subst (λ (n : ℕ). 128 ≤ n) is high)) child))

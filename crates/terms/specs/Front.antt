@@ -42,6 +42,11 @@ slotOf (atom a) = 16
 slotOf (pair t u) = 16
 slotOf (encrypted k t) = 16
 
+-- One begins with a symbol, and the other with another entry.
+pub record ClashFirst (e f : List ℕ) : Type 0 where
+  pub symbol : 16 ≤ slotOf (termOf e)
+  pub other : ¬ SameFirst e f
+
 -- The variable of a slot.
 abbrev pub inHalf : Bool → ℕ → Variable
 inHalf true i = plain i

@@ -11,17 +11,13 @@ use lib.ListN.{length, getD, List·getD-eq-default}
 use borrow.Rule.Slice.PartAt.{part-to-end}
 use Rattle.terms.specs.Entry.{tagAt, valueAt}
 use Rattle.terms.specs.WalkLaws.{from}
+use Rattle.terms.specs.GraphLaws.{pick}
 use Rattle.terms.specs.Solve.{Says, says-same}
 use Rattle.terms.specs.Decisions.{says-yes, says-no}
 use Rattle.terms.specs.Atom.{Atom, atomsOf, atomAt, kindOf, IsKey, key-kind, kind-key, key-listed, length-atoms}
 use Rattle.terms.specs.TermEntry.{EntryRight, Asked, asked, tagRight}
 use Rattle.terms.specs.Each.{EntryIs}
 use Rattle.terms.specs.ValidLaws.{kind-byte}
-
--- One of two numbers, by a test.
-abbrev pub pick : Bool → ℕ → ℕ → ℕ
-pick true a b = a
-pick false a b = b
 
 -- The kind of an atom, 1 to 5; 0 for no atom and for no kind.
 unfoldable pub listedKind : List Atom → ℕ → ℕ

@@ -1,6 +1,6 @@
 -- Laws of matching by a walk over the pattern's entries left: slots of variables, bindings, and a step for each branch.
 use mathlib.Core.Path.{_≡_, refl, sym, _∙_}
-use mathlib.Core.Bool.{Bool, true, false}
+use mathlib.Core.Bool.{Bool, true, false, not}
 use mathlib.Core.List.{List, _∷_}
 use mathlib.Core.Logic.{_↔_}
 use Prim.Native.Nat.{ℕ, _+_, _*_, _-_, _<_, _≤_}
@@ -18,7 +18,7 @@ use Rattle.terms.specs.EntryLaws.{First, first-atom, first-pair, first-e
 use Rattle.terms.specs.WalkLaws.{from}
 use Rattle.terms.specs.Solve.{Says, says-same}
 use Rattle.terms.specs.Decide.{answer, yes-of, no-of, says-answer, variable?, term?, match?}
-use Rattle.terms.specs.Front.{Front, Takes, slotOf, inSlot, inHalf, Bound, Agrees, SameFirst, Comparable, Bindable, Ready, Made}
+use Rattle.terms.specs.Front.{Front, Takes, slotOf, inSlot, inHalf, Bound, Agrees, SameFirst, ClashFirst, Comparable, Bindable, Ready, Made}
 use Rattle.terms.specs.FrontLaws.{from-from, from-length, front-begins, parted, opened, next, next-term, next-symbol, other-symbol, KeepsFirst}
 use Rattle.terms.specs.FrontLaws.{none-left, front-few, one-term, same-term, same-below, same-step, same-clash}
 
@@ -265,10 +265,15 @@ module _ {p t bound : List ℕ} {at need : ℕ} (r : Ready p t at need bound) (s
     symbol-clash off m = other-symbol need (r .pattern) (r .subject) some-left (m .by) (keeps (m .by)) off (m .takes)
 
 -- A pattern that begins with a symbol matches no term that begins with another entry.
-pub first-clash : {p t : List ℕ} → Begins p → Begins t → {x : ℕ} → x ≡ slotOf (termOf p) → 16 ≤ x → ¬ SameFirst p t → ¬ Matches (termOf p) (termOf t)
-first-clash b d slot high off m =
+pub first-clash : {p t : List ℕ} → Begins p → Begins t → ClashFirst p t → ¬ Matches (termOf p) (termOf t)
+first-clash b d clash m =
     other-symbol 1 (front-few b (omega arith)) (front-few d (omega arith)) (omega arith) (m .by)
-    (λ y is. absurd (slot-first b .off-slot (rw slot at high) y is)) off (one-term b d (m .by) .1 (m .same))
+    (λ y is. absurd (slot-first b .off-slot (clash .symbol) y is)) (clash .other) (one-term b d (m .by) .1 (m .same))
+
+-- As the code finds it.
+pub clash-told : {p t : List ℕ} → Begins p → Begins t → {x : ℕ} → x ≡ slotOf (termOf p) → 16 ≤ x → (b : Bool) → Says b (SameFirst p t) → Says (not b) (ClashFirst p t)
+clash-told begins begins′ slot high true same = λ clash. clash .other same
+clash-told begins begins′ slot high false off = record { symbol = rw slot at high; other = off }
 
 -- From the first entry on, with nothing bound: the pattern matches.
 from-none : (e : List ℕ) → from (4 * 0) e ≡ e

@@ -2,7 +2,8 @@
 -- nodes of their own from 128 and from 144. The entry of a variable is found at its variable's node.
 use mathlib.Core.Bool.{Bool, true, false}
 use mathlib.Core.List.{List}
-use Prim.Native.Nat.{ℕ, zero, suc, _+_, _*_, _-_, _%_, _≤_}
+use mathlib.Core.Path.{_≡_}
+use Prim.Native.Nat.{ℕ, zero, suc, _+_, _*_, _-_, _%_, _<_, _≤_}
 use lib.Dec.{ltb}
 use lib.ListN.{length, getD, drop}
 use Rattle.terms.specs.Entry.{termOf, size, Begins}
@@ -79,3 +80,26 @@ pub record TwoTerms (s t : List ℕ) : Type 0 where
   pub right : Begins t
   pub left-short : length s ≤ 252
   pub right-short : length t ≤ 252
+
+-- The size of the term at entry k.
+abbrev pub sizeIn : List ℕ → ℕ → ℕ
+sizeIn e k = size (termOf (drop (4 * k) e))
+
+-- A table of sizes: for entry k, at `base` + k, it has 0 or the size of the term there.
+pub record Sized (e z : List ℕ) (base : ℕ) : Type 0 where
+  pub long : length z ≡ 128
+  pub at : (k : ℕ) → 4 * k < length e → ¬ (getD z (base + k) 0 ≡ 0) → getD z (base + k) 0 ≡ sizeIn e k
+
+-- A table of sizes for both sides, those of the first from 0 and of the second from 64; 0 where it has none.
+pub record Sizes (s t z : List ℕ) : Type 0 where
+  pub left : Sized s z 0
+  pub right : Sized t z 64
+
+-- The table has the sizes of the terms at e's entries from entry `first` on.
+pub record SizedFrom (e z : List ℕ) (base first : ℕ) : Type 0 where
+  pub long : length z ≡ 128
+  pub at : (k : ℕ) → first ≤ k → 4 * (k + 1) ≤ length e → getD z (base + k) 0 ≡ sizeIn e k
+
+-- The first n entries of a table stay as they are.
+pub record KeptBelow (n : ℕ) (old new : List ℕ) : Type 0 where
+  pub same : (k : ℕ) → k < n → getD new k 0 ≡ getD old k 0

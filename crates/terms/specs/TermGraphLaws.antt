@@ -8,15 +8,18 @@ use native.Mathlib.Omega.{arith}
 use native.Mathlib.Nat.{zero-add}
 use lib.Dec.{ltb, eqb}
 use borrow.Author.Tests.{lt-ltb, le-ltb, ltb-true, ltb-false, eq-eqb}
-use lib.ListN.{length, getD, drop, length-drop, List·getD-eq-default}
-use lib.Seq.{drop-drop, getD-drop}
+use lib.ListN.{length, getD, set, drop, replicate, length-drop, length-set, length-replicate, getD-replicate, List·getD-eq-default}
+use lib.Seq.{drop-drop, getD-drop, getD-set-same, getD-set-other}
+use native.Mathlib.Decide.{ℕ-discrete}
 use Rattle.terms.specs.Term.{Term, Message, Variable, variable, atom, pair, encrypted, plain, marked, replace}
 use Rattle.terms.specs.Entry.{termOf, tagAt, valueAt, size, Reads, Begins}
-use Rattle.terms.specs.EntryLaws.{termOf-reads, past, begins, four, suffix, reads-atom, reads-pair, reads-encrypted, reads-plain, reads-marked}
+use Rattle.terms.specs.EntryLaws.{termOf-reads, past, fits, four, suffix, reads-atom, reads-pair, reads-encrypted, reads-plain, reads-marked}
+use Rattle.terms.specs.EntryLaws.{First, first, first-atom, first-pair, first-encrypted, first-plain, first-marked}
 use Rattle.terms.specs.WalkLaws.{from, pair-first, encryption-first}
 use borrow.Rule.Slice.PartAt.{part-to-end}
 use Rattle.terms.specs.Graph.{Node, atomNode, pairNode, encryptionNode, IsSymbol, made, Valid}
 use Rattle.terms.specs.TermGraph.{tagIn, valueIn, homeBy, home, rightIn, nodeBy, nodeTag, nodeValue, firstChild, secondChild, nodeOf, freeTag}
+use Rattle.terms.specs.TermGraph.{sizeIn, Sized, SizedFrom, KeptBelow}
 
 -- The first entry of what is left from entry k on is entry k.
 pub tag-in : (e : List ℕ) (k : ℕ) → tagIn e k ≡ tagAt (drop (4 * k) e)
@@ -209,13 +212,138 @@ encryption-there {e} k b g =
     let whole : Reads (drop (4 * k) e) (encrypted (valueIn e k) (p .content) ∷ p .others) = rw value-in (p .whole) in
     record { content = p .content; others = p .others; is = encryption-in e k whole }
 
--- What the function that finds a pair's right half is given and promises.
-pub right-part : {e : List ℕ} {k : ℕ} → PairThere e k → Begins (from (4 * (k + 1)) e)
-right-part {e} {k} p = rw part-to-end (begins (p .is .left))
+-- The size of the term at entry k, by its tag.
+size-read : {e : List ℕ} {t : Term Variable} {l : List (Term Variable)} → Reads e (t ∷ l) → size (termOf e) ≡ size t
+size-read r = ap size (termOf-reads r)
 
-pub right-found : {e : List ℕ} {k r : ℕ} → PairThere e k → r ≡ size (termOf (from (4 * (k + 1)) e)) → k + 1 + r ≡ rightIn e k
+pub pair-size : {e : List ℕ} (k : ℕ) → Begins e → tagIn e k ≡ 2 → sizeIn e k ≡ 1 + (sizeIn e (k + 1) + sizeIn e (rightIn e k))
+unfolding size
+pair-size {e} k b g =
+    let p = pair-first (suffix k b (tag-inside e k g)) (sym (tag-in e k) ∙ g) in
+    let q = pair-in e k (p .whole) in
+    size-read (p .whole) ∙ sym (ap₂ (λ (x y : ℕ). 1 + (x + y)) (size-read (q .left)) (size-read (q .right)))
+
+pub encryption-size : {e : List ℕ} (k : ℕ) → Begins e → tagIn e k ≡ 3 → sizeIn e k ≡ 1 + sizeIn e (k + 1)
+unfolding size
+encryption-size {e} k b g =
+    let p = encryption-first (suffix k b (tag-inside e k g)) (sym (tag-in e k) ∙ g) in
+    let q = encryption-in e k (p .whole) in
+    size-read (p .whole) ∙ sym (ap (λ (x : ℕ). 1 + x) (size-read (q .content)))
+
+pub leaf-size : {e : List ℕ} (k : ℕ) → Begins e → 4 * k < length e → (tagIn e k ≡ 2 → ⊥) → (tagIn e k ≡ 3 → ⊥) → sizeIn e k ≡ 1
+unfolding size
+leaf-size {e} k b inside no-pair no-encryption = let there = suffix k b inside in go there (first (there .reads))
+  where
+    tag : {n : ℕ} → tagAt (drop (4 * k) e) ≡ n → tagIn e k ≡ n
+    tag g = tag-in e k ∙ g
+
+    go : (there : Begins (drop (4 * k) e)) → First (tagAt (drop (4 * k) e)) (valueAt (drop (4 * k) e)) (drop 4 (drop (4 * k) e)) (there .term ∷ there .others)
+        → sizeIn e k ≡ 1
+    go there (first-atom g q r) = size-read (there .reads) ∙ (cc)
+    go there (first-pair g n q r) = absurd (no-pair (tag g))
+    go there (first-encrypted g q r) = absurd (no-encryption (tag g))
+    go there (first-plain g n q r) = size-read (there .reads) ∙ (cc)
+    go there (first-marked g n q r) = size-read (there .reads) ∙ (cc)
+
+-- Where an entry begins, all of it is there.
+pub whole-entry : {e : List ℕ} (k : ℕ) → Begins e → 4 * k < length e → 4 * (k + 1) ≤ length e
+whole-entry {e} k b inside = omega (arith, four (suffix k b inside .reads), length-drop (4 * k) e)
+
+-- A term ends within the entries.
+pub size-fits : {e : List ℕ} (k : ℕ) → Begins e → 4 * k < length e → 4 * (k + sizeIn e k) ≤ length e
+size-fits {e} k b inside =
+    let there = suffix k b inside in
+    let room = fits (there .term) (there .reads) in
+    omega (arith, size-read (there .reads), length-drop (4 * k) e)
+
+-- The size, as a walk finds it.
+pub size-walked : (e : List ℕ) (k : ℕ) {r : ℕ} → r ≡ size (termOf (from (4 * k) e)) → r ≡ sizeIn e k
+size-walked e k is = is ∙ ap (λ (l : List ℕ). size (termOf l)) (part-to-end e (4 * k))
+
+pub part-begins : {e : List ℕ} (k : ℕ) → Begins e → 4 * k < length e → Begins (from (4 * k) e)
+part-begins k b inside = rw part-to-end (suffix k b inside)
+
+-- A table of zeros, and one that is filled in.
+pub sized-zero : {e : List ℕ} {base : ℕ} → length e ≤ 252 → base ≤ 64 → Sized e (replicate 128 0) base
+sized-zero {base = base} short low = record {
+  long = length-replicate {A = ℕ} 128 0;
+  at = λ k inside some. absurd (some (getD-replicate 128 (base + k) 0 0 (omega arith)));
+}
+
+pub sized-all : {e z : List ℕ} {base : ℕ} → Begins e → SizedFrom e z base 0 → Sized e z base
+sized-all b s = record { long = s .long; at = λ k inside some. s .at k (omega arith) (whole-entry k b inside) }
+
+-- What the table has of the halves of a pair at entry k, where it has the sizes from the next entry on.
+pub record PairSizes (e z : List ℕ) (base k : ℕ) : Type 0 where
+  pub left-inside : base + k + 1 < 128
+  pub left-size : getD z (base + k + 1) 0 ≡ sizeIn e (k + 1)
+  pub right-inside : base + k + 1 + sizeIn e (k + 1) < 128
+  pub right-size : getD z (base + k + 1 + sizeIn e (k + 1)) 0 ≡ sizeIn e (rightIn e k)
+  pub whole : sizeIn e k ≡ 1 + (sizeIn e (k + 1) + sizeIn e (rightIn e k))
+  pub small : sizeIn e k ≤ 63
+
+-- And of the content of an encryption.
+pub record ContentSize (e z : List ℕ) (base k : ℕ) : Type 0 where
+  pub inside : base + k + 1 < 128
+  pub content-size : getD z (base + k + 1) 0 ≡ sizeIn e (k + 1)
+  pub whole : sizeIn e k ≡ 1 + sizeIn e (k + 1)
+  pub small : sizeIn e k ≤ 63
+
+module _ {e z : List ℕ} {base : ℕ} (k : ℕ) (b : Begins e) (short : length e ≤ 252) (low : base ≤ 64) (sized : SizedFrom e z base (k + 1)) where
+  next-size : 4 * (k + 1) < length e → getD z (base + k + 1) 0 ≡ sizeIn e (k + 1)
+  next-size fit =
+      let there : base + (k + 1) ≡ base + k + 1 = omega arith in
+      ap (λ (n : ℕ). getD z n 0) (sym there) ∙ sized .at (k + 1) (omega arith) (whole-entry (k + 1) b fit)
+
+  pub pair-sizes : tagIn e k ≡ 2 → PairSizes e z base k
+  unfolding rightIn
+  pair-sizes two =
+      let p = pair-there k b two .is in
+      let room = size-fits k b (tag-inside e k two) in
+      let there : base + rightIn e k ≡ base + k + 1 + sizeIn e (k + 1) = omega arith in
+      record {
+        left-inside = omega (arith, p .left-fits);
+        left-size = next-size (p .left-fits);
+        right-inside = omega (arith, p .right-fits);
+        right-size = ap (λ (n : ℕ). getD z n 0) (sym there) ∙ sized .at (rightIn e k) (omega (arith, p .after)) (whole-entry (rightIn e k) b (p .right-fits));
+        whole = pair-size k b two;
+        small = omega arith;
+      }
+
+  pub content-size : tagIn e k ≡ 3 → ContentSize e z base k
+  content-size three =
+      let p = encryption-there k b three .is in
+      let room = size-fits k b (tag-inside e k three) in
+      record {
+        inside = omega (arith, p .content-fits);
+        content-size = next-size (p .content-fits);
+        whole = encryption-size k b three;
+        small = omega arith;
+      }
+
+-- The table before the last entry, and with one more.
+pub sized-none : {e z : List ℕ} (base : ℕ) {first : ℕ} → length z ≡ 128 → length e < 4 * (first + 1) → SizedFrom e z base first
+sized-none base long last = record { long = long; at = λ k low fit. absurd (omega arith) }
+
+pub sized-more : {e z : List ℕ} {base k r : ℕ} → SizedFrom e z base (k + 1) → base + k < length z → r ≡ sizeIn e k → SizedFrom e (set z (base + k) r) base k
+sized-more {e} {z} {base} {k} {r} s inside is = record {
+  long = simp length-set (s .long);
+  at = λ n low fit. elim (ℕ-discrete n k) [
+    | yes same ↦ rw same (getD-set-same z (base + k) r 0 inside ∙ is)
+    | no off ↦ getD-set-other z (base + k) (base + n) r 0 (λ e. off (omega arith)) ∙ s .at n (omega arith) fit
+  ];
+}
+
+pub kept-more : {n j : ℕ} {old z : List ℕ} (r : ℕ) → KeptBelow n old z → n ≤ j → KeptBelow n old (set z j r)
+kept-more {n} {j} {old} {z} r k far = record { same = λ i low. getD-set-other z j i r 0 (omega arith) ∙ k .same i low }
+
+pub sized-kept : {e z new : List ℕ} {n : ℕ} → SizedFrom e z 0 0 → length e ≤ 4 * n → KeptBelow n z new → length new ≡ 128 → SizedFrom e new 0 0
+sized-kept {n = n} s short k long = record { long = long; at = λ i low fit. k .same (0 + i) (omega arith) ∙ s .at i low fit }
+
+-- The right half of a pair stands behind the left one.
+pub right-found : {e : List ℕ} (k : ℕ) → PairThere e k → {r : ℕ} → r ≡ sizeIn e (k + 1) → k + 1 + r ≡ rightIn e k
 unfolding rightIn
-right-found {e} {k} {r} p q = ap (λ (n : ℕ). k + 1 + n) (q ∙ ap (λ (l : List ℕ). size (termOf l)) (part-to-end e (4 * (k + 1))))
+right-found k p is = ap (λ (n : ℕ). k + 1 + n) is
 
 -- The node of an entry, by its tag.
 module _ (e : List ℕ) (base slots k : ℕ) where

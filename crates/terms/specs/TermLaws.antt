@@ -26,7 +26,7 @@ use Rattle.terms.specs.TermEntry.{wrongEntry}
 use Rattle.terms.specs.Each.{Each, none-left, one-more, each-of, each-map}
 use Rattle.terms.specs.OneTerm.{Numbered, OneTerm, HasSymbol, AllOf, one-reads, reads-one}
 
--- Nothing found: each entry is right. By `each-part` and `each-from`, so is each of a part.
+-- Nothing found: each entry is right.
 pub right-each : (atoms : List Atom) (kind : ℕ) (e : List ℕ) → length e % 4 ≡ 0
     → wrongEntry atoms kind e ≡ Nothing → Each (EntryRight atoms kind) e
 unfolding wrongEntry

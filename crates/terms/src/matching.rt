@@ -2,13 +2,11 @@
 ghost use mathlib.Core.Path.{_≡_};
 ghost use Prim.Native.Nat.{_<_, _≤_};
 ghost use lib.ListN.{length, set};
-ghost use mathlib.Core.Bool.{true};
 ghost use Rattle.terms.specs.Term.{variable};
-ghost use Rattle.terms.specs.Instance.{Matches};
 ghost use Rattle.terms.specs.Entry.{Begins, termOf};
 ghost use Rattle.terms.specs.Solve.{Says};
 ghost use Rattle.terms.specs.Decide.{answer, variable?, term?, match?};
-ghost use Rattle.terms.specs.Front.{slotOf, SameFirst, Comparable, Bindable, Front, Takes, Ready, Made};
+ghost use Rattle.terms.specs.Front.{slotOf, SameFirst, ClashFirst, Comparable, Bindable, Front, Takes, Ready, Made};
 use super::entry;
 
 // Do both begin with the same entry?
@@ -111,10 +109,10 @@ fn match_front(p: &[u8], t: &[u8], at: usize, need: usize, bound: [u8; 16]) -> b
     }
 }
 
-// Do the first entries rule out that p's term becomes t's: a symbol against another entry?
+// Does p begin with a symbol, and t with another entry?
 fn clash_first(p: &[u8], t: &[u8]) -> bool
     requires { ⌜ Begins (now p) × Begins (now t) ⌝ }
-    ensures { λ r. ⌜ (r ≡ true → Matches (termOf (now (p .entry))) (termOf (now (t .entry))) → ⊥) ⌝ }
+    ensures { λ r. ⌜ Says r (ClashFirst (now (p .entry)) (now (t .entry))) ⌝ }
 {
     if slot(p) < 16 {
         false

@@ -44,12 +44,66 @@ pub fn home(e: &[u8], k: usize, base: usize, slots: usize) -> usize
     base + k
 }
 
+// The size of the term at entry k: from the table, whose entry for it stands at `base` + k, or walked where that is 0.
+fn size_of(e: &[u8], z: &[u8; 128], base: usize, k: usize) -> usize
+    requires { ⌜ Begins (now e) × (length (now e) ≤ 252) × (base ≤ 64) × (4 * k < length (now e)) × graph.Sized (now e) (now z) base ⌝ }
+    ensures { λ r. ⌜ (r ≡ graph.sizeIn (now (e .entry)) k) × (4 * (k + r) ≤ length (now (e .entry))) ⌝ }
+{
+    let n = wide(z[base + k]);
+    if n == 0 {
+        return term_size(&e[4 * k..]);
+    }
+    n
+}
+
+// The size of the term at entry k, by those of the entries behind it; the table has them from node `base` on.
+fn size_by_children(e: &[u8], z: &[u8; 128], base: usize, k: usize) -> u8
+    requires { ⌜ Begins (now e) × (length (now e) ≤ 252) × (base ≤ 64) × (4 * k < length (now e)) × graph.SizedFrom (now e) (now z) base (k + 1) ⌝ }
+    ensures { λ r. ⌜ r ≡ graph.sizeIn (now (e .entry)) k ⌝ }
+{
+    let tag = byte_at(e, 4 * k);
+    if tag == 2 {
+        let left = wide(z[base + k + 1]);
+        (1 + left + wide(z[base + k + 1 + left])) as u8
+    } else if tag == 3 {
+        (1 + wide(z[base + k + 1])) as u8
+    } else {
+        1
+    }
+}
+
+// Fills in the sizes of the terms at e's entries, the last first, from node `base` on.
+fn fill_sizes(e: &[u8], z: &mut [u8; 128], base: usize)
+    requires { ⌜ Begins (now e) × (length (now e) ≤ 252) × (base ≤ 64) × (length (now z) ≡ 128) ⌝ }
+    ensures { λ _. ⌜ graph.SizedFrom (now (e .entry)) (now (z .exit)) base 0 × graph.KeptBelow base (now (z .entry)) (now (z .exit)) ⌝ }
+{
+    let mut left = e.len() / 4;
+    while 0 < left {
+        left -= 1;
+        z[base + left] = size_by_children(e, z, base, left);
+    }
+}
+
+// The sizes of the terms at the entries of both sides, so that the right half of a pair is found at once. A size of 0 says
+// that it is not in the table and is walked for: with at most 20 entries in s none is filled in, as walking is as fast.
+pub fn sizes(s: &[u8], t: &[u8]) -> [u8; 128]
+    requires { ⌜ graph.TwoTerms (now s) (now t) ⌝ }
+    ensures { λ r. ⌜ graph.Sizes (now (s .entry)) (now (t .entry)) r ⌝ }
+{
+    let mut z = [0u8; 128];
+    if 80 < s.len() {
+        fill_sizes(s, &mut z, 0);
+        fill_sizes(t, &mut z, 64);
+    }
+    z
+}
+
 // The entry of the right half of a pair at entry k.
-pub fn right_in(e: &[u8], k: usize) -> usize
-    requires { ⌜ Begins (now e) × (length (now e) ≤ 252) × (graph.tagIn (now e) k ≡ 2) ⌝ }
+pub fn right_in(e: &[u8], z: &[u8; 128], base: usize, k: usize) -> usize
+    requires { ⌜ Begins (now e) × (length (now e) ≤ 252) × (graph.tagIn (now e) k ≡ 2) × (base ≤ 64) × graph.Sized (now e) (now z) base ⌝ }
     ensures { λ r. ⌜ (r ≡ graph.rightIn (now (e .entry)) k) × (4 * r < length (now (e .entry))) × (k < r) ⌝ }
 {
-    k + 1 + term_size(&e[4 * (k + 1)..])
+    k + 1 + size_of(e, z, base, k + 1)
 }
 
 pub fn node_tag(s: &[u8], t: &[u8], i: usize) -> usize
@@ -91,15 +145,15 @@ pub fn first_child(s: &[u8], t: &[u8], i: usize) -> usize
     }
 }
 
-// The node of a pair's second child.
-pub fn second_child(s: &[u8], t: &[u8], i: usize) -> usize
-    requires { ⌜ Begins (now s) × (length (now s) ≤ 252) × Begins (now t) × (length (now t) ≤ 252) × (graph.nodeTag (now s) (now t) i ≡ 2) ⌝ }
+// The node of a pair's second child, by the table of sizes.
+pub fn second_child(s: &[u8], t: &[u8], z: &[u8; 128], i: usize) -> usize
+    requires { ⌜ graph.TwoTerms (now s) (now t) × (graph.nodeTag (now s) (now t) i ≡ 2) × graph.Sizes (now s) (now t) (now z) ⌝ }
     ensures { λ r. ⌜ (r ≡ graph.secondChild (now (s .entry)) (now (t .entry)) i) × (r < 160) ⌝ }
 {
     if i < 64 {
-        home(s, right_in(s, i), 0, 128)
+        home(s, right_in(s, z, 0, i), 0, 128)
     } else if i < 128 {
-        home(t, right_in(t, i - 64), 64, 144)
+        home(t, right_in(t, z, 64, i - 64), 64, 144)
     } else {
         0
     }

@@ -1,5 +1,6 @@
 // Shared instances: two terms are walked side by side; where a variable is met, classes of nodes that must get equal
-// messages are united; at the end every way down over the classes must come to an end.
+// messages are united; at the end every way down over the classes must come to an end. `z` is the table of sizes
+// (`node::sizes`).
 use crate::ending::is_finite;
 use crate::entry::value;
 use crate::matching::matches;
@@ -10,6 +11,7 @@ use crate::node::node_tag;
 use crate::node::node_value;
 use crate::node::right_in;
 use crate::node::second_child;
+use crate::node::sizes;
 use crate::node::value_in;
 use crate::node::wide;
 ghost use mathlib.Core.Path.{_≡_};
@@ -105,8 +107,8 @@ fn meeting(s: &[u8], t: &[u8], a: usize, b: usize) -> How
 
 // Makes the classes of the nodes i and j one, and with them those of their children: the closure step. It falls by the
 // number of classes.
-fn unite(s: &[u8], t: &[u8], c: &mut [u8; 256], i: usize, j: usize) -> bool
-    requires { ⌜ TwoTerms (now s) (now t) × (length (now c) ≡ 256) × (i < 256) × (j < 256) × Classes (nodeOf (now s) (now t)) (nameOf (now c)) ⌝ }
+fn unite(s: &[u8], t: &[u8], c: &mut [u8; 256], z: &[u8; 128], i: usize, j: usize) -> bool
+    requires { ⌜ TwoTerms (now s) (now t) × (length (now c) ≡ 256) × (i < 256) × (j < 256) × Classes (nodeOf (now s) (now t)) (nameOf (now c)) × graph.Sizes (now s) (now t) (now z) ⌝ }
     ensures { λ r. ⌜ (length (now (c .exit)) ≡ 256) × (classCount (now (c .exit)) ≤ classCount (now (c .entry)))
         × Outcome (nodeOf (now (s .entry)) (now (t .entry))) Any (nameOf (now (c .entry))) (nameOf (now (c .exit))) (λ v. v i ≡ v j) r ⌝ }
 {
@@ -132,36 +134,43 @@ fn unite(s: &[u8], t: &[u8], c: &mut [u8; 256], i: usize, j: usize) -> bool
         }
         How::Encryptions => {
             relabel(c, a, b);
-            unite_contents(s, t, c, wide(a), wide(b))
+            unite_contents(s, t, c, z, wide(a), wide(b))
         }
         How::Pairs => {
             relabel(c, a, b);
-            unite_halves(s, t, c, wide(a), wide(b))
+            unite_halves(s, t, c, z, wide(a), wide(b))
         }
     }
 }
 
 // What two encryptions hold.
-fn unite_contents(s: &[u8], t: &[u8], c: &mut [u8; 256], i: usize, j: usize) -> bool
-    requires { ⌜ TwoTerms (now s) (now t) × (length (now c) ≡ 256) × Classes (nodeOf (now s) (now t)) (nameOf (now c)) ⌝ }
+fn unite_contents(s: &[u8], t: &[u8], c: &mut [u8; 256], z: &[u8; 128], i: usize, j: usize) -> bool
+    requires { ⌜ TwoTerms (now s) (now t) × (length (now c) ≡ 256) × Classes (nodeOf (now s) (now t)) (nameOf (now c)) × graph.Sizes (now s) (now t) (now z) ⌝ }
     ensures { λ r. ⌜ (length (now (c .exit)) ≡ 256) × (classCount (now (c .exit)) ≤ classCount (now (c .entry)))
         × Outcome (nodeOf (now (s .entry)) (now (t .entry))) Any (nameOf (now (c .entry))) (nameOf (now (c .exit)))
         (λ v. v (firstChild (now (s .entry)) (now (t .entry)) i) ≡ v (firstChild (now (s .entry)) (now (t .entry)) j)) r ⌝ }
 {
-    unite(s, t, c, first_child(s, t, i), first_child(s, t, j))
+    unite(s, t, c, z, first_child(s, t, i), first_child(s, t, j))
 }
 
 // The halves of two pairs.
-fn unite_halves(s: &[u8], t: &[u8], c: &mut [u8; 256], i: usize, j: usize) -> bool
+fn unite_halves(s: &[u8], t: &[u8], c: &mut [u8; 256], z: &[u8; 128], i: usize, j: usize) -> bool
     requires { ⌜ TwoTerms (now s) (now t) × (length (now c) ≡ 256) × Classes (nodeOf (now s) (now t)) (nameOf (now c))
-        × (nodeTag (now s) (now t) i ≡ 2) × (nodeTag (now s) (now t) j ≡ 2) ⌝ }
+        × (nodeTag (now s) (now t) i ≡ 2) × (nodeTag (now s) (now t) j ≡ 2) × graph.Sizes (now s) (now t) (now z) ⌝ }
     ensures { λ r. ⌜ (length (now (c .exit)) ≡ 256) × (classCount (now (c .exit)) ≤ classCount (now (c .entry)))
         × Outcome (nodeOf (now (s .entry)) (now (t .entry))) Any (nameOf (now (c .entry))) (nameOf (now (c .exit)))
         (λ v. (v (firstChild (now (s .entry)) (now (t .entry)) i) ≡ v (firstChild (now (s .entry)) (now (t .entry)) j))
         × (v (secondChild (now (s .entry)) (now (t .entry)) i) ≡ v (secondChild (now (s .entry)) (now (t .entry)) j))) r ⌝ }
 {
-    if unite(s, t, c, first_child(s, t, i), first_child(s, t, j)) {
-        unite(s, t, c, second_child(s, t, i), second_child(s, t, j))
+    if unite(s, t, c, z, first_child(s, t, i), first_child(s, t, j)) {
+        unite(
+            s,
+            t,
+            c,
+            z,
+            second_child(s, t, z, i),
+            second_child(s, t, z, j),
+        )
     } else {
         false
     }
@@ -169,43 +178,43 @@ fn unite_halves(s: &[u8], t: &[u8], c: &mut [u8; 256], i: usize, j: usize) -> bo
 
 // Walks entry i of s and entry j of t side by side, child by child: symbols must be equal, and where a variable stands
 // on either side the two nodes are united.
-fn meet(s: &[u8], t: &[u8], c: &mut [u8; 256], i: usize, j: usize) -> bool
-    requires { ⌜ TwoTerms (now s) (now t) × (length (now c) ≡ 256) × (4 * i < length (now s)) × (4 * j < length (now t)) × Classes (nodeOf (now s) (now t)) (nameOf (now c)) ⌝ }
+fn meet(s: &[u8], t: &[u8], c: &mut [u8; 256], z: &[u8; 128], i: usize, j: usize) -> bool
+    requires { ⌜ TwoTerms (now s) (now t) × (length (now c) ≡ 256) × (4 * i < length (now s)) × (4 * j < length (now t)) × Classes (nodeOf (now s) (now t)) (nameOf (now c)) × graph.Sizes (now s) (now t) (now z) ⌝ }
     ensures { λ r. ⌜ (length (now (c .exit)) ≡ 256) × Outcome (nodeOf (now (s .entry)) (now (t .entry))) (Valid (nodeOf (now (s .entry)) (now (t .entry)))) (nameOf (now (c .entry))) (nameOf (now (c .exit)))
         (λ v. v (graph.home (now (s .entry)) 0 128 i) ≡ v (graph.home (now (t .entry)) 64 144 j)) r ⌝ }
 {
     let p = byte_at(s, 4 * i);
     let q = byte_at(t, 4 * j);
     if 3 < p {
-        return unite(s, t, c, home(s, i, 0, 128), home(t, j, 64, 144));
+        return unite(s, t, c, z, home(s, i, 0, 128), home(t, j, 64, 144));
     }
     if 3 < q {
-        return unite(s, t, c, home(s, i, 0, 128), home(t, j, 64, 144));
+        return unite(s, t, c, z, home(s, i, 0, 128), home(t, j, 64, 144));
     }
     if p != q {
         return false;
     }
     if p == 2 {
-        return meet_halves(s, t, c, i, j);
+        return meet_halves(s, t, c, z, i, j);
     }
     if value_in(s, i) != value_in(t, j) {
         return false;
     }
     if p == 3 {
-        return meet(s, t, c, i + 1, j + 1);
+        return meet(s, t, c, z, i + 1, j + 1);
     }
     true
 }
 
 // The halves of two pairs.
-fn meet_halves(s: &[u8], t: &[u8], c: &mut [u8; 256], i: usize, j: usize) -> bool
-    requires { ⌜ TwoTerms (now s) (now t) × (length (now c) ≡ 256) × (graph.tagIn (now s) i ≡ 2) × (graph.tagIn (now t) j ≡ 2) × Classes (nodeOf (now s) (now t)) (nameOf (now c)) ⌝ }
+fn meet_halves(s: &[u8], t: &[u8], c: &mut [u8; 256], z: &[u8; 128], i: usize, j: usize) -> bool
+    requires { ⌜ TwoTerms (now s) (now t) × (length (now c) ≡ 256) × (graph.tagIn (now s) i ≡ 2) × (graph.tagIn (now t) j ≡ 2) × Classes (nodeOf (now s) (now t)) (nameOf (now c)) × graph.Sizes (now s) (now t) (now z) ⌝ }
     ensures { λ r. ⌜ (length (now (c .exit)) ≡ 256) × Outcome (nodeOf (now (s .entry)) (now (t .entry))) (Valid (nodeOf (now (s .entry)) (now (t .entry)))) (nameOf (now (c .entry))) (nameOf (now (c .exit)))
         (λ v. (v (graph.home (now (s .entry)) 0 128 (i + 1)) ≡ v (graph.home (now (t .entry)) 64 144 (j + 1)))
         × (v (graph.home (now (s .entry)) 0 128 (graph.rightIn (now (s .entry)) i)) ≡ v (graph.home (now (t .entry)) 64 144 (graph.rightIn (now (t .entry)) j)))) r ⌝ }
 {
-    if meet(s, t, c, i + 1, j + 1) {
-        meet(s, t, c, right_in(s, i), right_in(t, j))
+    if meet(s, t, c, z, i + 1, j + 1) {
+        meet(s, t, c, z, right_in(s, z, 0, i), right_in(t, z, 64, j))
     } else {
         false
     }
@@ -233,9 +242,10 @@ fn shares_by_classes(s: &[u8], t: &[u8]) -> bool
     requires { ⌜ TwoTerms (now s) (now t) ⌝ }
     ensures { λ r. ⌜ r ≡ answer (share? variable? variable? (termOf (now (s .entry))) (termOf (now (t .entry)))) ⌝ }
 {
+    let z = sizes(s, t);
     let mut c = alone();
-    if meet(s, t, &mut c, 0, 0) {
-        is_finite(s, t, &c)
+    if meet(s, t, &mut c, &z, 0, 0) {
+        is_finite(s, t, &c, &z)
     } else {
         false
     }

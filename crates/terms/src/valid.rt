@@ -106,7 +106,7 @@ fn marked_limit(kind: u8) -> usize
     if kind == 3 { 8 } else { 0 }
 }
 
-// For each tag, what the values of its entries are below.
+// For each tag, the limit that the values of its entries stay below.
 fn limits(kind: u8, count: usize) -> [usize; 6]
     ensures { λ r. ⌜ r ≡ limitsOf kind count ⌝ }
 {

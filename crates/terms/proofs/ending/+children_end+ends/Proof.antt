@@ -23,29 +23,29 @@ use Rattle.terms.proofs.node.wide.Reads as wide-reads
 use Rattle.terms.proofs.ending.+children_end+ends.{statement}
 use Rattle.terms.proofs.ending.+children_end+ends.Tie.{close}
 
-abbrev μ-children-end : Measures 4 children-end-kinds.ps ℕ
+abbrev μ-children-end : Measures 5 children-end-kinds.ps ℕ
 μ-children-end κs a = 2 * zeros (a .1 .1 .1 .0 .now) + 1
 
-abbrev μ-ends : Measures 4 ends-kinds.ps ℕ
+abbrev μ-ends : Measures 5 ends-kinds.ps ℕ
 μ-ends κs a = 2 * zeros (a .1 .1 .1 .0 .now)
 
-abbrev children-end-at : ℕ → In 4 children-end-kinds.ps
+abbrev children-end-at : ℕ → In 5 children-end-kinds.ps
 children-end-at t =
-    and 4 children-end-kinds.ps (is 4 children-end-kinds.ps μ-children-end t) children-end.Pre
+    and 5 children-end-kinds.ps (is 5 children-end-kinds.ps μ-children-end t) children-end.Pre
 
-abbrev children-end-below : ℕ → In 4 children-end-kinds.ps
+abbrev children-end-below : ℕ → In 5 children-end-kinds.ps
 children-end-below t =
     and
-    4
+    5
     children-end-kinds.ps
-    (falls 4 children-end-kinds.ps _<_ μ-children-end t)
+    (falls 5 children-end-kinds.ps _<_ μ-children-end t)
     children-end.Pre
 
-abbrev ends-at : ℕ → In 4 ends-kinds.ps
-ends-at t = and 4 ends-kinds.ps (is 4 ends-kinds.ps μ-ends t) ends.Pre
+abbrev ends-at : ℕ → In 5 ends-kinds.ps
+ends-at t = and 5 ends-kinds.ps (is 5 ends-kinds.ps μ-ends t) ends.Pre
 
-abbrev ends-below : ℕ → In 4 ends-kinds.ps
-ends-below t = and 4 ends-kinds.ps (falls 4 ends-kinds.ps _<_ μ-ends t) ends.Pre
+abbrev ends-below : ℕ → In 5 ends-kinds.ps
+ends-below t = and 5 ends-kinds.ps (falls 5 ends-kinds.ps _<_ μ-ends t) ends.Pre
 
 pub +children-end+ends-spec : {M : Type 1} → statement M
 +children-end+ends-spec =
@@ -72,11 +72,12 @@ pub +children-end+ends-spec : {M : Type 1} → statement M
         omega (arith, c .first-child .ensures .1),
         pre .1 .4,
         first-below two (c .first-child .ensures .0) (pre .1 .5),
+        pre .1 .6,
       ),
     ))  -- children-end-ends-requires
     (λ c κs. let there = c .before .before .before .before .before .before in let pre = there .before .before .before .pre in
     let two = sym (there .node-tag .ensures .0) ∙ c .before .before .before .before .before .if1 .taken in
-    (pre .1 .0 .left, pre .1 .0 .left-short, pre .1 .0 .right, pre .1 .0 .right-short, two))  -- children-end-second-child-requires
+    (pre .1 .0, two, pre .1 .6))  -- children-end-second-child-requires
     (λ c κs. let first = c .before .before .before in let there = first .before .before .before .before in
     let pre = there .before .before .before .pre in
     let two = sym (there .node-tag .ensures .0) ∙ first .before .before .before .if1 .taken in
@@ -89,6 +90,7 @@ pub +children-end+ends-spec : {M : Type 1} → statement M
         omega (arith, c .second-child .ensures .1),
         kept .sound,
         below-kept kept (second-below two (c .second-child .ensures .0) (pre .1 .5)),
+        pre .1 .6,
       ),
     ))  -- children-end-ends-requires-2
     (λ c κs. search needs)  -- children-end-first-child-requires-2
@@ -102,6 +104,7 @@ pub +children-end+ends-spec : {M : Type 1} → statement M
         omega (arith, c .first-child2 .ensures .1),
         pre .1 .4,
         content-below three (c .first-child2 .ensures .0) (pre .1 .5),
+        pre .1 .6,
       ),
     ))  -- children-end-ends-requires-3
     (λ c. let first = c .before .before .before .before in let there = first .before .before .before .before in
@@ -143,6 +146,7 @@ pub +children-end+ends-spec : {M : Type 1} → statement M
         c .before .before .before .before .if1 .left,
         open-sound (omega arith) (pre .1 .4),
         open-below (omega arith) named (pre .1 .5),
+        pre .1 .6,
       ),
     ))  -- ends-children-end-requires
     (λ c. search needs)  -- ends-element-write-marks-2

@@ -18,6 +18,7 @@ is-finite-spec = tie.close (tie.spec
       search needs,
       start-sound _ _ _ (replicate 128 0) (λ a h. getD-replicate 128 a 0 0 h),
       start-below _ _ _ (replicate 128 0) (λ a h. getD-replicate 128 a 0 0 h),
+      pre .3,
     ))  -- side-ends-requires
     (λ c κs. let walk = c .before .before .side-ends in let pre = c .before .before .before .before .before .before .pre in
     let ended = walk .ensures .ends (c .before .if1 .taken) in (
@@ -27,7 +28,8 @@ is-finite-spec = tie.close (tie.spec
       search needs,
       search needs,
       ended .1 .sound,
-      λ i. below-kept (ended .1) (start-below _ _ _ (replicate 128 0) (λ a h. getD-replicate 128 a 0 0 h) i),
+      (λ i. below-kept (ended .1) (start-below _ _ _ (replicate 128 0) (λ a h. getD-replicate 128 a 0 0 h) i)),
+      pre .3,
     ))  -- side-ends-requires-2
     (λ c. let first = c .before .before .before .side-ends in let start = c .before .before .before .before .before .before .before in
     let args = start .args in (

@@ -13,18 +13,18 @@ use Rattle.terms.proofs.ending.side_ends.Statement.{statement}
 use Rattle.terms.proofs.ending.side_ends.Tie as tie
 
 abbrev Inv-loop : tie.InvT-loop
-Inv-loop s t c marks₀ low high left₀ marks left =
+Inv-loop s t c marks₀ z low high left₀ marks left =
     (low ≤ left) × (left ≤ high) × (length marks ≡ 128) × Kept s t c marks₀ marks × EachFrom (Finite (nodeOf s t) (nameOf c)) left high
 
 abbrev μ-loop : tie.MeasureT-loop
-μ-loop s t c marks₀ low high left₀ marks left = left
+μ-loop s t c marks₀ z low high left₀ marks left = left
 
 pub side-ends-spec : {M : Type 1} → statement M
 side-ends-spec = tie.close (tie.spec Inv-loop μ-loop
     (λ c. let pre = c .before .before .pre in (search needs, search needs, pre .2, kept-same (pre .5), each-none _ _))  -- loop-holds
     (λ c. search needs)  -- sub-left
     (λ c κs. let loop = c .before .before .loop in let pre = c .before .before .before .before .before .pre in
-    (pre .0, pre .1, loop .inv .2, search needs, loop .inv .3 .sound, below-kept (loop .inv .3) (pre .6 (loop .left - 1))))  -- ends-requires
+    (pre .0, pre .1, loop .inv .2, search needs, loop .inv .3 .sound, below-kept (loop .inv .3) (pre .6 (loop .left - 1)), pre .7))  -- ends-requires
     (λ c. let walk = c .before .ends in no-way (walk .ensures .long) (walk .ensures .never (not-true (walk .result) (c .if1 .taken))))  -- returns
     (λ c. search needs)  -- loop-less
     (λ c. let walk = c .before .ends in let loop = c .before .before .before .before .loop in

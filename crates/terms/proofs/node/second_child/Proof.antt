@@ -11,11 +11,11 @@ pub second-child-spec : {M : Type 1} → statement M
 unfolding graph.secondChild
 second-child-spec = tie.close (tie.spec
     (λ c κs. let start = c .before .before .before in let args = start .args in let pre = start .pre in
-    (pre .0, pre .1, sym (left-tag (args .s .now) (args .t .now) (c .if1 .taken)) ∙ pre .4))  -- right-in-requires
-    (λ c κs. search needs)  -- home-requires
+    (pre .0 .left, pre .0 .left-short, sym (left-tag (args .s .now) (args .t .now) (c .if1 .taken)) ∙ pre .1, search needs, pre .2 .left))  -- right-in-requires
+    (λ c κs. let short = c .before .before .before .before .pre .0 .left-short in search needs)  -- home-requires
     (λ c κs. let start = c .before .before .before .before in let args = start .args in let pre = start .pre in
-    (pre .2, pre .3, sym (right-tag (args .s .now) (args .t .now) (c .before .if1 .left) (c .if2 .taken)) ∙ pre .4))  -- right-in-requires-2
-    (λ c κs. search needs)  -- home-requires-2
+    (pre .0 .right, pre .0 .right-short, sym (right-tag (args .s .now) (args .t .now) (c .before .if1 .left) (c .if2 .taken)) ∙ pre .1, search needs, pre .2 .right))  -- right-in-requires-2
+    (λ c κs. let short = c .before .before .before .before .before .pre .0 .right-short in search needs)  -- home-requires-2
     (λ c. (rw (lt-ltb _ _ (c .before .before .if1 .taken), ← c .before .right-in .ensures .0) (c .home .ensures .0), c .home .ensures .1))  -- returns
     (λ c. let if1 = c .before .before .before .if1 in (
       rw (le-ltb _ _ (if1 .left), lt-ltb _ _ (c .before .before .if2 .taken), ← c .before .right-in2 .ensures .0) (c .home2 .ensures .0),

@@ -25,25 +25,25 @@ use Rattle.terms.proofs.sharing.unite.Reads as unite-reads
 use Rattle.terms.proofs.sharing.+meet+meet_halves.{statement}
 use Rattle.terms.proofs.sharing.+meet+meet_halves.Tie.{close}
 
-abbrev μ-meet : Measures 3 meet-kinds.ps ℕ
-μ-meet κs a = 2 * (length (a .0 .now) - 4 * a .1 .1 .1 .0) + 1
+abbrev μ-meet : Measures 4 meet-kinds.ps ℕ
+μ-meet κs a = 2 * (length (a .0 .now) - 4 * a .1 .1 .1 .1 .0) + 1
 
-abbrev μ-meet-halves : Measures 3 meet-halves-kinds.ps ℕ
-μ-meet-halves κs a = 2 * (length (a .0 .now) - 4 * a .1 .1 .1 .0)
+abbrev μ-meet-halves : Measures 4 meet-halves-kinds.ps ℕ
+μ-meet-halves κs a = 2 * (length (a .0 .now) - 4 * a .1 .1 .1 .1 .0)
 
-abbrev meet-at : ℕ → In 3 meet-kinds.ps
-meet-at t = and 3 meet-kinds.ps (is 3 meet-kinds.ps μ-meet t) meet.Pre
+abbrev meet-at : ℕ → In 4 meet-kinds.ps
+meet-at t = and 4 meet-kinds.ps (is 4 meet-kinds.ps μ-meet t) meet.Pre
 
-abbrev meet-below : ℕ → In 3 meet-kinds.ps
-meet-below t = and 3 meet-kinds.ps (falls 3 meet-kinds.ps _<_ μ-meet t) meet.Pre
+abbrev meet-below : ℕ → In 4 meet-kinds.ps
+meet-below t = and 4 meet-kinds.ps (falls 4 meet-kinds.ps _<_ μ-meet t) meet.Pre
 
-abbrev meet-halves-at : ℕ → In 3 meet-halves-kinds.ps
+abbrev meet-halves-at : ℕ → In 4 meet-halves-kinds.ps
 meet-halves-at t =
-    and 3 meet-halves-kinds.ps (is 3 meet-halves-kinds.ps μ-meet-halves t) meet-halves.Pre
+    and 4 meet-halves-kinds.ps (is 4 meet-halves-kinds.ps μ-meet-halves t) meet-halves.Pre
 
-abbrev meet-halves-below : ℕ → In 3 meet-halves-kinds.ps
+abbrev meet-halves-below : ℕ → In 4 meet-halves-kinds.ps
 meet-halves-below t =
-    and 3 meet-halves-kinds.ps (falls 3 meet-halves-kinds.ps _<_ μ-meet-halves t) meet-halves.Pre
+    and 4 meet-halves-kinds.ps (falls 4 meet-halves-kinds.ps _<_ μ-meet-halves t) meet-halves.Pre
 
 pub +meet+meet-halves-spec : {M : Type 1} → statement M
 +meet+meet-halves-spec =
@@ -68,12 +68,12 @@ pub +meet+meet-halves-spec : {M : Type 1} → statement M
     (λ c κs. search needs)  -- meet-home-requires
     (λ c κs. search needs)  -- meet-home-requires-2
     (λ c κs. let pre = c .before .before .before .before .before .before .before .before .pre in
-    (pre .1 .0, pre .1 .1, omega (arith, c .before .home .ensures .1), omega (arith, c .home2 .ensures .1), pre .1 .4))  -- meet-unite-requires
+    (pre .1 .0, pre .1 .1, omega (arith, c .before .home .ensures .1), omega (arith, c .home2 .ensures .1), pre .1 .4, pre .1 .5))  -- meet-unite-requires
     (λ c. (c .unite .ensures .0, supposing (moved (c .before .before .home .ensures .0) (c .before .home2 .ensures .0) (c .unite .ensures .2))))  -- meet-returns
     (λ c κs. search needs)  -- meet-home-requires-3
     (λ c κs. search needs)  -- meet-home-requires-4
     (λ c κs. let pre = c .before .before .before .before .before .before .before .before .before .pre in
-    (pre .1 .0, pre .1 .1, omega (arith, c .before .home3 .ensures .1), omega (arith, c .home4 .ensures .1), pre .1 .4))  -- meet-unite-requires-2
+    (pre .1 .0, pre .1 .1, omega (arith, c .before .home3 .ensures .1), omega (arith, c .home4 .ensures .1), pre .1 .4, pre .1 .5))  -- meet-unite-requires-2
     (λ c. (c .unite2 .ensures .0, supposing (moved (c .before .before .home3 .ensures .0) (c .before .home4 .ensures .0) (c .unite2 .ensures .2))))  -- meet-returns-2
     (λ c. let there = c .before in let start = there .before .before .before .before .before .before in let args = start .args in let pre = start .pre in
     let first = there .before .before .before .byte-at .ensures .0 in let second = there .before .before .byte-at2 .ensures .0 in
@@ -83,7 +83,7 @@ pub +meet+meet-halves-spec : {M : Type 1} → statement M
     (λ c κs. let there = c .before .before .before in let start = there .before .before .before .before .before .before in let pre = start .pre in
     let first = there .before .before .before .byte-at .ensures .0 in let second = there .before .before .byte-at2 .ensures .0 in
     let if3 = c .before .before .if3 in let if4 = c .before .if4 in
-    (omega (arith, pre .0), (pre .1 .0, pre .1 .1, sym first ∙ if4 .taken, sym second ∙ sym (if3 .left) ∙ if4 .taken, pre .1 .4)))  -- meet-meet-halves-requires
+    (omega (arith, pre .0), (pre .1 .0, pre .1 .1, sym first ∙ if4 .taken, sym second ∙ sym (if3 .left) ∙ if4 .taken, pre .1 .4, pre .1 .5)))  -- meet-meet-halves-requires
     (λ c. let there = c .before .before .before .before in let start = there .before .before .before .before .before .before in
     let args = start .args in let pre = start .pre in
     let first = there .before .before .before .byte-at .ensures .0 in let second = there .before .before .byte-at2 .ensures .0 in
@@ -113,7 +113,7 @@ pub +meet+meet-halves-spec : {M : Type 1} → statement M
     let if3 = c .before .before .before .before .before .before .if3 in let if6 = c .before .if6 in
     let p = encryption-there (args .i) (pre .1 .0 .left) (sym first ∙ if6 .taken) in
     let q = encryption-there (args .j) (pre .1 .0 .right) (sym second ∙ sym (if3 .left) ∙ if6 .taken) in
-    (omega (arith, pre .0, pre .1 .2), (pre .1 .0, pre .1 .1, p .is .content-fits, q .is .content-fits, pre .1 .4)))  -- meet-meet-requires
+    (omega (arith, pre .0, pre .1 .2), (pre .1 .0, pre .1 .1, p .is .content-fits, q .is .content-fits, pre .1 .4, pre .1 .5)))  -- meet-meet-requires
     (λ c. let there = c .before .before .before .before .before .before .before .before in
     let start = there .before .before .before .before .before .before in let args = start .args in let pre = start .pre in
     let first = there .before .before .before .byte-at .ensures .0 in let second = there .before .before .byte-at2 .ensures .0 in
@@ -146,11 +146,11 @@ pub +meet+meet-halves-spec : {M : Type 1} → statement M
     omega (arith, q .is .left-fits, pre .1 .0 .right-short))  -- meet-halves-add-meet-2
     (λ c κs. let start = c .before .before .before in let args = start .args in let pre = start .pre in
     let p = pair-there (args .i) (pre .1 .0 .left) (pre .1 .2) in let q = pair-there (args .j) (pre .1 .0 .right) (pre .1 .3) in
-    (omega (arith, pre .0, p .is .left-fits), (pre .1 .0, pre .1 .1, p .is .left-fits, q .is .left-fits, pre .1 .4)))  -- meet-halves-meet-requires
+    (omega (arith, pre .0, p .is .left-fits), (pre .1 .0, pre .1 .1, p .is .left-fits, q .is .left-fits, pre .1 .4, pre .1 .5)))  -- meet-halves-meet-requires
     (λ c κs. let pre = c .before .before .before .before .before .before .pre in
-    (pre .1 .0 .left, pre .1 .0 .left-short, pre .1 .2))  -- meet-halves-right-in-requires
+    (pre .1 .0 .left, pre .1 .0 .left-short, pre .1 .2, search needs, pre .1 .5 .left))  -- meet-halves-right-in-requires
     (λ c κs. let pre = c .before .before .before .before .before .before .before .pre in
-    (pre .1 .0 .right, pre .1 .0 .right-short, pre .1 .3))  -- meet-halves-right-in-requires-2
+    (pre .1 .0 .right, pre .1 .0 .right-short, pre .1 .3, search needs, pre .1 .5 .right))  -- meet-halves-right-in-requires-2
     (λ c κs. let pre = c .before .before .before .before .before .before .before .before .pre in
     let the-meet = c .before .before .before .before .meet in let if1 = c .before .before .before .if1 in let right-in = c .before .right-in in (
       omega (arith, pre .0, right-in .ensures),
@@ -160,6 +160,7 @@ pub +meet+meet-halves-spec : {M : Type 1} → statement M
         right-in .ensures .1,
         c .right-in2 .ensures .1,
         the-meet .ensures .1 .stepped (if1 .taken) .classes,
+        pre .1 .5,
       ),
     ))  -- meet-halves-meet-requires-2
     (λ c. let args = c .before .before .before .before .before .before .before .before .before .args in

@@ -28,47 +28,47 @@ use Rattle.terms.proofs.sharing.relabel.Reads as relabel-reads
 use Rattle.terms.proofs.sharing.+unite+unite_contents+unite_halves.{statement}
 use Rattle.terms.proofs.sharing.+unite+unite_contents+unite_halves.Tie.{close}
 
-abbrev μ-unite : Measures 3 unite-kinds.ps ℕ
+abbrev μ-unite : Measures 4 unite-kinds.ps ℕ
 μ-unite κs a = 2 * classCount (a .1 .1 .0 .now)
 
-abbrev μ-unite-contents : Measures 3 unite-contents-kinds.ps ℕ
+abbrev μ-unite-contents : Measures 4 unite-contents-kinds.ps ℕ
 μ-unite-contents κs a = 2 * classCount (a .1 .1 .0 .now) + 1
 
-abbrev μ-unite-halves : Measures 3 unite-halves-kinds.ps ℕ
+abbrev μ-unite-halves : Measures 4 unite-halves-kinds.ps ℕ
 μ-unite-halves κs a = 2 * classCount (a .1 .1 .0 .now) + 1
 
-abbrev unite-at : ℕ → In 3 unite-kinds.ps
-unite-at t = and 3 unite-kinds.ps (is 3 unite-kinds.ps μ-unite t) unite.Pre
+abbrev unite-at : ℕ → In 4 unite-kinds.ps
+unite-at t = and 4 unite-kinds.ps (is 4 unite-kinds.ps μ-unite t) unite.Pre
 
-abbrev unite-below : ℕ → In 3 unite-kinds.ps
-unite-below t = and 3 unite-kinds.ps (falls 3 unite-kinds.ps _<_ μ-unite t) unite.Pre
+abbrev unite-below : ℕ → In 4 unite-kinds.ps
+unite-below t = and 4 unite-kinds.ps (falls 4 unite-kinds.ps _<_ μ-unite t) unite.Pre
 
-abbrev unite-contents-at : ℕ → In 3 unite-contents-kinds.ps
+abbrev unite-contents-at : ℕ → In 4 unite-contents-kinds.ps
 unite-contents-at t =
     and
-    3
+    4
     unite-contents-kinds.ps
-    (is 3 unite-contents-kinds.ps μ-unite-contents t)
+    (is 4 unite-contents-kinds.ps μ-unite-contents t)
     unite-contents.Pre
 
-abbrev unite-contents-below : ℕ → In 3 unite-contents-kinds.ps
+abbrev unite-contents-below : ℕ → In 4 unite-contents-kinds.ps
 unite-contents-below t =
     and
-    3
+    4
     unite-contents-kinds.ps
-    (falls 3 unite-contents-kinds.ps _<_ μ-unite-contents t)
+    (falls 4 unite-contents-kinds.ps _<_ μ-unite-contents t)
     unite-contents.Pre
 
-abbrev unite-halves-at : ℕ → In 3 unite-halves-kinds.ps
+abbrev unite-halves-at : ℕ → In 4 unite-halves-kinds.ps
 unite-halves-at t =
-    and 3 unite-halves-kinds.ps (is 3 unite-halves-kinds.ps μ-unite-halves t) unite-halves.Pre
+    and 4 unite-halves-kinds.ps (is 4 unite-halves-kinds.ps μ-unite-halves t) unite-halves.Pre
 
-abbrev unite-halves-below : ℕ → In 3 unite-halves-kinds.ps
+abbrev unite-halves-below : ℕ → In 4 unite-halves-kinds.ps
 unite-halves-below t =
     and
-    3
+    4
     unite-halves-kinds.ps
-    (falls 3 unite-halves-kinds.ps _<_ μ-unite-halves t)
+    (falls 4 unite-halves-kinds.ps _<_ μ-unite-halves t)
     unite-halves.Pre
 
 pub +unite+unite-contents+unite-halves-spec : {M : Type 1} → statement M
@@ -89,7 +89,7 @@ pub +unite+unite-contents+unite-halves-spec : {M : Type 1} → statement M
     (λ c. search needs)  -- unite-element-copy-out-a
     (λ c. search needs)  -- unite-element-copy-out-b
     (λ c. let start = c .before .before .before .before .before in let args = start .args in let pre = start .pre in
-    let u = uniting (args .s .now) (args .t .now) (args .c .now) (args .i) (args .j) (pre .1) in
+    let u = uniting (args .s .now) (args .t .now) (args .c .now) (args .i) (args .j) (pre .1 .0, pre .1 .1, pre .1 .2, pre .1 .3, pre .1 .4) in
     (pre .1 .1, search needs, same-answer u (c .if1 .taken)))  -- unite-returns
     (λ c κs. search needs)  -- unite-wide-requires
     (λ c κs. search needs)  -- unite-wide-requires-2
@@ -109,12 +109,12 @@ pub +unite+unite-contents+unite-halves-spec : {M : Type 1} → statement M
     let start = there .before .before .before .before .before .before .before .before in
     let if1 = there .before .before .before .if1 in let wide = there .before .before .wide in let wide2 = there .before .wide2 in
     let args = start .args in let pre = start .pre in
-    let u = uniting (args .s .now) (args .t .now) (args .c .now) (args .i) (args .j) (pre .1) in
+    let u = uniting (args .s .now) (args .t .now) (args .c .now) (args .i) (args .j) (pre .1 .0, pre .1 .1, pre .1 .2, pre .1 .3, pre .1 .4) in
     let m = met-at (args .s .now) (args .t .now) (there .meeting .ensures) (c .before .before .before .before .before .enum-told5 .given .1)
     (wide .ensures .0) (wide2 .ensures .0) in
     let w = taken u (if1 .left) (wide .ensures) (wide2 .ensures) (c .before .before .before .relabel4 .ensures) in
     let fall = renamed-fewer w in
-    (omega (arith, pre .0), (pre .1 .0, renamed-length w, renamed-classes w (m .0))))  -- unite-unite-contents-requires
+    (omega (arith, pre .0), (pre .1 .0, renamed-length w, renamed-classes w (m .0), pre .1 .5)))  -- unite-unite-contents-requires
     (λ c. search needs)  -- unite-enum-told-6
     (λ c κs. search needs)  -- unite-relabel-requires-5
     (λ c κs. search needs)  -- unite-wide-requires-5
@@ -123,7 +123,7 @@ pub +unite+unite-contents+unite-halves-spec : {M : Type 1} → statement M
     let start = there .before .before .before .before .before .before .before .before in
     let if1 = there .before .before .before .if1 in let wide = there .before .before .wide in let wide2 = there .before .wide2 in
     let args = start .args in let pre = start .pre in
-    let u = uniting (args .s .now) (args .t .now) (args .c .now) (args .i) (args .j) (pre .1) in
+    let u = uniting (args .s .now) (args .t .now) (args .c .now) (args .i) (args .j) (pre .1 .0, pre .1 .1, pre .1 .2, pre .1 .3, pre .1 .4) in
     let m = met-at (args .s .now) (args .t .now) (there .meeting .ensures) (c .before .before .before .before .before .enum-told6 .given .1)
     (wide .ensures .0) (wide2 .ensures .0) in
     let w = taken u (if1 .left) (wide .ensures) (wide2 .ensures) (c .before .before .before .relabel5 .ensures) in
@@ -136,32 +136,33 @@ pub +unite+unite-contents+unite-halves-spec : {M : Type 1} → statement M
         renamed-classes w (m .0),
         ap tag (c .before .wide5 .ensures .0) ∙ m .2,
         ap tag (c .wide6 .ensures .0) ∙ sym (m .1) ∙ m .2,
+        pre .1 .5,
       ),
     ))  -- unite-unite-halves-requires
     (λ c. let there = c .before .before .before .before in let start = there .before .before .before .before .before .before .before .before in
     let if1 = there .before .before .before .if1 in let wide = there .before .before .wide in let wide2 = there .before .wide2 in
     let args = start .args in let pre = start .pre in
-    let u = uniting (args .s .now) (args .t .now) (args .c .now) (args .i) (args .j) (pre .1) in
+    let u = uniting (args .s .now) (args .t .now) (args .c .now) (args .i) (args .j) (pre .1 .0, pre .1 .1, pre .1 .2, pre .1 .3, pre .1 .4) in
     let m = met-at (args .s .now) (args .t .now) (there .meeting .ensures) (c .before .before .enum-told .given .1) (wide .ensures .0) (wide2 .ensures .0) in
     let w = taken u (if1 .left) (wide .ensures) (wide2 .ensures) (c .relabel .ensures) in
     (renamed-length w, omega (arith, renamed-fewer w), left-answer w m))  -- unite-returns-2
     (λ c. let there = c .before .before .before .before in let start = there .before .before .before .before .before .before .before .before in
     let if1 = there .before .before .before .if1 in let wide = there .before .before .wide in let wide2 = there .before .wide2 in
     let args = start .args in let pre = start .pre in
-    let u = uniting (args .s .now) (args .t .now) (args .c .now) (args .i) (args .j) (pre .1) in
+    let u = uniting (args .s .now) (args .t .now) (args .c .now) (args .i) (args .j) (pre .1 .0, pre .1 .1, pre .1 .2, pre .1 .3, pre .1 .4) in
     let m = met-at (args .s .now) (args .t .now) (there .meeting .ensures) (c .before .before .enum-told2 .given .1) (wide .ensures .0) (wide2 .ensures .0) in
     let w = taken (other-way u) (λ e. if1 .left (sym e)) (wide2 .ensures) (wide .ensures) (c .relabel2 .ensures) in
     (renamed-length w, omega (arith, renamed-fewer w), right-answer w m))  -- unite-returns-3
     (λ c. let there = c .before .before in let start = there .before .before .before .before .before .before .before .before in
     let wide = there .before .before .wide in let wide2 = there .before .wide2 in
     let args = start .args in let pre = start .pre in
-    let u = uniting (args .s .now) (args .t .now) (args .c .now) (args .i) (args .j) (pre .1) in
+    let u = uniting (args .s .now) (args .t .now) (args .c .now) (args .i) (args .j) (pre .1 .0, pre .1 .1, pre .1 .2, pre .1 .3, pre .1 .4) in
     let m = met-at (args .s .now) (args .t .now) (there .meeting .ensures) (c .enum-told3 .given .1) (wide .ensures .0) (wide2 .ensures .0) in
     (pre .1 .1, search needs, differ-answer u m))  -- unite-returns-4
     (λ c. let there = c .before .before .before .before in let start = there .before .before .before .before .before .before .before .before in
     let if1 = there .before .before .before .if1 in let wide = there .before .before .wide in let wide2 = there .before .wide2 in
     let args = start .args in let pre = start .pre in
-    let u = uniting (args .s .now) (args .t .now) (args .c .now) (args .i) (args .j) (pre .1) in
+    let u = uniting (args .s .now) (args .t .now) (args .c .now) (args .i) (args .j) (pre .1 .0, pre .1 .1, pre .1 .2, pre .1 .3, pre .1 .4) in
     let m = met-at (args .s .now) (args .t .now) (there .meeting .ensures) (c .before .before .enum-told4 .given .1) (wide .ensures .0) (wide2 .ensures .0) in
     let w = taken u (if1 .left) (wide .ensures) (wide2 .ensures) (c .relabel3 .ensures) in
     (renamed-length w, omega (arith, renamed-fewer w), atoms-answer w m))  -- unite-returns-5
@@ -169,7 +170,7 @@ pub +unite+unite-contents+unite-halves-spec : {M : Type 1} → statement M
     let start = there .before .before .before .before .before .before .before .before in
     let if1 = there .before .before .before .if1 in let wide = there .before .before .wide in let wide2 = there .before .wide2 in
     let args = start .args in let pre = start .pre in
-    let u = uniting (args .s .now) (args .t .now) (args .c .now) (args .i) (args .j) (pre .1) in
+    let u = uniting (args .s .now) (args .t .now) (args .c .now) (args .i) (args .j) (pre .1 .0, pre .1 .1, pre .1 .2, pre .1 .3, pre .1 .4) in
     let m = met-at (args .s .now) (args .t .now) (there .meeting .ensures) (c .before .before .before .before .before .before .enum-told5 .given .1)
     (wide .ensures .0) (wide2 .ensures .0) in
     let w = taken u (if1 .left) (wide .ensures) (wide2 .ensures) (c .before .before .before .before .relabel4 .ensures) in
@@ -182,7 +183,7 @@ pub +unite+unite-contents+unite-halves-spec : {M : Type 1} → statement M
     let start = there .before .before .before .before .before .before .before .before in
     let if1 = there .before .before .before .if1 in let wide = there .before .before .wide in let wide2 = there .before .wide2 in
     let args = start .args in let pre = start .pre in
-    let u = uniting (args .s .now) (args .t .now) (args .c .now) (args .i) (args .j) (pre .1) in
+    let u = uniting (args .s .now) (args .t .now) (args .c .now) (args .i) (args .j) (pre .1 .0, pre .1 .1, pre .1 .2, pre .1 .3, pre .1 .4) in
     let m = met-at (args .s .now) (args .t .now) (there .meeting .ensures) (c .before .before .before .before .before .before .enum-told6 .given .1)
     (wide .ensures .0) (wide2 .ensures .0) in
     let w = taken u (if1 .left) (wide .ensures) (wide2 .ensures) (c .before .before .before .before .relabel5 .ensures) in
@@ -202,6 +203,7 @@ pub +unite+unite-contents+unite-halves-spec : {M : Type 1} → statement M
         omega (arith, c .before .first-child .ensures .1),
         omega (arith, c .first-child2 .ensures .1),
         pre .1 .2,
+        pre .1 .3,
       ),
     ))  -- unite-contents-unite-requires
     (λ c. (
@@ -228,12 +230,13 @@ pub +unite+unite-contents+unite-halves-spec : {M : Type 1} → statement M
         omega (arith, c .before .first-child .ensures .1),
         omega (arith, c .first-child2 .ensures .1),
         pre .1 .2,
+        pre .1 .5,
       ),
     ))  -- unite-halves-unite-requires
     (λ c κs. let pre = c .before .before .before .before .before .before .before .before .pre in
-    (pre .1 .0 .left, pre .1 .0 .left-short, pre .1 .0 .right, pre .1 .0 .right-short, pre .1 .3))  -- unite-halves-second-child-requires
+    (pre .1 .0, pre .1 .3, pre .1 .5))  -- unite-halves-second-child-requires
     (λ c κs. let pre = c .before .before .before .before .before .before .before .before .before .pre in
-    (pre .1 .0 .left, pre .1 .0 .left-short, pre .1 .0 .right, pre .1 .0 .right-short, pre .1 .4))  -- unite-halves-second-child-requires-2
+    (pre .1 .0, pre .1 .4, pre .1 .5))  -- unite-halves-second-child-requires-2
     (λ c κs. let pre = c .before .before .before .before .before .before .before .before .before .before .pre in
     let the-unite = c .before .before .before .before .unite in let if1 = c .before .before .before .if1 in (
       omega (arith, pre .0, the-unite .ensures .1),
@@ -243,6 +246,7 @@ pub +unite+unite-contents+unite-halves-spec : {M : Type 1} → statement M
         omega (arith, c .before .second-child .ensures .1),
         omega (arith, c .second-child2 .ensures .1),
         the-unite .ensures .2 .stepped (if1 .taken) .classes,
+        pre .1 .5,
       ),
     ))  -- unite-halves-unite-requires-2
     (λ c. let first-child = c .before .before .before .before .before .before .before .first-child in
