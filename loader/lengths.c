@@ -1,4 +1,5 @@
-/* Calls the checker with zero bytes of some lengths, each in memory of just that size, and with none at all. */
+/* Says the version, and calls the checker with zero bytes of some lengths, each in memory of just that size, and with
+ * none at all. */
 #include <stdio.h>
 #include <stdlib.h>
 
@@ -14,6 +15,7 @@ int main(void)
 {
     static const size_t lengths[] = {0, 1, 511, 512, 513, 32768, 33280};
 
+    printf("version %u, header %u\n", zepayong_version(), ZEPAYONG_VERSION);
     show("null", 0, zepayong_check(NULL, 0));
     for (size_t i = 0; i < sizeof lengths / sizeof lengths[0]; i++) {
         uint8_t *bytes = calloc(lengths[i], 1);

@@ -1,6 +1,6 @@
 /* A key loader in small: asks the checker about a certificate, and would load it or holds it back.
  *
- *   loader FILE    exit status 0: would load it; 1: holds it back; 2: cannot read it */
+ *   loader FILE    exit status 0: would load it; 1: holds it back; 2: cannot read it, or has another version's archive */
 #include <stdio.h>
 #include <stdlib.h>
 
@@ -51,7 +51,7 @@ static uint8_t *read_file(const char *name, size_t *length)
     return exact;
 }
 
-/* Says what is done with the certificate, and why. */
+/* Says what is done with the certificate, and why. A loader takes the rules from these very bytes. */
 static int decide(const uint8_t *file, size_t length)
 {
     uint32_t answer = zepayong_check(file, length);
@@ -73,6 +73,10 @@ int main(int argc, char **argv)
 
     if (argc != 2) {
         fprintf(stderr, "usage: loader FILE\n");
+        return 2;
+    }
+    if (zepayong_version() != ZEPAYONG_VERSION) {
+        fprintf(stderr, "loader: the archive is of another version than the header\n");
         return 2;
     }
     file = read_file(argv[1], &length);

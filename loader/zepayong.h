@@ -1,6 +1,11 @@
-/* The pairing certificate checker, for C programs.
+/* The pairing certificate checker, for C and C++ programs on x86-64 Linux.
  *
- * Link with target/staticlib/libjudge.a, which `rt staticlib judge` builds. */
+ * Link with libzepayong.a, which `loader/archive` leaves in target/ beside this
+ * header. The archive needs memcpy and memset, and nothing else.
+ *
+ * Load the rules from the very bytes that were checked, not from the file read
+ * anew. A file cut at a block's end may be a right certificate with fewer rules,
+ * and is then accepted: know the length from elsewhere, and read all of it. */
 #ifndef ZEPAYONG_H
 #define ZEPAYONG_H
 
@@ -11,6 +16,11 @@
 extern "C" {
 #endif
 
+/* Which documents header and archive follow: 1 is document 01, and each change
+ * request that lands raises the number by 1. Load nothing if the two differ. */
+#define ZEPAYONG_VERSION 1
+uint32_t zepayong_version(void);
+
 /* Judges a certificate of any length. Answers 0 if it is accepted, and else
  * number * 65536 + block * 256 + place. The bytes are only read; nothing may
  * write them during the call. With length 0 the pointer may be null. */
@@ -19,8 +29,11 @@ uint32_t zepayong_check(const uint8_t *file, size_t length);
 /* The longest certificate: 64 blocks of 512 bytes. */
 #define ZEPAYONG_LONGEST 32768
 
+/* Bytes of stack that a call takes at most, for any input, its return address included. */
+#define ZEPAYONG_STACK 29600
+
 /* The numbers. Blocks and entries count from 0. Where a number names no place, the place is 0. */
-enum zepayong_number {
+enum zepayong_verdict {
     ZEPAYONG_ACCEPTED = 0,
     /* Length 0, not a multiple of 512, or above 32,768; block 0. */
     ZEPAYONG_LENGTH = 1,
@@ -56,7 +69,7 @@ static inline unsigned zepayong_number(uint32_t answer)
 
 static inline unsigned zepayong_block(uint32_t answer)
 {
-    return answer >> 8 & 255;
+    return (answer >> 8) & 255;
 }
 
 static inline unsigned zepayong_place(uint32_t answer)

@@ -1,13 +1,17 @@
 -- Laws of flags: what painting and raising them leaves. Assumes nothing.
 use mathlib.Core.Path.{_≡_, refl, sym, _∙_}
+use mathlib.Core.Bool.{Bool, true, false}
 use mathlib.Core.List.{List}
 use mathlib.Core.Logic.{_⊎_, inl, inr, _↔_}
 use Prim.Native.Nat.{ℕ, _+_, _<_, _≤_}
 use native.Mathlib.Omega.{arith}
 use native.Mathlib.Decide.{ℕ-discrete, decLe, decLt}
+use lib.Dec.{eqb}
+use borrow.Author.Tests.{eqb-true, eqb-false}
 use lib.ListN.{length, getD, set, length-set, replicate, getD-replicate, List·getD-eq-default}
 use lib.Seq.{getD-set-same, getD-set-other}
-use Rattle.judge.specs.CoverEntries.{On, Painted, Raised}
+use Rattle.terms.specs.Solve.{Says}
+use Rattle.judge.specs.CoverEntries.{On, flagOf, putOff, Painted, Raised, Cleared, SomeOn}
 
 -- Nothing is painted yet; one more flag is.
 pub painted-none : {flags : List ℕ} (low value : ℕ) → length flags ≡ 64 → Painted flags flags low low value
@@ -87,3 +91,139 @@ raised-twice {a} {b} {c} {P} {Q} r s = record { long = s .long; on = λ k. (λ e
     back k (inl e) = inl (r .on k .1 (inl e))
     back k (inr (inl h)) = inl (r .on k .1 (inr h))
     back k (inr (inr h)) = inr h
+
+-- Put off: nothing; what is off in other flags; by one claim and then by another.
+pub cleared-none : {flags : List ℕ} {P : ℕ → Type 0} → length flags ≡ 64 → ((k : ℕ) → On flags k → ¬ P k) → Cleared flags flags P
+cleared-none long none = record { long = long; kept = λ k o. (o, none k o); gone = λ k o off. absurd (off o) }
+
+pub cleared-as : {old new : List ℕ} {P Q : ℕ → Type 0} → Cleared old new P → ((k : ℕ) → P k ↔ Q k) → Cleared old new Q
+cleared-as c same = record { long = c .long; kept = λ k o. (c .kept k o .0, λ q. c .kept k o .1 (same k .1 q)); gone = λ k o off. same k .0 (c .gone k o off) }
+
+pub cleared-twice : {a b c : List ℕ} {P Q : ℕ → Type 0} → Cleared a b P → Cleared b c Q → Cleared a c (λ k. P k ⊎ Q k)
+cleared-twice {a} {b} {c} {P} {Q} r s = record { long = s .long; kept = kept; gone = λ k o off. gone k o off (ℕ-discrete (getD b k 0) 1) }
+  where
+    kept : (k : ℕ) → On c k → On a k × ¬ (P k ⊎ Q k)
+    kept k o = let w = s .kept k o in let v = r .kept k (w .0) in (v .0, none v w)
+      where
+        none : (On a k × ¬ P k) → (On b k × ¬ Q k) → ¬ (P k ⊎ Q k)
+        none v w (inl h) = v .1 h
+        none v w (inr h) = w .1 h
+
+    gone : (k : ℕ) → On a k → ¬ On c k → Dec (On b k) → P k ⊎ Q k
+    gone k o off (yes on) = inr (s .gone k on off)
+    gone k o off (no n) = inl (r .gone k o n)
+
+-- One flag after the other: those before flag k are put off where the claim holds.
+pub record ClearedBelow (old new : List ℕ) (P : ℕ → Type 0) (n : ℕ) : Type 0 where
+  pub long : length new ≡ 64
+  pub before : (k : ℕ) → k < n → On new k → On old k × ¬ P k
+  pub gone : (k : ℕ) → k < n → On old k → ¬ On new k → P k
+  pub same : (k : ℕ) → n ≤ k → getD new k 0 ≡ getD old k 0
+
+pub below-start : {flags : List ℕ} {P : ℕ → Type 0} → length flags ≡ 64 → ClearedBelow flags flags P 0
+below-start long = record { long = long; before = λ k l. absurd (omega arith); gone = λ k l. absurd (omega arith); same = λ k l. refl }
+
+-- A flag that is on is put off if the claim holds, by the answer of a test.
+abbrev pub Loses : Bool → Type 0 → Type 0 → Type 0
+Loses true On P = P
+Loses false On P = On → ¬ P
+
+pub loses-both : (On P : Type 0) (b : Bool) → Says b (On × P) → Loses b On P
+loses-both On P true h = h .1
+loses-both On P false off = λ on p. off (on, p)
+
+-- Flag n is put off where the claim holds of it, and else stays.
+module _ {old flags : List ℕ} {P : ℕ → Type 0} {n : ℕ} (w : ClearedBelow old flags P n) (small : n < 64) where
+  here : (v : ℕ) → getD (set flags n v) n 0 ≡ v
+  here v = getD-set-same flags n v 0 (let long = w .long in omega arith)
+
+  below-write : (v : ℕ) → (v ≡ 1 → On old n × ¬ P n) → (On old n → ¬ (v ≡ 1) → P n) → ClearedBelow old (set flags n v) P (n + 1)
+  below-write v stays goes = record {
+    long = length-set flags n v ∙ w .long;
+    before = λ k l o. before k l o (ℕ-discrete k n);
+    gone = λ k l o g. gone k l o g (ℕ-discrete k n);
+    same = λ k l. getD-set-other flags n k v 0 (omega arith) ∙ w .same k (omega arith);
+  }
+    where
+      before : (k : ℕ) → k < n + 1 → On (set flags n v) k → Dec (k ≡ n) → On old k × ¬ P k
+      before k l o (yes is) = rw is (stays (sym (here v) ∙ rw is at o))
+      before k l o (no ne) = w .before k (omega arith) (sym (getD-set-other flags n k v 0 ne) ∙ o)
+
+      gone : (k : ℕ) → k < n + 1 → On old k → ¬ On (set flags n v) k → Dec (k ≡ n) → P k
+      gone k l o g (yes is) = rw is (goes (rw is at o) (λ one. g (rw is (here v ∙ one))))
+      gone k l o g (no ne) = w .gone k (omega arith) o (λ on. g (getD-set-other flags n k v 0 ne ∙ on))
+
+  pub below-more : {v : ℕ} (b : Bool) → v ≡ putOff (getD flags n 0) b → Loses b (On old n) (P n) → ClearedBelow old (set flags n v) P (n + 1)
+  unfolding putOff
+  below-more {v} true is says = below-write v (λ one. absurd (omega arith)) (λ o g. says)
+  below-more {v} false is says =
+      below-write v (λ one. (let on : On old n = sym (w .same n (omega arith)) ∙ sym is ∙ one in (on, says on)))
+      (λ o g. absurd (g (is ∙ w .same n (omega arith) ∙ o)))
+
+-- Flag n is put off where another one is on.
+pub below-clear : (other : List ℕ) {old flags : List ℕ} {n v : ℕ} → ClearedBelow old flags (On other) n → n < 64
+    → v ≡ putOff (getD flags n 0) (eqb (getD other n 0) 1) → ClearedBelow old (set flags n v) (On other) (n + 1)
+below-clear other {old} {flags} {n} {v} w small is = go (eqb (getD other n 0) 1) refl
+  where
+    go : (b : Bool) → eqb (getD other n 0) 1 ≡ b → ClearedBelow old (set flags n v) (On other) (n + 1)
+    go true q = below-more w small true (rw q at is) (eqb-true (getD other n 0) 1 q)
+    go false q = below-more w small false (rw q at is) (λ on. eqb-false (getD other n 0) 1 q)
+
+-- After the last flag, or behind the last that is on.
+pub below-all : {old new : List ℕ} {P : ℕ → Type 0} {n : ℕ} → ClearedBelow old new P n → ((k : ℕ) → On old k → k < n) → Cleared old new P
+below-all {old} {new} {P} {n} w inside = record {
+  long = w .long;
+  kept = λ k o. kept k o (decLt k n);
+  gone = λ k o off. w .gone k (inside k o) o off;
+}
+  where
+    kept : (k : ℕ) → On new k → Dec (k < n) → On old k × ¬ P k
+    kept k o (yes l) = w .before k l o
+    kept k o (no g) = let on : On old k = sym (w .same k (omega arith)) ∙ o in absurd (g (inside k on))
+
+-- Flags that are on lie within the first 64.
+pub on-small : (flags : List ℕ) → length flags ≡ 64 → (k : ℕ) → On flags k → k < 64
+on-small flags long k o = go (decLt k 64)
+  where
+    go : Dec (k < 64) → k < 64
+    go (yes l) = l
+    go (no n) = let z : getD {A = ℕ} flags k 0 ≡ 0 = List·getD-eq-default flags 0 {n = k} (omega arith) in absurd (omega arith)
+
+-- Flags raised one after the other where a claim holds of the first n.
+pub record RaisedBelow (flags : List ℕ) (P : ℕ → Type 0) (n : ℕ) : Type 0 where
+  pub long : length flags ≡ 64
+  pub on : (k : ℕ) → On flags k ↔ ((k < n) × P k)
+
+pub raised-start : {P : ℕ → Type 0} → RaisedBelow (replicate 64 0) P 0
+raised-start = record { long = refl; on = λ k. (λ o. absurd (zero-off k o), λ w. absurd (let l = w .0 in omega arith)) }
+
+pub raised-more : {flags : List ℕ} {P : ℕ → Type 0} {n v : ℕ} → RaisedBelow flags P n → n < 64 → (b : Bool) → v ≡ flagOf b → Says b (P n)
+    → RaisedBelow (set flags n v) P (n + 1)
+unfolding flagOf
+raised-more {flags} {P} {n} {v} w small b is says = record {
+  long = length-set flags n v ∙ w .long;
+  on = λ k. (λ o. to k o (ℕ-discrete k n), λ h. back k h (ℕ-discrete k n));
+}
+  where
+    here : getD (set flags n v) n 0 ≡ v
+    here = getD-set-same flags n v 0 (let long = w .long in omega arith)
+
+    yes-at : (b : Bool) → v ≡ flagOf b → Says b (P n) → v ≡ 1 → P n
+    yes-at true is says one = says
+    yes-at false is says one = absurd (omega arith)
+
+    one-at : (b : Bool) → v ≡ flagOf b → Says b (P n) → P n → v ≡ 1
+    one-at true is says h = is
+    one-at false is says h = absurd (says h)
+
+    to : (k : ℕ) → On (set flags n v) k → Dec (k ≡ n) → (k < n + 1) × P k
+    to k o (yes e) = (omega arith, rw e (yes-at b is says (sym here ∙ rw e at o)))
+    to k o (no ne) = let h = w .on k .0 (sym (getD-set-other flags n k v 0 ne) ∙ o) in (let l = h .0 in omega arith, h .1)
+
+    back : (k : ℕ) → (k < n + 1) × P k → Dec (k ≡ n) → On (set flags n v) k
+    back k h (yes e) = rw e (here ∙ one-at b is says (rw e at (h .1)))
+    back k h (no ne) = getD-set-other flags n k v 0 ne ∙ w .on k .1 (let l = h .0 in omega arith, h .1)
+
+-- No flag is on so far.
+pub none-on : {flags : List ℕ} {low high k : ℕ} → high ≤ k → ((j : ℕ) → j < k → ¬ ((low ≤ j) × On flags j)) → ¬ SomeOn flags low high
+none-on past empty w = empty (w .number) (let l = w .below in omega arith) (w .above, w .on)

@@ -23,8 +23,8 @@ use Rattle.judge.specs.File.{blockCount, patternOf, certificateOf}
 use Rattle.judge.specs.Laid.{Laid, TermBlock}
 use Rattle.judge.specs.Cover.{SureHat}
 use Rattle.judge.specs.Listed.{listedOf, AnyListed, HoldsAt, Searching, SharesListed}
-use Rattle.judge.specs.CoverEntries.{subAt, On, Raised, Flags, MarkOver, Laying, Standing, HatOver, HatBelow}
-use Rattle.judge.proofs.Flags.{raised-none, raised-as, raised-twice, zero-off}
+use Rattle.judge.specs.CoverEntries.{subAt, On, Raised, Cleared, SomeOn, Flags, MarkOver, Laying, Standing, HatOver, HatBelow}
+use Rattle.judge.proofs.Flags.{raised-none, raised-as, raised-twice, zero-off, cleared-none, cleared-as, cleared-twice}
 use Rattle.judge.proofs.Marks.{term-reads, mark-inside, mark-place}
 use Rattle.judge.proofs.Listing.{term-block, one-found, none-found}
 use Rattle.judge.proofs.ListedLaws.{not-bad-is}
@@ -40,8 +40,8 @@ standing-at {e = e} {h = h} laid b short inside =
     let room = fits (termOf e) (term-reads b refl) in
     record { laid = laid; term = rw part-to-end (suffix h b (omega arith)); inside = omega arith; short = short }
 
-pub standing-end : {file e : List ℕ} {h r : ℕ} → Standing file e h → r ≡ size (subAt e h) → (h + 1 ≤ h + r) × (h + r ≤ 64)
-standing-end {e = e} {h = h} {r = r} s is =
+pub standing-end : {file e : List ℕ} {h end : ℕ} → Standing file e h → end ≡ h + size (subAt e h) → (h + 1 ≤ end) × (end ≤ 64)
+standing-end {e = e} {h = h} s is =
     let room = fits (subAt e h) (term-reads (s .term) refl) in
     let positive = size-positive (subAt e h) in
     let short = s .short in let inside = s .inside in
@@ -125,17 +125,28 @@ laid-all {file} {u} {h} {n} {old} {new} laid all r = record { long = r .long; on
     back k (inl e) = r .on k .1 (inl e)
     back k (inr a) = listed k a (ℕ-discrete (getD new k 0) 1)
 
--- The term at entry h as a hat: it shares an instance with a bad pattern, or it is a sure hat for what the good ones lay.
+-- The term at entry h as a hat: what the good patterns lay is put off, if no bad one shares an instance with it.
 module _ {c : Certificate} {u : Term Variable} {h : ℕ} where
-  pub shares-bad : {old : List ℕ} → length old ≡ 64 → SharesListed c 4 u → Raised old old (HatOver c u h)
-  shares-bad long shares = raised-none long (λ k w. not-bad-is c u .0 (w .notBad) shares)
-
-  pub hat-raised : {old new : List ℕ} → ¬ SharesListed c 4 u → Raised old new (λ k. AnyListed c 3 (Lays u h k)) → Raised old new (HatOver c u h)
+  hat-is : ¬ SharesListed c 4 u → (k : ℕ) → AnyListed c 3 (Lays u h k) ↔ HatOver c u h k
   unfolding listedOf
-  hat-raised fine r = raised-as r (λ k. (
+  hat-is fine k = (
     λ a. record { good = a .term; listed = a .listed; match = a .holds .0; mark = a .holds .1; notBad = not-bad-is c u .1 fine },
     λ w. record { term = w .good; listed = w .listed; holds = (w .match, w .mark) },
-  ))
+  )
+
+  pub hat-taken : {old new marked : List ℕ} → Flags marked (λ k. AnyListed c 3 (Lays u h k)) → ¬ SharesListed c 4 u → Cleared old new (On marked)
+      → Cleared old new (HatOver c u h)
+  hat-taken f fine r = cleared-as r (λ k. (λ o. hat-is fine k .0 (f .on k .0 o), λ w. f .on k .1 (hat-is fine k .1 w)))
+
+  pub hat-shares : {old : List ℕ} → length old ≡ 64 → SharesListed c 4 u → Cleared old old (HatOver c u h)
+  hat-shares long shares = cleared-none long (λ k o w. not-bad-is c u .0 (w .notBad) shares)
+
+pub marked-flags : {P : ℕ → Type 0} {new : List ℕ} → Raised (replicate 64 0) new P → Flags new P
+marked-flags {P} {new} r = record { long = r .long; on = λ k. (λ o. to k (r .on k .0 o), λ h. r .on k .1 (inr h)) }
+  where
+    to : (k : ℕ) → On (replicate 64 0) k ⊎ P k → P k
+    to k (inl o) = absurd (zero-off k o)
+    to k (inr h) = h
 
 -- A good pattern is an encryption, and so is what it matches.
 good-encryption : {file : List ℕ} → Laid file → {good : Term Variable} → Good (certificateOf file) good → IsEncryption good
@@ -160,31 +171,34 @@ encryption-tag e h b = (
       record { key = _; content = w .content; is = termOf-reads (w .whole) },
 )
 
-pub no-encryption : {file e : List ℕ} {h : ℕ} → Standing file e h → ¬ (getD e (4 * h) 0 ≡ 3) → {old : List ℕ} → length old ≡ 64
-    → Raised old old (HatOver (certificateOf file) (subAt e h) h)
-no-encryption {file} {e} {h} s off long =
-    raised-none long (λ k w. off (encryption-tag e h (s .term) .0 (match-encryption (good-encryption (s .laid) (w .listed)) (w .match))))
+-- No flag is put off by what is no encryption, or where none is on below it.
+module _ {file e : List ℕ} {h : ℕ} (s : Standing file e h) {old : List ℕ} (long : length old ≡ 64) where
+  pub no-encryption : ¬ (getD e (4 * h) 0 ≡ 3) → Cleared old old (HatOver (certificateOf file) (subAt e h) h)
+  no-encryption off =
+      cleared-none long (λ k o w. off (encryption-tag e h (s .term) .0 (match-encryption (good-encryption (s .laid) (w .listed)) (w .match))))
+
+  pub none-below : {end : ℕ} → end ≡ h + size (subAt e h) → ¬ SomeOn old (h + 1) end → Cleared old old (HatOver (certificateOf file) (subAt e h) h)
+  none-below is none = cleared-none long (λ k o w.
+      let inside = mark-inside (good-encryption (s .laid) (w .listed)) (w .match) (w .mark) in
+      none (record { number = k; above = let l = inside .0 in omega arith; below = let l = inside .1 in omega arith; on = o }))
 
 -- Entry after entry.
-pub hats-none : {c : Certificate} {e : List ℕ} → Flags (replicate 64 0) (HatBelow c e 0)
-hats-none = record { long = refl; on = λ k. (λ o. absurd (zero-off k o), λ w. (let l = w .before in absurd (omega arith))) }
+pub hats-none : {c : Certificate} {e flags : List ℕ} → length flags ≡ 64 → Cleared flags flags (HatBelow c e 0)
+hats-none long = cleared-none long (λ k o w. (let l = w .before in omega arith))
 
-pub hats-more : {c : Certificate} {e : List ℕ} {h : ℕ} {old new : List ℕ} → Flags old (HatBelow c e h) → Raised old new (HatOver c (subAt e h) h)
-    → Flags new (HatBelow c e (h + 1))
-hats-more {c} {e} {h} {old} {new} f r = record { long = r .long; on = λ k. (λ o. to k (r .on k .0 o), λ w. r .on k .1 (back k w (ℕ-discrete (w .over) h))) }
+pub hats-more : {c : Certificate} {e : List ℕ} {h : ℕ} {first old new : List ℕ} → Cleared first old (HatBelow c e h) → Cleared old new (HatOver c (subAt e h) h)
+    → Cleared first new (HatBelow c e (h + 1))
+hats-more {c} {e} {h} r s = cleared-as (cleared-twice r s) (λ k. (to k, λ w. back k w (ℕ-discrete (w .over) h)))
   where
-    earlier : (k : ℕ) → HatBelow c e h k → HatBelow c e (h + 1) k
-    earlier k w = record { over = w .over; before = let l = w .before in omega arith; hat = w .hat }
-
-    to : (k : ℕ) → On old k ⊎ HatOver c (subAt e h) h k → HatBelow c e (h + 1) k
-    to k (inl o) = earlier k (f .on k .0 o)
+    to : (k : ℕ) → HatBelow c e h k ⊎ HatOver c (subAt e h) h k → HatBelow c e (h + 1) k
+    to k (inl w) = record { over = w .over; before = let l = w .before in omega arith; hat = w .hat }
     to k (inr w) = record { over = h; before = omega arith; hat = w }
 
-    back : (k : ℕ) (w : HatBelow c e (h + 1) k) → Dec (w .over ≡ h) → On old k ⊎ HatOver c (subAt e h) h k
+    back : (k : ℕ) (w : HatBelow c e (h + 1) k) → Dec (w .over ≡ h) → HatBelow c e h k ⊎ HatOver c (subAt e h) h k
     back k w (yes is) = inr (rw is at (w .hat))
-    back k w (no off) = inl (f .on k .1 (record { over = w .over; before = let l = w .before in omega arith; hat = w .hat }))
+    back k w (no off) = inl (record { over = w .over; before = let l = w .before in omega arith; hat = w .hat })
 
-pub hats-all : {c : Certificate} {e flags : List ℕ} {h n : ℕ} → Flags flags (HatBelow c e h) → h ≡ n → Flags flags (HatBelow c e n)
+pub hats-all : {c : Certificate} {e first new : List ℕ} {h n : ℕ} → Cleared first new (HatBelow c e h) → h ≡ n → Cleared first new (HatBelow c e n)
 hats-all f is = rw is at f
 
 -- On the places this is document 01's sure hat.

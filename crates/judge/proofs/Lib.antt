@@ -27,6 +27,7 @@ pub mod Marks
 pub mod Hats
 pub mod Opens
 pub mod Covers
+pub mod Indexes
 pub mod Repeats
 pub mod Heads
 pub mod JudgingLaws

@@ -7,7 +7,7 @@ use mathlib.Core.Option.{some}
 use Prim.Native.Nat.{ℕ, _+_, _*_, _<_, _≤_}
 use native.Mathlib.Omega.{arith}
 use native.Mathlib.Decide.{ℕ-discrete, decLt}
-use lib.ListN.{length, getD, replicate}
+use lib.ListN.{length, getD}
 use Rattle.terms.specs.Term.{Term, Variable, encrypted}
 use Rattle.terms.specs.Place.{Place, subtermAt, StrictlyAbove}
 use Rattle.terms.specs.Entry.{size, termOf, Reads, Begins}
@@ -17,8 +17,9 @@ use Rattle.terms.specs.PlaceLaws.{entryAt, Placed, placed, within, spotted, sub
 use Rattle.judge.specs.Certificate.{Certificate}
 use Rattle.judge.specs.Cover.{NoHat, Open}
 use Rattle.judge.specs.Listed.{MatchesListed, SharesListed}
-use Rattle.judge.specs.CoverEntries.{subAt, On, Painted, Raised, Flags, OpenBelow, OpenEntry, ClosedBelow}
-use Rattle.judge.proofs.Flags.{painted-raised, zero-off}
+use Rattle.judge.specs.Laid.{Laid}
+use Rattle.judge.specs.CoverEntries.{subAt, On, SomeOn, Painted, Flagged, OpenBelow, OpenAmong, OpenFlags, ClosedBelow, Concluded}
+use Rattle.judge.proofs.Flags.{on-small}
 use Rattle.judge.proofs.Marks.{term-reads}
 use Rattle.judge.proofs.Hats.{encryption-tag}
 use Rattle.judge.proofs.ListedLaws.{no-hat-is}
@@ -40,62 +41,85 @@ module _ {c : Certificate} {e : List ℕ} {h : ℕ} where
   pub closed-none : {old : List ℕ} → length old ≡ 64 → (getD e (4 * h) 0 ≡ 3 → NoHat c (subAt e h)) → ClosedBelow c old old e h
   closed-none long fine = record { long = long; on = λ k. (λ o. (o, λ tag a b. fine tag), λ w. w .0) }
 
-  pub closed-below : {old new : List ℕ} {r : ℕ} → getD e (4 * h) 0 ≡ 3 → ¬ NoHat c (subAt e h) → r ≡ size (subAt e h)
-      → Painted old new (h + 1) (h + r) 0 → ClosedBelow c old new e h
-  closed-below {old} {new} {r} tag off is p =
-      record { long = p .long; on = λ k. (λ o. to k o (decLt h k) (decLt k (h + r)), λ w. back k w (decLt h k) (decLt k (h + r))) }
+  -- No flag is on there.
+  pub closed-unasked : {old : List ℕ} {end : ℕ} → length old ≡ 64 → end ≡ h + size (subAt e h) → ¬ SomeOn old (h + 1) end → ClosedBelow c old old e h
+  closed-unasked long is none = record {
+    long = long;
+    on = λ k. (λ o. (o, λ tag a b. absurd (none (record { number = k; above = omega arith; below = omega arith; on = o }))), λ w. w .0);
+  }
+
+  pub closed-below : {old new : List ℕ} {end : ℕ} → getD e (4 * h) 0 ≡ 3 → ¬ NoHat c (subAt e h) → end ≡ h + size (subAt e h)
+      → Painted old new (h + 1) end 0 → ClosedBelow c old new e h
+  closed-below {old} {new} {end} tag off is p =
+      record { long = p .long; on = λ k. (λ o. to k o (decLt h k) (decLt k end), λ w. back k w (decLt h k) (decLt k end)) }
     where
       Fine : ℕ → Type 0
       Fine k = getD e (4 * h) 0 ≡ 3 → h < k → k < h + size (subAt e h) → NoHat c (subAt e h)
 
-      to : (k : ℕ) → On new k → Dec (h < k) → Dec (k < h + r) → On old k × Fine k
+      to : (k : ℕ) → On new k → Dec (h < k) → Dec (k < end) → On old k × Fine k
       to k o (yes a) (yes b) = let z = p .inside k (omega arith) b in absurd (omega arith)
       to k o (yes a) (no b) = (sym (p .outside k (λ w. b (w .1))) ∙ o, λ t l g. absurd (b (omega arith)))
       to k o (no a) d = (sym (p .outside k (λ w. a (let l = w .0 in omega arith))) ∙ o, λ t l g. absurd (a l))
 
-      back : (k : ℕ) → On old k × Fine k → Dec (h < k) → Dec (k < h + r) → On new k
+      back : (k : ℕ) → On old k × Fine k → Dec (h < k) → Dec (k < end) → On new k
       back k w (yes a) (yes b) = absurd (off (w .1 tag a (omega arith)))
       back k w (yes a) (no b) = p .outside k (λ x. b (x .1)) ∙ w .0
       back k w (no a) d = p .outside k (λ x. a (let l = x .0 in omega arith)) ∙ w .0
 
--- Entry after entry.
-pub open-none : {c : Certificate} {e new : List ℕ} {n : ℕ} → n ≡ size (termOf e) → Painted (replicate 64 0) new 0 n 1 → Flags new (OpenBelow c e 0)
-open-none {c} {e} {new} {n} is p =
-    record { long = p .long; on = λ k. (λ o. to k (r .on k .0 o), λ w. r .on k .1 (inr (omega arith, let l = w .inside in omega arith))) }
-  where
-    r : Raised (replicate 64 0) new (λ k. (0 ≤ k) × (k < n))
-    r = painted-raised p
+-- Entry after entry, among the flagged ones.
+pub open-none : {c : Certificate} {e flags : List ℕ} → Flagged e flags → 4 * size (termOf e) ≡ length e → OpenAmong c e flags 0 flags
+open-none {c} {e} {flags} f whole = record {
+  long = f .long;
+  on = λ k. (λ o. (o, record { inside = let l = f .within k o in omega arith; every = λ h l. absurd (omega arith) }), λ w. w .0);
+}
 
-    to : (k : ℕ) → On (replicate 64 0) k ⊎ ((0 ≤ k) × (k < n)) → OpenBelow c e 0 k
-    to k (inl o) = absurd (zero-off k o)
-    to k (inr w) = record { inside = let l = w .1 in omega arith; every = λ h l. absurd (omega arith) }
-
-pub open-more : {c : Certificate} {e : List ℕ} {h : ℕ} {old new : List ℕ} → Flags old (OpenBelow c e h) → ClosedBelow c old new e h
-    → Flags new (OpenBelow c e (h + 1))
-open-more {c} {e} {h} {old} {new} f s = record { long = s .long; on = λ k. (λ o. to k (s .on k .0 o), λ w. s .on k .1 (back k w)) }
+pub open-more : {c : Certificate} {e : List ℕ} {h : ℕ} {first old new : List ℕ} → OpenAmong c e first h old
+    → ClosedBelow c old new e h → OpenAmong c e first (h + 1) new
+open-more {c} {e} {h} {first} {old} {new} f s = record { long = s .long; on = λ k. (λ o. to k (s .on k .0 o), λ w. s .on k .1 (back k w)) }
   where
     Fine : ℕ → ℕ → Type 0
     Fine k h = getD e (4 * h) 0 ≡ 3 → h < k → k < h + size (subAt e h) → NoHat c (subAt e h)
 
-    to : (k : ℕ) → On old k × Fine k h → OpenBelow c e (h + 1) k
-    to k w = let o = f .on k .0 (w .0) in record { inside = o .inside; every = λ j l. go j l (ℕ-discrete j h) }
+    to : (k : ℕ) → On old k × Fine k h → On first k × OpenBelow c e (h + 1) k
+    to k w = let o = f .on k .0 (w .0) in (o .0, record { inside = o .1 .inside; every = λ j l. go j l (ℕ-discrete j h) })
       where
         go : (j : ℕ) → j < h + 1 → Dec (j ≡ h) → Fine k j
         go j l (yes is) = rw is (w .1)
-        go j l (no n) = f .on k .0 (w .0) .every j (omega arith)
+        go j l (no n) = f .on k .0 (w .0) .1 .every j (omega arith)
 
-    back : (k : ℕ) → OpenBelow c e (h + 1) k → On old k × Fine k h
-    back k w = (f .on k .1 (record { inside = w .inside; every = λ j l. w .every j (omega arith) }), w .every h (omega arith))
+    back : (k : ℕ) → On first k × OpenBelow c e (h + 1) k → On old k × Fine k h
+    back k w = (f .on k .1 (w .0, record { inside = w .1 .inside; every = λ j l. w .1 .every j (omega arith) }), w .1 .every h (omega arith))
 
-pub open-all : {c : Certificate} {e flags : List ℕ} {h n : ℕ} → Flags flags (OpenBelow c e h) → h ≡ n → Flags flags (OpenBelow c e n)
+pub open-all : {c : Certificate} {e first flags : List ℕ} {h n : ℕ} → OpenAmong c e first h flags → h ≡ n
+    → OpenAmong c e first n flags
 open-all f is = rw is at f
 
--- With a term, or without one.
-pub open-term : {c : Certificate} {e flags : List ℕ} → ¬ (length e ≡ 0) → Flags flags (OpenBelow c e (size (termOf e))) → Flags flags (OpenEntry c e)
-open-term some-entry f = record { long = f .long; on = λ k. (λ o. record { some-entry = some-entry; isOpen = f .on k .0 o }, λ w. f .on k .1 (w .isOpen)) }
+-- With a flag on, or with none.
+pub open-asked : {c : Certificate} {e wanted flags : List ℕ} → Flagged e wanted → OpenAmong c e wanted (size (termOf e)) flags
+    → OpenFlags c e wanted flags
+open-asked {c} {e} {wanted} w f = record {
+  long = f .long;
+  on = λ k. (
+    λ o. (let v = f .on k .0 o in (v .0, record { some-entry = λ z. (let l = w .within k (v .0) in omega arith); isOpen = v .1 })),
+    λ v. f .on k .1 (v .0, v .1 .isOpen),
+  );
+}
 
-pub open-empty : {c : Certificate} {e : List ℕ} → length e ≡ 0 → Flags (replicate 64 0) (OpenEntry c e)
-open-empty none = record { long = refl; on = λ k. (λ o. absurd (zero-off k o), λ w. absurd (w .some-entry none)) }
+pub open-unasked : {c : Certificate} {e wanted : List ℕ} → Flagged e wanted → ¬ SomeOn wanted 0 64 → OpenFlags c e wanted wanted
+open-unasked {c} {e} {wanted} w none = record {
+  long = w .long;
+  on = λ k. (λ o. absurd (none (record { number = k; above = omega arith; below = on-small wanted (w .long) k o; on = o })), λ v. v .0);
+}
+
+-- A term stands at the entries, where one is flagged.
+pub flagged-term : {file e flags : List ℕ} → Laid file → Flagged e flags → {low high : ℕ} → SomeOn flags low high → Concluded file e
+flagged-term {e = e} laid f w =
+    let some-entry : ¬ (length e ≡ 0) = λ z. (let l = f .within (w .number) (w .on) in omega arith) in
+    record { laid = laid; term = f .entries .some-term some-entry; whole = f .entries .whole some-entry; short = f .entries .short }
+
+-- What is open lies within.
+pub opened-within : {c : Certificate} {e wanted opened : List ℕ} → Flagged e wanted → OpenFlags c e wanted opened → Flagged e opened
+opened-within w f = record { entries = w .entries; long = f .long; within = λ k o. w .within k (f .on k .0 o .0) }
 
 -- On the places this is document 01's open place of a premise.
 module _ {c : Certificate} {e : List ℕ} (b : Begins e) {k : ℕ} {p : Place} {s : Term Variable} (low : Placed (termOf e) k p s) where

@@ -1,7 +1,7 @@
 -- Laws of the flagged roots: a term whose root no secret has is no secret, and shares an instance with none. Assumes
 -- nothing.
 use mathlib.Core.Path.{_≡_, refl, sym, ap, ap₂, subst, _∙_}
-use mathlib.Core.Bool.{false, not}
+use mathlib.Core.Bool.{Bool, false, not}
 use mathlib.Core.List.{List, _∷_}
 use Prim.Native.Nat.{ℕ, zero, suc, _+_, _%_, _<_, _≤_}
 use native.Mathlib.Omega.{arith}
@@ -15,14 +15,19 @@ use Rattle.blocks.specs.Block.{blockAt, kindOf, firstEntries}
 use Rattle.terms.specs.Term.{Term, Message, Variable, variable, atom, pair, encrypted, plain, marked, replace, asTerm}
 use Rattle.terms.specs.Instance.{Matches, Share}
 use Rattle.terms.specs.Laws.{replace-asTerm}
+use Rattle.terms.specs.Occurs.{replace-twice}
 use Rattle.terms.specs.Entry.{Begins, termOf, tagAt, valueAt}
 use Rattle.terms.specs.EntryLaws.{First, first, first-atom, first-pair, first-encrypted, first-plain, first-marked, termOf-reads, begins}
 use Rattle.terms.specs.WalkLaws.{from, pair-first}
 use Rattle.terms.specs.FrontLaws.{from-length}
 use Rattle.terms.specs.Roots.{tags-apart, values-apart}
 use Rattle.judge.specs.File.{blockCount, patternOf, certificateOf}
-use Rattle.judge.specs.Laid.{Laid}
-use Rattle.judge.specs.Listed.{SharesListed, IsSecret, slotBy, slotAt, FlaggedAt, FlaggedMore, RootsOf, NoRoot}
+use mathlib.Core.Logic.{_↔_}
+use Rattle.judge.specs.Laid.{Laid, SecretBlock}
+use Rattle.terms.specs.Solve.{Says, says-same}
+use Rattle.terms.specs.Decide.{answer}
+use Rattle.judge.proofs.ListedLaws.{answer-says}
+use Rattle.judge.specs.Listed.{HoldsAt, TermPart, SharesListed, IsSecret, slotBy, slotAt, FlaggedAt, FlaggedMore, RootsOf, NoRoot}
 use Rattle.judge.proofs.Listing.{none-found, term-block}
 use Rattle.judge.proofs.Numbers.{pair-message}
 
@@ -37,14 +42,22 @@ slot-leaf (suc (suc zero)) n l m off = absurd (off refl)
 slot-leaf (suc (suc (suc zero))) n l m off = refl
 slot-leaf (suc (suc (suc (suc tag)))) n l m off = refl
 
--- A root that is neither a pair's nor an encryption's has a slot of the first 128.
-slot-low : (tag n l : ℕ) → (tag ≡ 2 → ⊥) → (tag ≡ 3 → ⊥) → n % 128 ≡ slotBy tag n l
+-- A root that is neither a pair's nor an encryption's: an atom's, or a variable's.
+slot-low : (tag n l : ℕ) → tag ≤ 3 → (tag ≡ 2 → ⊥) → (tag ≡ 3 → ⊥) → n % 128 ≡ slotBy tag n l
 unfolding slotBy
-slot-low zero n l no-pair no-key = refl
-slot-low (suc zero) n l no-pair no-key = refl
-slot-low (suc (suc zero)) n l no-pair no-key = absurd (no-pair refl)
-slot-low (suc (suc (suc zero))) n l no-pair no-key = absurd (no-key refl)
-slot-low (suc (suc (suc (suc tag)))) n l no-pair no-key = refl
+slot-low zero n l low no-pair no-key = refl
+slot-low (suc zero) n l low no-pair no-key = refl
+slot-low (suc (suc zero)) n l low no-pair no-key = absurd (no-pair refl)
+slot-low (suc (suc (suc zero))) n l low no-pair no-key = absurd (no-key refl)
+slot-low (suc (suc (suc (suc tag)))) n l low no-pair no-key = absurd (omega arith)
+
+slot-high : (tag n l : ℕ) → 3 < tag → 384 + n % 16 ≡ slotBy tag n l
+unfolding slotBy
+slot-high zero n l high = absurd (omega arith)
+slot-high (suc zero) n l high = absurd (omega arith)
+slot-high (suc (suc zero)) n l high = absurd (omega arith)
+slot-high (suc (suc (suc zero))) n l high = absurd (omega arith)
+slot-high (suc (suc (suc (suc tag)))) n l high = refl
 
 -- The slot, as the code finds it by the tag.
 module _ (e : List ℕ) {n : ℕ} where
@@ -59,8 +72,57 @@ module _ (e : List ℕ) {n : ℕ} where
   slot-encryption three is =
       ap (λ (m : ℕ). 256 + m % 128) is ∙ ap (λ (tag : ℕ). slotBy tag (valueAt e) (valueAt (drop 4 e))) (sym three)
 
-  pub slot-atom : (tagAt e ≡ 2 → ⊥) → (tagAt e ≡ 3 → ⊥) → n ≡ valueAt e → n % 128 ≡ slotAt e
-  slot-atom no-pair no-key is = ap (λ (m : ℕ). m % 128) is ∙ slot-low (tagAt e) (valueAt e) (valueAt (drop 4 e)) no-pair no-key
+  pub slot-atom : tagAt e ≤ 3 → (tagAt e ≡ 2 → ⊥) → (tagAt e ≡ 3 → ⊥) → n ≡ valueAt e → n % 128 ≡ slotAt e
+  slot-atom low no-pair no-key is = ap (λ (m : ℕ). m % 128) is ∙ slot-low (tagAt e) (valueAt e) (valueAt (drop 4 e)) low no-pair no-key
+
+  pub slot-variable : 3 < tagAt e → n ≡ valueAt e → 384 + n % 16 ≡ slotAt e
+  slot-variable high is = ap (λ (m : ℕ). 384 + m % 16) is ∙ slot-high (tagAt e) (valueAt e) (valueAt (drop 4 e)) high
+
+-- The value of a term's root, and its slot by the term alone: the same terms have the same slot.
+rootValue : Term Variable → ℕ
+rootValue (variable (plain x)) = x
+rootValue (variable (marked x)) = x
+rootValue (atom a) = a
+rootValue (pair t u) = 0
+rootValue (encrypted k t) = k
+
+termSlot : Term Variable → ℕ
+termSlot (variable (plain x)) = 384 + x % 16
+termSlot (variable (marked x)) = 384 + x % 16
+termSlot (atom a) = a % 128
+termSlot (pair t u) = 128 + rootValue t % 128
+termSlot (encrypted k t) = 256 + k % 128
+
+value-term : {e : List ℕ} → Begins e → valueAt e ≡ rootValue (termOf e)
+unfolding rootValue
+value-term {e} b = go (first (b .reads)) (termOf-reads (b .reads))
+  where
+    go : First (tagAt e) (valueAt e) (drop 4 e) (b .term ∷ b .others) → termOf e ≡ b .term → valueAt e ≡ rootValue (termOf e)
+    go (first-atom g q k) is = let t : termOf e ≡ atom (valueAt e) = cc in rw t refl
+    go (first-pair {t} {u} g n q k) is = let w : termOf e ≡ pair t u = cc in rw w n
+    go (first-encrypted {t} g q k) is = let w : termOf e ≡ encrypted (valueAt e) t = cc in rw w refl
+    go (first-plain g l q k) is = let w : termOf e ≡ variable (plain (valueAt e)) = cc in rw w refl
+    go (first-marked g l q k) is = let w : termOf e ≡ variable (marked (valueAt e)) = cc in rw w refl
+
+slot-term : {e : List ℕ} → Begins e → slotAt e ≡ termSlot (termOf e)
+unfolding termSlot slotBy
+slot-term {e} b = go (first (b .reads)) (termOf-reads (b .reads))
+  where
+    by-tag : (tag : ℕ) → tagAt e ≡ tag → slotAt e ≡ slotBy tag (valueAt e) (valueAt (drop 4 e))
+    by-tag tag is = ap (λ (n : ℕ). slotBy n (valueAt e) (valueAt (drop 4 e))) is
+
+    go : First (tagAt e) (valueAt e) (drop 4 e) (b .term ∷ b .others) → termOf e ≡ b .term → slotAt e ≡ termSlot (termOf e)
+    go (first-atom g q k) is = let w : termOf e ≡ atom (valueAt e) = cc in rw w (by-tag 1 g)
+    go (first-pair {t} {u} g n q k) is =
+        let w : termOf e ≡ pair t u = cc in
+        let left : valueAt (drop 4 e) ≡ rootValue t = value-term (begins k) ∙ ap rootValue (termOf-reads k) in
+        rw w (by-tag 2 g ∙ ap (λ (n : ℕ). 128 + n % 128) left)
+    go (first-encrypted {t} g q k) is = let w : termOf e ≡ encrypted (valueAt e) t = cc in rw w (by-tag 3 g)
+    go (first-plain g l q k) is = let w : termOf e ≡ variable (plain (valueAt e)) = cc in rw w (by-tag 4 g)
+    go (first-marked g l q k) is = let w : termOf e ≡ variable (marked (valueAt e)) = cc in rw w (by-tag 5 g)
+
+pub slot-same : {e f : List ℕ} → Begins e → Begins f → termOf e ≡ termOf f → slotAt e ≡ slotAt f
+slot-same b d same = slot-term b ∙ ap termSlot same ∙ sym (slot-term d)
 
 -- A pair has the entry of its left half's root after its own.
 pub pair-room : {e : List ℕ} → Begins e → tagAt e ≡ 2 → 8 ≤ length e
@@ -180,3 +242,42 @@ module _ {file roots e : List ℕ} (laid : Laid file) (flags : RootsOf file root
       let secret = laid .secrets i inside (h .of-kind) in
       let itself : Matches (patternOf (blockAt file i)) (secret .message) = record { by = λ x. atom 0; same = ap (replace (λ x. atom 0)) (secret .same) ∙ replace-asTerm (λ x. atom 0) (secret .message) } in
       apart i inside (h .of-kind) (subst (Share (patternOf (blockAt file i))) (h .holds) (record { message = secret .message; left = itself; right = itself })))
+
+-- A secret has no variables: it shares an instance with a term of which it is one.
+pub instance-shares : {b : List ℕ} → SecretBlock b → {t : Term Variable} → Matches t (patternOf b) ↔ Share (patternOf b) t
+unfolding asTerm
+instance-shares {b} secret {t} = (to, back)
+  where
+    m : Message
+    m = secret .message
+
+    itself : Matches (patternOf b) m
+    itself = record { by = λ x. atom 0; same = ap (replace (λ x. atom 0)) (secret .same) ∙ replace-asTerm (λ x. atom 0) m }
+
+    to : Matches t (patternOf b) → Share (patternOf b) t
+    to w = record {
+      message = m;
+      left = itself;
+      right = record {
+        by = λ x. replace (λ y. atom 0) (w .by x);
+        same = sym (replace-twice (λ y. atom 0) (w .by) t) ∙ ap (replace (λ y. atom 0)) (w .same) ∙ itself .same;
+      };
+    }
+
+    back : Share (patternOf b) t → Matches t (patternOf b)
+    back w =
+        let one : w .message ≡ m = sym (w .left .same) ∙ ap (replace (w .left .by)) (secret .same) ∙ replace-asTerm (w .left .by) m in
+        record {
+          by = λ x. asTerm (w .right .by x);
+          same = sym (replace-twice (λ y. absurd y) (w .right .by) t) ∙ ap asTerm (w .right .same ∙ one) ∙ sym (secret .same);
+        }
+
+-- As the code finds it at block i.
+pub instance-answer : {file : List ℕ} {i : ℕ} {p : List ℕ} {t : Term Variable} → Laid file → i < blockCount file → kindOf (blockAt file i) ≡ 2 → TermPart file i p
+    → (b : Bool) (d : Dec (Matches t (termOf p))) → b ≡ answer d → Says b (HoldsAt file 2 (λ s. Share s t) i)
+unfolding patternOf
+instance-answer {file} {i} {p} {t} laid inside kind part b d is =
+    let there : termOf p ≡ patternOf (blockAt file i) = ap termOf (part .part) in
+    let secret = laid .secrets i inside kind in
+    says-same b (λ m. record { of-kind = kind; holds = instance-shares secret .0 (rw there at m) }) (λ w. rw there (instance-shares secret .1 (w .holds)))
+    (answer-says b d is)

@@ -1,6 +1,7 @@
 -- Cover on the entries of a rule: what the walks over them promise. Entry k stands at the k-th place, and the subterm
 -- there is what the entries from k on begin with (terms/specs/PlaceLaws.antt).
 use mathlib.Core.Path.{_≡_}
+use mathlib.Core.Bool.{Bool, true, false}
 use mathlib.Core.List.{List}
 use mathlib.Core.Logic.{_⊎_, _↔_}
 use mathlib.Core.Option.{some}
@@ -16,6 +17,7 @@ use Rattle.terms.specs.PlaceLaws.{entryAt}
 use Rattle.judge.specs.Certificate.{Certificate, Good}
 use Rattle.judge.specs.Laid.{Laid}
 use Rattle.judge.specs.Cover.{NoHat, Risky}
+use Rattle.judge.specs.Listed.{IsSecret, slotAt}
 use Rattle.judge.specs.Decisions.{NotBad}
 
 -- The subterm at entry k.
@@ -25,6 +27,35 @@ subAt e k = termOf (from (4 * k) e)
 -- A flag for each of 64 entries; it is on if it is 1.
 abbrev pub On : List ℕ → ℕ → Type 0
 On flags k = getD flags k 0 ≡ 1
+
+-- The flag of an answer; and a flag, put off or as it is.
+unfoldable pub flagOf : Bool → ℕ
+flagOf true = 1
+flagOf false = 0
+
+unfoldable pub putOff : ℕ → Bool → ℕ
+putOff flag true = 0
+putOff flag false = flag
+
+-- What is remembered of an answer: 1 for yes, 2 for no; 0 says that it is not known.
+unfoldable pub toldOf : Bool → ℕ
+toldOf true = 1
+toldOf false = 2
+
+-- What is remembered of a claim about the subterms at e's entries is so.
+pub record Remembered (P : Term Variable → Type 0) (e memo : List ℕ) : Type 0 where
+  pub long : length memo ≡ 64
+  pub holds : (k : ℕ) → getD memo k 0 ≡ 1 → P (subAt e k)
+  pub fails : (k : ℕ) → getD memo k 0 ≡ 2 → ¬ P (subAt e k)
+
+-- It stays as it is, or nothing is known any more.
+pub record Forgotten (memo : List ℕ) : Type 0 where
+  pub long : length memo ≡ 64
+  pub none : (k : ℕ) → getD memo k 0 ≡ 0
+
+abbrev pub Renewed : Bool → List ℕ → List ℕ → Type 0
+Renewed true old new = new ≡ old
+Renewed false old new = Forgotten new
 
 -- The flags from entry `low` up to entry `high` have this value, and the others are as they were.
 pub record Painted (old new : List ℕ) (low high value : ℕ) : Type 0 where
@@ -36,6 +67,19 @@ pub record Painted (old new : List ℕ) (low high value : ℕ) : Type 0 where
 pub record Raised (old new : List ℕ) (P : ℕ → Type 0) : Type 0 where
   pub long : length new ≡ 64
   pub on : (k : ℕ) → On new k ↔ (On old k ⊎ P k)
+
+-- Of the flags that were on, those of which P does not hold are on.
+pub record Cleared (old new : List ℕ) (P : ℕ → Type 0) : Type 0 where
+  pub long : length new ≡ 64
+  pub kept : (k : ℕ) → On new k → On old k × ¬ P k
+  pub gone : (k : ℕ) → On old k → ¬ On new k → P k
+
+-- A flag from `low` up to `high` is on.
+pub record SomeOn (flags : List ℕ) (low high : ℕ) : Type 0 where
+  pub number : ℕ
+  pub above : low ≤ number
+  pub below : number < high
+  pub on : On flags number
 
 -- With a pattern laid on the subterm u at entry h, a marked variable of it stands at or above entry k.
 pub record MarkOver (good u : Term Variable) (h k : ℕ) : Type 0 where
@@ -82,10 +126,6 @@ pub record Flags (flags : List ℕ) (P : ℕ → Type 0) : Type 0 where
   pub long : length flags ≡ 64
   pub on : (k : ℕ) → On flags k ↔ P k
 
--- They are on at the entries of e's term for which there is a sure hat.
-abbrev pub HatFlags : Certificate → List ℕ → List ℕ → Type 0
-HatFlags certificate e flags = Flags flags (HatBelow certificate e (size (termOf e)))
-
 -- The entries of a term, or none: a rule's premise.
 pub record Entries (e : List ℕ) : Type 0 where
   pub some-term : ¬ (length e ≡ 0) → Begins e
@@ -108,44 +148,83 @@ pub record OpenEntry (certificate : Certificate) (e : List ℕ) (k : ℕ) : Type
   pub some-entry : ¬ (length e ≡ 0)
   pub isOpen : OpenBelow certificate e (size (termOf e)) k
 
--- The flags are on at the open places of the term, if there is one.
-abbrev pub OpenFlags : Certificate → List ℕ → List ℕ → Type 0
-OpenFlags certificate e flags = Flags flags (OpenEntry certificate e)
+-- P holds of the subterm at an open entry.
+pub record OpenHolds (certificate : Certificate) (e : List ℕ) (P : Term Variable → Type 0) : Type 0 where
+  pub number : ℕ
+  pub isOpen : OpenEntry certificate e number
+  pub holds : P (subAt e number)
 
--- What a search through the open entries asks for.
-pub record Opened (e opened : List ℕ) : Type 0 where
+-- The flags are on at the wanted entries that are open as far as the first n entries go; at those that are open.
+pub record OpenAmong (certificate : Certificate) (e wanted : List ℕ) (n : ℕ) (flags : List ℕ) : Type 0 where
+  pub long : length flags ≡ 64
+  pub on : (k : ℕ) → On flags k ↔ (On wanted k × OpenBelow certificate e n k)
+
+pub record OpenFlags (certificate : Certificate) (e wanted flags : List ℕ) : Type 0 where
+  pub long : length flags ≡ 64
+  pub on : (k : ℕ) → On flags k ↔ (On wanted k × OpenEntry certificate e k)
+
+-- What a search through flagged entries asks for.
+pub record Flagged (e flags : List ℕ) : Type 0 where
   pub entries : Entries e
-  pub long : length opened ≡ 64
-  pub within : (k : ℕ) → On opened k → 4 * k < length e
+  pub long : length flags ≡ 64
+  pub within : (k : ℕ) → On flags k → 4 * k < length e
 
--- Entry k is open, and P holds of the subterm there.
-pub record OpenWith (e opened : List ℕ) (P : Term Variable → Type 0) (k : ℕ) : Type 0 where
-  pub on : On opened k
+-- Entry k is flagged, and P holds of the subterm there.
+pub record FlaggedWith (e flags : List ℕ) (P : Term Variable → Type 0) (k : ℕ) : Type 0 where
+  pub on : On flags k
   pub holds : P (subAt e k)
 
-pub record SomeOpen (e opened : List ℕ) (P : Term Variable → Type 0) : Type 0 where
+pub record SomeFlagged (e flags : List ℕ) (P : Term Variable → Type 0) : Type 0 where
   pub number : ℕ
-  pub is : OpenWith e opened P number
+  pub is : FlaggedWith e flags P number
+
+-- A table of the flagged entries by the slots of their roots: a slot has the number of a flagged entry, counted from 1, and
+-- the slot of each flagged entry has one. (Of those below n: as far as it is filled in.)
+pub record IndexedBelow (e flags : List ℕ) (n : ℕ) (index : List ℕ) : Type 0 where
+  pub long : length index ≡ 400
+  pub points : (s : ℕ) → ¬ (getD index s 0 ≡ 0) → On flags (getD index s 0 - 1)
+  pub noted : (k : ℕ) → k < n → On flags k → ¬ (getD index (slotAt (from (4 * k) e)) 0 ≡ 0)
+
+abbrev pub Indexed : List ℕ → List ℕ → List ℕ → Type 0
+Indexed e flags index = IndexedBelow e flags 64 index
+
+-- Entry k of the conclusion is risky.
+pub record RiskyEntry (certificate : Certificate) (e : List ℕ) (k : ℕ) : Type 0 where
+  pub inside : 4 * k < length e
+  pub risky : Risky certificate (subAt e k)
+
+-- Whether entry k of the premise is open matters: a listed secret stands there, or a risky subterm of the conclusion.
+pub data Wanted (certificate : Certificate) (premise conclusion risky : List ℕ) (k : ℕ) : Type 0 where
+  isSecret : IsSecret certificate (subAt premise k) → Wanted certificate premise conclusion risky k
+  isRisky : SomeFlagged conclusion risky (λ s. s ≡ subAt premise k) → Wanted certificate premise conclusion risky k
+
+pub record WantedEntry (certificate : Certificate) (premise conclusion risky : List ℕ) (k : ℕ) : Type 0 where
+  pub inside : 4 * k < length premise
+  pub wanted : Wanted certificate premise conclusion risky k
 
 -- Entry k of the conclusion is covered if it is risky.
-pub record FineEntry (certificate : Certificate) (premise opened conclusion cover : List ℕ) (k : ℕ) : Type 0 where
-  pub covered : Risky certificate (subAt conclusion k) → On cover k ⊎ SomeOpen premise opened (λ s. s ≡ subAt conclusion k)
+pub record FineEntry (certificate : Certificate) (premise conclusion : List ℕ) (k : ℕ) : Type 0 where
+  pub covered : Risky certificate (subAt conclusion k)
+      → HatBelow certificate conclusion (size (termOf conclusion)) k ⊎ OpenHolds certificate premise (λ s. s ≡ subAt conclusion k)
 
--- What the walk over the conclusion asks for.
-pub record Judging (file premise opened conclusion cover : List ℕ) : Type 0 where
+-- What the walks over a rule's conclusion ask for.
+pub record Concluded (file e : List ℕ) : Type 0 where
   pub laid : Laid file
-  pub premise-opened : Opened premise opened
-  pub term : Begins conclusion
-  pub whole : 4 * size (termOf conclusion) ≡ length conclusion
-  pub short : length conclusion ≤ 252
-  pub long : length cover ≡ 64
+  pub term : Begins e
+  pub whole : 4 * size (termOf e) ≡ length e
+  pub short : length e ≤ 252
 
 -- The block before block i is a rule.
 pub record AfterRule (file : List ℕ) (i : ℕ) : Type 0 where
   pub behind : 1 ≤ i
   pub rule : kindOf (blockAt file (i - 1)) ≡ 5
 
--- What is known of flags before block i is judged: they say P of a part of the block before it, if that is a rule.
-pub record Before (part : List ℕ → List ℕ) (P : List ℕ → List ℕ → Type 0) (file : List ℕ) (i : ℕ) (flags : List ℕ) : Type 0 where
-  pub long : length flags ≡ 64
-  pub known : AfterRule file i → P (part (blockAt file (i - 1))) flags
+-- Block i has the same part as the rule before it.
+pub record Repeats (part : List ℕ → List ℕ) (file : List ℕ) (i : ℕ) : Type 0 where
+  pub after : AfterRule file i
+  pub same : part (blockAt file (i - 1)) ≡ part (blockAt file i)
+
+-- What is remembered before block i is judged: it is about a part of the block before it, if that is a rule.
+pub record Before (part : List ℕ → List ℕ) (P : Term Variable → Type 0) (file : List ℕ) (i : ℕ) (memo : List ℕ) : Type 0 where
+  pub long : length memo ≡ 64
+  pub known : AfterRule file i → Remembered P (part (blockAt file (i - 1))) memo

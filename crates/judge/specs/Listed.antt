@@ -56,6 +56,10 @@ unfoldable pub shares-listed? : (c : Certificate) (kind : ℕ) (t : Term Variabl
 unfolding any-listed? shares?
 shares-listed? c kind t = any-listed? c kind (λ p. shares? p t)
 
+-- A bad pattern shares an instance with the term.
+abbrev pub SharesBad : Certificate → Term Variable → Type 0
+SharesBad c t = SharesListed c 4 t
+
 -- The term, symbol for symbol, is a listed secret.
 abbrev pub IsSecret : Certificate → Term Variable → Type 0
 IsSecret c t = AnyListed c 2 (λ p. p ≡ t)
@@ -78,13 +82,14 @@ pub record Searching (file : List ℕ) (kind : ℕ) (e : List ℕ) : Type 0 wher
   pub short : length e ≤ 252
 
 -- The slot of a root, by its tag, its value and the value of the entry after it. Atoms, pairs and encryptions have 128
--- slots each, by the root's value; for a pair by that of its left half's root, which is the entry after it.
+-- slots each, by the root's value; for a pair by that of its left half's root, which is the entry after it. Variables have
+-- 16.
 unfoldable pub slotBy : ℕ → ℕ → ℕ → ℕ
 slotBy zero n left = n % 128
 slotBy (suc zero) n left = n % 128
 slotBy (suc (suc zero)) n left = 128 + left % 128
 slotBy (suc (suc (suc zero))) n left = 256 + n % 128
-slotBy (suc (suc (suc (suc tag)))) n left = n % 128
+slotBy (suc (suc (suc (suc tag)))) n left = 384 + n % 16
 
 abbrev pub slotAt : List ℕ → ℕ
 slotAt e = slotBy (tagAt e) (valueAt e) (valueAt (drop 4 e))
@@ -95,13 +100,13 @@ FlaggedAt roots e = getD roots (slotAt e) 0 ≡ 1
 
 -- Flags stay, and the root of block i's term is flagged if it is a secret's.
 pub record FlaggedMore (file : List ℕ) (i : ℕ) (old new : List ℕ) : Type 0 where
-  pub long : length new ≡ 384
+  pub long : length new ≡ 400
   pub kept : (k : ℕ) → getD old k 0 ≡ 1 → getD new k 0 ≡ 1
   pub here : kindOf (blockAt file i) ≡ 2 → FlaggedAt new (firstEntries (blockAt file i))
 
 -- The root of every secret is flagged.
 pub record RootsOf (file roots : List ℕ) : Type 0 where
-  pub long : length roots ≡ 384
+  pub long : length roots ≡ 400
   pub flagged : (i : ℕ) → i < blockCount file → kindOf (blockAt file i) ≡ 2 → FlaggedAt roots (firstEntries (blockAt file i))
 
 -- The term that e begins with has a symbol as its root, and so has the left half of a pair, and no secret has that slot.

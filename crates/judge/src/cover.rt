@@ -1,34 +1,31 @@
 // Number 12, on the entries of a rule: entry k stands at the k-th place, and the subterm there is the part from it on.
 ghost use mathlib.Core.Path.{_≡_};
-ghost use Prim.Native.Nat.{_*_, _<_, _≤_};
-ghost use lib.ListN.{length};
+ghost use mathlib.Core.Bool.{true};
+ghost use Prim.Native.Nat.{_+_, _*_, _<_, _≤_};
+ghost use lib.ListN.{length, getD};
 ghost use Rattle.blocks.specs.Block.{firstEntries, secondEntries};
 ghost use Rattle.terms.specs.Entry.{Begins, termOf, size};
 ghost use Rattle.terms.specs.Instance.{Matches};
 ghost use Rattle.terms.specs.Solve.{Says};
-ghost use Rattle.terms.specs.First.{FirstNot};
+ghost use Rattle.terms.specs.TermGraph.{SizedFrom};
 ghost use Rattle.judge.specs.File.{blockCount, certificateOf, ruleOf};
 ghost use Rattle.judge.specs.Laid.{Laid, RuleBlock};
 ghost use Rattle.judge.specs.Cover.{NoHat, Risky};
 ghost use Rattle.judge.specs.Verdict as verdicts;
-ghost use Rattle.judge.specs.Listed.{HoldsAt, AnyListed, Searching, IsSecret, RootsOf};
-ghost use Rattle.judge.specs.CoverEntries.{subAt, Painted, Raised, MarkOver, Laying, Standing, HatOver, Flags};
-ghost use Rattle.judge.specs.CoverEntries.{HatFlags, Entries, OpenBelow, OpenFlags, Opened, OpenWith, SomeOpen, ClosedBelow, FineEntry, Judging};
+ghost use Rattle.judge.specs.Listed.{HoldsAt, AnyListed, Searching, IsSecret, SharesBad, RootsOf, slotAt};
+ghost use Rattle.judge.specs.CoverEntries.{subAt, On, Raised, Cleared, MarkOver, Laying, Standing, HatOver, HatBelow, Flags, Entries, OpenAmong, OpenFlags};
+ghost use Rattle.judge.specs.CoverEntries.{ClosedBelow, Flagged, FlaggedWith, SomeFlagged, IndexedBelow, Indexed, Remembered, RiskyEntry, Wanted, WantedEntry, Concluded};
+use crate::flag;
 use crate::listed;
 use terms::entry;
 use terms::matching;
 use terms::valid::Found;
 
-// Gives the flags from `low` up to `high` this value.
-fn paint(flags: &mut [u8; 64], low: usize, high: usize, value: u8)
-    requires { ⌜ (length (now flags) ≡ 64) × (low ≤ high) × (high ≤ 64) ⌝ }
-    ensures { λ _. ⌜ Painted (now (flags .entry)) (now (flags .exit)) low high value ⌝ }
+// A byte, wider.
+fn wide(x: u8) -> usize
+    ensures { λ r. ⌜ (r ≡ x) × (r ≤ 255) ⌝ }
 {
-    let mut k = low;
-    while k < high {
-        flags[k] = value;
-        k += 1;
-    }
+    x as usize
 }
 
 // Lays the pattern p on the term at entry h: every entry at or below one of its marks is covered.
@@ -45,7 +42,7 @@ fn mark_cover(p: &[u8], e: &[u8], h: usize, cover: &mut [u8; 64])
     } else if tag == 3 {
         mark_cover(&p[4..], e, h + 1, cover);
     } else if tag == 5 {
-        paint(cover, h, h + entry::term_size(&e[4 * h..]), 1);
+        flag::paint(cover, h, h + entry::term_size(&e[4 * h..]), 1);
     }
 }
 
@@ -78,31 +75,79 @@ fn lay_goods(file: &[u8], e: &[u8], h: usize, cover: &mut [u8; 64])
     }
 }
 
-// Covers the entries for which the term at entry h is a sure hat.
-fn lay_hat(file: &[u8], e: &[u8], h: usize, cover: &mut [u8; 64])
-    requires { ⌜ Standing (now file) (now e) h × (length (now cover) ≡ 64) ⌝ }
-    ensures { λ _. ⌜ Raised (now (cover .entry)) (now (cover .exit)) (HatOver (certificateOf (now (file .entry))) (subAt (now (e .entry)) h) h) ⌝ }
+// The entries at or below a mark of a good pattern that matches the term at entry h.
+fn marked_places(file: &[u8], e: &[u8], h: usize) -> [u8; 64]
+    requires { ⌜ Standing (now file) (now e) h ⌝ }
+    ensures { λ r. ⌜ Flags r (λ k. AnyListed (certificateOf (now (file .entry))) 3 (λ p. Matches p (subAt (now (e .entry)) h) × MarkOver p (subAt (now (e .entry)) h) h k)) ⌝ }
+{
+    let mut marked = [0u8; 64];
+    lay_goods(file, e, h, &mut marked);
+    marked
+}
+
+// Does the encryption at entry h share an instance with a bad pattern? The answer is remembered.
+fn shares_bad(file: &[u8], e: &[u8], h: usize, shared: &mut [u8; 64]) -> bool
+    requires { ⌜ Standing (now file) (now e) h × Remembered (SharesBad (certificateOf (now file))) (now e) (now shared) ⌝ }
+    ensures answer { λ r. ⌜ Says r (SharesBad (certificateOf (now (file .entry))) (subAt (now (e .entry)) h)) ⌝ }
+    ensures memo { λ _. ⌜ Remembered (SharesBad (certificateOf (now (file .entry)))) (now (e .entry)) (now (shared .exit)) ⌝ }
+{
+    let known = shared[h];
+    if known == 1 {
+        return true;
+    }
+    if known == 2 {
+        return false;
+    }
+    let answer = listed::shares_listed(file, 4, &e[4 * h..]);
+    shared[h] = flag::told(answer);
+    answer
+}
+
+// Puts the flags off for which the encryption at entry h is a sure hat.
+fn take_hat(file: &[u8], e: &[u8], h: usize, shared: &mut [u8; 64], bare: &mut [u8; 64])
+    requires { ⌜ Standing (now file) (now e) h × Remembered (SharesBad (certificateOf (now file))) (now e) (now shared) × (length (now bare) ≡ 64) ⌝ }
+    ensures memo { λ _. ⌜ Remembered (SharesBad (certificateOf (now (file .entry)))) (now (e .entry)) (now (shared .exit)) ⌝ }
+    ensures flags { λ _. ⌜ Cleared (now (bare .entry)) (now (bare .exit)) (HatOver (certificateOf (now (file .entry))) (subAt (now (e .entry)) h) h) ⌝ }
+{
+    if !shares_bad(file, e, h, shared) {
+        let marked = marked_places(file, e, h);
+        flag::clear(bare, &marked);
+    }
+}
+
+// The same for any entry h: only an encryption with flags on below it is asked. `z` has the sizes.
+fn take_below(
+    file: &[u8],
+    e: &[u8],
+    z: &[u8; 128],
+    h: usize,
+    shared: &mut [u8; 64],
+    bare: &mut [u8; 64],
+)
+    requires { ⌜ Standing (now file) (now e) h × SizedFrom (now e) (now z) 0 0 × Remembered (SharesBad (certificateOf (now file))) (now e) (now shared) × (length (now bare) ≡ 64) ⌝ }
+    ensures memo { λ _. ⌜ Remembered (SharesBad (certificateOf (now (file .entry)))) (now (e .entry)) (now (shared .exit)) ⌝ }
+    ensures flags { λ _. ⌜ Cleared (now (bare .entry)) (now (bare .exit)) (HatOver (certificateOf (now (file .entry))) (subAt (now (e .entry)) h) h) ⌝ }
 {
     if e[4 * h] == 3 {
-        if !listed::shares_listed(file, 4, &e[4 * h..]) {
-            lay_goods(file, e, h, cover);
+        if flag::some_on(bare, h + 1, entry::end_of(e, z, h)) {
+            take_hat(file, e, h, shared, bare);
         }
     }
 }
 
-// The entries of e's term for which there is a sure hat.
-pub fn sure_hats(file: &[u8], e: &[u8]) -> [u8; 64]
-    requires { ⌜ Laid (now file) × Begins (now e) × (length (now e) ≤ 252) × (4 * size (termOf (now e)) ≡ length (now e)) ⌝ }
-    ensures { λ r. ⌜ HatFlags (certificateOf (now (file .entry))) (now (e .entry)) r ⌝ }
+// Puts the flags off for which there is a sure hat.
+fn take_hats(file: &[u8], e: &[u8], shared: &mut [u8; 64], bare: &mut [u8; 64])
+    requires { ⌜ Concluded (now file) (now e) × Remembered (SharesBad (certificateOf (now file))) (now e) (now shared) × (length (now bare) ≡ 64) ⌝ }
+    ensures memo { λ _. ⌜ Remembered (SharesBad (certificateOf (now (file .entry)))) (now (e .entry)) (now (shared .exit)) ⌝ }
+    ensures flags { λ _. ⌜ Cleared (now (bare .entry)) (now (bare .exit)) (HatBelow (certificateOf (now (file .entry))) (now (e .entry)) (size (termOf (now (e .entry))))) ⌝ }
 {
-    let mut cover = [0u8; 64];
+    let z = entry::sizes(e);
     let count = e.len() / 4;
     let mut h = 0;
     while h < count {
-        lay_hat(file, e, h, &mut cover);
+        take_below(file, e, &z, h, shared, bare);
         h += 1;
     }
-    cover
 }
 
 // Is the term such that an open place may have it above?
@@ -117,66 +162,107 @@ fn no_hat(file: &[u8], t: &[u8]) -> bool
     }
 }
 
-// Closes the entries strictly below entry h, if it is an encryption that no open place may have above it.
-fn close_below(file: &[u8], e: &[u8], h: usize, opened: &mut [u8; 64])
-    requires { ⌜ Standing (now file) (now e) h × (length (now opened) ≡ 64) ⌝ }
-    ensures { λ _. ⌜ ClosedBelow (certificateOf (now (file .entry))) (now (opened .entry)) (now (opened .exit)) (now (e .entry)) h ⌝ }
+// The same of the encryption at entry h. The answer is remembered.
+fn no_hat_at(file: &[u8], e: &[u8], h: usize, above: &mut [u8; 64]) -> bool
+    requires { ⌜ Standing (now file) (now e) h × Remembered (NoHat (certificateOf (now file))) (now e) (now above) ⌝ }
+    ensures answer { λ r. ⌜ Says r (NoHat (certificateOf (now (file .entry))) (subAt (now (e .entry)) h)) ⌝ }
+    ensures memo { λ _. ⌜ Remembered (NoHat (certificateOf (now (file .entry)))) (now (e .entry)) (now (above .exit)) ⌝ }
+{
+    let known = above[h];
+    if known == 1 {
+        return true;
+    }
+    if known == 2 {
+        return false;
+    }
+    let answer = no_hat(file, &e[4 * h..]);
+    above[h] = flag::told(answer);
+    answer
+}
+
+// Closes the entries strictly below the encryption at entry h, if no open place may have it above, up to the end of its term.
+fn close_under(
+    file: &[u8],
+    e: &[u8],
+    h: usize,
+    end: usize,
+    above: &mut [u8; 64],
+    opened: &mut [u8; 64],
+)
+    requires { ⌜ Standing (now file) (now e) h × Remembered (NoHat (certificateOf (now file))) (now e) (now above) × (length (now opened) ≡ 64) × (getD (now e) (4 * h) 0 ≡ 3) × (end ≡ h + size (subAt (now e) h)) ⌝ }
+    ensures memo { λ _. ⌜ Remembered (NoHat (certificateOf (now (file .entry)))) (now (e .entry)) (now (above .exit)) ⌝ }
+    ensures flags { λ _. ⌜ ClosedBelow (certificateOf (now (file .entry))) (now (opened .entry)) (now (opened .exit)) (now (e .entry)) h ⌝ }
+{
+    if !no_hat_at(file, e, h, above) {
+        flag::paint(opened, h + 1, end, 0);
+    }
+}
+
+// The same for any entry h: only an encryption with flags on below it is asked. `z` has the sizes.
+fn close_below(
+    file: &[u8],
+    e: &[u8],
+    z: &[u8; 128],
+    h: usize,
+    above: &mut [u8; 64],
+    opened: &mut [u8; 64],
+)
+    requires { ⌜ Standing (now file) (now e) h × SizedFrom (now e) (now z) 0 0 × Remembered (NoHat (certificateOf (now file))) (now e) (now above) × (length (now opened) ≡ 64) ⌝ }
+    ensures memo { λ _. ⌜ Remembered (NoHat (certificateOf (now (file .entry)))) (now (e .entry)) (now (above .exit)) ⌝ }
+    ensures flags { λ _. ⌜ ClosedBelow (certificateOf (now (file .entry))) (now (opened .entry)) (now (opened .exit)) (now (e .entry)) h ⌝ }
 {
     if e[4 * h] == 3 {
-        let t = &e[4 * h..];
-        if !no_hat(file, t) {
-            paint(opened, h + 1, h + entry::term_size(t), 0);
+        let end = entry::end_of(e, z, h);
+        if flag::some_on(opened, h + 1, end) {
+            close_under(file, e, h, end, above, opened);
         }
     }
 }
 
-// Closes what is not open among the entries of e's term.
-fn close_places(file: &[u8], e: &[u8], opened: &mut [u8; 64])
-    requires { ⌜ Laid (now file) × Begins (now e) × (length (now e) ≤ 252) × Flags (now opened) (OpenBelow (certificateOf (now file)) (now e) 0) × (4 * size (termOf (now e)) ≡ length (now e)) ⌝ }
-    ensures { λ _. ⌜ Flags (now (opened .exit)) (OpenBelow (certificateOf (now (file .entry))) (now (e .entry)) (size (termOf (now (e .entry))))) ⌝ }
+// Puts the flags off of the entries that are not open places of e's term.
+fn close_places(file: &[u8], e: &[u8], above: &mut [u8; 64], opened: &mut [u8; 64])
+    requires { ⌜ Concluded (now file) (now e) × Remembered (NoHat (certificateOf (now file))) (now e) (now above) × Flagged (now e) (now opened) ⌝ }
+    ensures memo { λ _. ⌜ Remembered (NoHat (certificateOf (now (file .entry)))) (now (e .entry)) (now (above .exit)) ⌝ }
+    ensures flags { λ _. ⌜ OpenAmong (certificateOf (now (file .entry))) (now (e .entry)) (now (opened .entry)) (size (termOf (now (e .entry)))) (now (opened .exit)) ⌝ }
 {
+    let z = entry::sizes(e);
     let count = e.len() / 4;
     let mut h = 0;
     while h < count {
-        close_below(file, e, h, opened);
+        close_below(file, e, &z, h, above, opened);
         h += 1;
     }
 }
 
-// The entries of e's term that are open places; none where there is no term.
-pub fn open_places(file: &[u8], e: &[u8]) -> [u8; 64]
-    requires { ⌜ Laid (now file) × Entries (now e) ⌝ }
-    ensures { λ r. ⌜ OpenFlags (certificateOf (now (file .entry))) (now (e .entry)) r ⌝ }
+// Of the wanted entries of e's term, those that are open places.
+fn open_places(file: &[u8], e: &[u8], above: &mut [u8; 64], wanted: [u8; 64]) -> [u8; 64]
+    requires { ⌜ Laid (now file) × Flagged (now e) wanted × Remembered (NoHat (certificateOf (now file))) (now e) (now above) ⌝ }
+    ensures memo { λ _. ⌜ Remembered (NoHat (certificateOf (now (file .entry)))) (now (e .entry)) (now (above .exit)) ⌝ }
+    ensures flags { λ r. ⌜ OpenFlags (certificateOf (now (file .entry))) (now (e .entry)) wanted r ⌝ }
 {
-    let mut opened = [0u8; 64];
-    if e.len() != 0 {
-        paint(&mut opened, 0, e.len() / 4, 1);
-        close_places(file, e, &mut opened);
+    let mut opened = wanted;
+    if flag::some_on(&opened, 0, 64) {
+        close_places(file, e, above, &mut opened);
     }
     opened
 }
 
-// Is entry k open, and a listed secret there?
-fn secret_at(file: &[u8], roots: &[u8; 384], e: &[u8], opened: &[u8; 64], k: usize) -> bool
-    requires { ⌜ Laid (now file) × Opened (now e) (now opened) × (4 * k < length (now e)) × RootsOf (now file) (now roots) ⌝ }
-    ensures { λ r. ⌜ Says r (OpenWith (now (e .entry)) (now (opened .entry)) (IsSecret (certificateOf (now (file .entry)))) k) ⌝ }
+// Is entry k flagged, and a listed secret there?
+fn secret_at(file: &[u8], roots: &[u8; 400], e: &[u8], opened: &[u8; 64], k: usize) -> bool
+    requires { ⌜ Laid (now file) × Flagged (now e) (now opened) × (4 * k < length (now e)) × RootsOf (now file) (now roots) ⌝ }
+    ensures { λ r. ⌜ Says r (FlaggedWith (now (e .entry)) (now (opened .entry)) (IsSecret (certificateOf (now (file .entry)))) k) ⌝ }
 {
     if opened[k] == 1 {
-        let t = &e[4 * k..];
-        if listed::may_be_secret(roots, t) {
-            listed::is_listed_secret(file, t)
-        } else {
-            false
-        }
+        is_secret(file, roots, &e[4 * k..])
     } else {
         false
     }
 }
 
-// Does a listed secret stand at an open entry?
-fn is_dead(file: &[u8], roots: &[u8; 384], e: &[u8], opened: &[u8; 64]) -> bool
-    requires { ⌜ Laid (now file) × Opened (now e) (now opened) × RootsOf (now file) (now roots) ⌝ }
-    ensures { λ r. ⌜ Says r (SomeOpen (now (e .entry)) (now (opened .entry)) (IsSecret (certificateOf (now (file .entry))))) ⌝ }
+// Does a listed secret stand at a flagged entry?
+fn is_dead(file: &[u8], roots: &[u8; 400], e: &[u8], opened: &[u8; 64]) -> bool
+    requires { ⌜ Laid (now file) × Flagged (now e) (now opened) × RootsOf (now file) (now roots) ⌝ }
+    ensures { λ r. ⌜ Says r (SomeFlagged (now (e .entry)) (now (opened .entry)) (IsSecret (certificateOf (now (file .entry))))) ⌝ }
 {
     let mut k = 0;
     while 4 * k < e.len() {
@@ -188,26 +274,26 @@ fn is_dead(file: &[u8], roots: &[u8; 384], e: &[u8], opened: &[u8; 64]) -> bool
     false
 }
 
-// Is entry k open, and the term t there?
-fn same_at(e: &[u8], opened: &[u8; 64], k: usize, t: &[u8]) -> bool
-    requires { ⌜ Opened (now e) (now opened) × (4 * k < length (now e)) × Begins (now t) ⌝ }
-    ensures { λ r. ⌜ Says r (OpenWith (now (e .entry)) (now (opened .entry)) (λ s. s ≡ termOf (now (t .entry))) k) ⌝ }
+// Is entry k flagged, and the term t there?
+fn same_at(e: &[u8], flags: &[u8; 64], k: usize, t: &[u8]) -> bool
+    requires { ⌜ Flagged (now e) (now flags) × (4 * k < length (now e)) × Begins (now t) ⌝ }
+    ensures { λ r. ⌜ Says r (FlaggedWith (now (e .entry)) (now (flags .entry)) (λ s. s ≡ termOf (now (t .entry))) k) ⌝ }
 {
-    if opened[k] == 1 {
+    if flags[k] == 1 {
         matching::same(&e[4 * k..], t)
     } else {
         false
     }
 }
 
-// Does the term t, symbol for symbol, stand at an open entry?
-fn stands_open(e: &[u8], opened: &[u8; 64], t: &[u8]) -> bool
-    requires { ⌜ Opened (now e) (now opened) × Begins (now t) ⌝ }
-    ensures { λ r. ⌜ Says r (SomeOpen (now (e .entry)) (now (opened .entry)) (λ s. s ≡ termOf (now (t .entry)))) ⌝ }
+// Does the term t, symbol for symbol, stand at a flagged entry? All are asked.
+fn stands_among(e: &[u8], flags: &[u8; 64], t: &[u8]) -> bool
+    requires { ⌜ Flagged (now e) (now flags) × Begins (now t) ⌝ }
+    ensures { λ r. ⌜ Says r (SomeFlagged (now (e .entry)) (now (flags .entry)) (λ s. s ≡ termOf (now (t .entry)))) ⌝ }
 {
     let mut k = 0;
     while 4 * k < e.len() {
-        if same_at(e, opened, k, t) {
+        if same_at(e, flags, k, t) {
             return true;
         }
         k += 1;
@@ -215,85 +301,209 @@ fn stands_open(e: &[u8], opened: &[u8; 64], t: &[u8]) -> bool
     false
 }
 
+// Notes entry k in the table of the flagged entries, if it is flagged.
+fn note(e: &[u8], flags: &[u8; 64], k: usize, index: &mut [u8; 400])
+    requires { ⌜ Flagged (now e) (now flags) × (4 * k < length (now e)) × IndexedBelow (now e) (now flags) k (now index) ⌝ }
+    ensures { λ _. ⌜ IndexedBelow (now (e .entry)) (now (flags .entry)) (k + 1) (now (index .exit)) ⌝ }
+{
+    if flags[k] == 1 {
+        index[listed::root_slot(&e[4 * k..])] = (k + 1) as u8;
+    }
+}
+
+// The flagged entries by the slots of their roots, counted from 1.
+fn index_of(e: &[u8], flags: &[u8; 64]) -> [u8; 400]
+    requires { ⌜ Flagged (now e) (now flags) ⌝ }
+    ensures { λ r. ⌜ Indexed (now (e .entry)) (now (flags .entry)) r ⌝ }
+{
+    let mut index = [0u8; 400];
+    let count = e.len() / 4;
+    let mut k = 0;
+    while k < count {
+        note(e, flags, k, &mut index);
+        k += 1;
+    }
+    index
+}
+
+// Does the term t, symbol for symbol, stand at a flagged entry? Most are found, or not, at the entry of their slot.
+fn stands_at(e: &[u8], flags: &[u8; 64], index: &[u8; 400], t: &[u8]) -> bool
+    requires { ⌜ Flagged (now e) (now flags) × Indexed (now e) (now flags) (now index) × Begins (now t) ⌝ }
+    ensures { λ r. ⌜ Says r (SomeFlagged (now (e .entry)) (now (flags .entry)) (λ s. s ≡ termOf (now (t .entry)))) ⌝ }
+{
+    let n = wide(index[listed::root_slot(t)]);
+    if n == 0 {
+        return false;
+    }
+    if matching::same(&e[4 * (n - 1)..], t) {
+        return true;
+    }
+    stands_among(e, flags, t)
+}
+
+// Is the term a listed secret?
+fn is_secret(file: &[u8], roots: &[u8; 400], t: &[u8]) -> bool
+    requires { ⌜ Searching (now file) 2 (now t) × RootsOf (now file) (now roots) ⌝ }
+    ensures { λ r. ⌜ Says r (IsSecret (certificateOf (now (file .entry))) (termOf (now (t .entry)))) ⌝ }
+{
+    if listed::may_be_secret(roots, t) {
+        listed::is_listed_secret(file, t)
+    } else {
+        false
+    }
+}
+
 // Is the term a variable, or does it share an instance with a secret?
-fn is_risky(file: &[u8], roots: &[u8; 384], t: &[u8]) -> bool
+fn is_risky(file: &[u8], roots: &[u8; 400], t: &[u8]) -> bool
     requires { ⌜ Searching (now file) 2 (now t) × RootsOf (now file) (now roots) ⌝ }
     ensures { λ r. ⌜ Says r (Risky (certificateOf (now (file .entry))) (termOf (now (t .entry)))) ⌝ }
 {
     if t[0] > 3 {
         true
     } else if listed::may_be_secret(roots, t) {
-        listed::shares_listed(file, 2, t)
+        listed::shares_secret(file, t)
     } else {
         false
     }
 }
 
-// Is entry k of the conclusion covered if it is risky?
-fn is_fine(
+// The risky entries of a conclusion.
+fn risky_places(file: &[u8], roots: &[u8; 400], e: &[u8]) -> [u8; 64]
+    requires { ⌜ Concluded (now file) (now e) × RootsOf (now file) (now roots) ⌝ }
+    ensures { λ r. ⌜ Flags r (RiskyEntry (certificateOf (now (file .entry))) (now (e .entry))) ⌝ }
+{
+    let mut risky = [0u8; 64];
+    let count = e.len() / 4;
+    let mut k = 0;
+    while k < count {
+        risky[k] = flag::flag_of(is_risky(file, roots, &e[4 * k..]));
+        k += 1;
+    }
+    risky
+}
+
+// Has neither table anything for the slot of the term's root?
+fn is_absent(roots: &[u8; 400], index: &[u8; 400], t: &[u8]) -> bool
+    requires { ⌜ (length (now roots) ≡ 400) × (length (now index) ≡ 400) × Begins (now t) ⌝ }
+    ensures { λ r. ⌜ (r ≡ true → (getD (now (roots .entry)) (slotAt (now (t .entry))) 0 ≡ 0) × (getD (now (index .entry)) (slotAt (now (t .entry))) 0 ≡ 0)) ⌝ }
+{
+    let n = listed::root_slot(t);
+    if roots[n] == 0 { index[n] == 0 } else { false }
+}
+
+// Does it matter whether entry k of the premise is open?
+fn is_wanted(
     file: &[u8],
-    roots: &[u8; 384],
+    roots: &[u8; 400],
     premise: &[u8],
-    opened: &[u8; 64],
     conclusion: &[u8],
-    cover: &[u8; 64],
+    risky: &[u8; 64],
+    index: &[u8; 400],
     k: usize,
 ) -> bool
-    requires { ⌜ Judging (now file) (now premise) (now opened) (now conclusion) (now cover) × (4 * k < length (now conclusion)) × RootsOf (now file) (now roots) ⌝ }
-    ensures { λ r. ⌜ Says r (FineEntry (certificateOf (now (file .entry))) (now (premise .entry)) (now (opened .entry)) (now (conclusion .entry)) (now (cover .entry)) k) ⌝ }
+    requires { ⌜ Laid (now file) × Entries (now premise) × (4 * k < length (now premise)) × Flagged (now conclusion) (now risky) × RootsOf (now file) (now roots)
+        × Indexed (now conclusion) (now risky) (now index) ⌝ }
+    ensures { λ r. ⌜ Says r (Wanted (certificateOf (now (file .entry))) (now (premise .entry)) (now (conclusion .entry)) (now (risky .entry)) k) ⌝ }
 {
-    if cover[k] == 1 {
-        return true;
+    let t = &premise[4 * k..];
+    if is_absent(roots, index, t) {
+        return false;
     }
-    let t = &conclusion[4 * k..];
-    if is_risky(file, roots, t) {
-        stands_open(premise, opened, t)
-    } else {
+    if is_secret(file, roots, t) {
         true
+    } else {
+        stands_at(conclusion, risky, index, t)
     }
 }
 
-// The first entry of the conclusion that is risky and not covered.
-fn first_uncovered(
+// The entries of the premise for which it matters.
+fn wanted_places(
     file: &[u8],
-    roots: &[u8; 384],
+    roots: &[u8; 400],
+    premise: &[u8],
+    conclusion: &[u8],
+    risky: &[u8; 64],
+) -> [u8; 64]
+    requires { ⌜ Laid (now file) × Entries (now premise) × Flagged (now conclusion) (now risky) × RootsOf (now file) (now roots) ⌝ }
+    ensures { λ r. ⌜ Flags r (WantedEntry (certificateOf (now (file .entry))) (now (premise .entry)) (now (conclusion .entry)) (now (risky .entry))) ⌝ }
+{
+    let index = index_of(conclusion, risky);
+    let mut wanted = [0u8; 64];
+    let count = premise.len() / 4;
+    let mut k = 0;
+    while k < count {
+        wanted[k] = flag::flag_of(is_wanted(file, roots, premise, conclusion, risky, &index, k));
+        k += 1;
+    }
+    wanted
+}
+
+// Is entry k of the conclusion flagged, and its subterm at a flagged entry of the premise?
+fn is_open(
     premise: &[u8],
     opened: &[u8; 64],
     conclusion: &[u8],
-    cover: &[u8; 64],
-) -> Found
-    requires { ⌜ Judging (now file) (now premise) (now opened) (now conclusion) (now cover) × RootsOf (now file) (now roots) ⌝ }
-    ensures { λ r. ⌜ FirstNot (FineEntry (certificateOf (now (file .entry))) (now (premise .entry)) (now (opened .entry)) (now (conclusion .entry)) (now (cover .entry)))
-        (size (termOf (now (conclusion .entry)))) r ⌝ }
+    risky: &[u8; 64],
+    index: &[u8; 400],
+    k: usize,
+) -> bool
+    requires { ⌜ Flagged (now premise) (now opened) × Flagged (now conclusion) (now risky) × (4 * k < length (now conclusion))
+        × Indexed (now premise) (now opened) (now index) ⌝ }
+    ensures { λ r. ⌜ Says r (On (now (risky .entry)) k × SomeFlagged (now (premise .entry)) (now (opened .entry)) (λ s. s ≡ subAt (now (conclusion .entry)) k)) ⌝ }
 {
+    if risky[k] == 1 {
+        stands_at(premise, opened, index, &conclusion[4 * k..])
+    } else {
+        false
+    }
+}
+
+// Of the flagged entries of the conclusion, those whose subterm stands at no flagged entry of the premise.
+fn bare_places(premise: &[u8], opened: &[u8; 64], conclusion: &[u8], risky: &[u8; 64]) -> [u8; 64]
+    requires { ⌜ Flagged (now premise) (now opened) × Flagged (now conclusion) (now risky) ⌝ }
+    ensures { λ r. ⌜ Cleared (now (risky .entry)) r (λ k. SomeFlagged (now (premise .entry)) (now (opened .entry)) (λ s. s ≡ subAt (now (conclusion .entry)) k)) ⌝ }
+{
+    let index = index_of(premise, opened);
+    let mut bare = *risky;
     let count = conclusion.len() / 4;
     let mut k = 0;
     while k < count {
-        if !is_fine(file, roots, premise, opened, conclusion, cover, k) {
-            return Found::At(k);
-        }
+        bare[k] = flag::put_off(
+            bare[k],
+            is_open(premise, opened, conclusion, risky, &index, k),
+        );
         k += 1;
     }
-    Found::Nothing
+    bare
 }
 
-// The first place of a rule's conclusion that is risky and not covered; nothing where the rule is dead. The roots of the
-// secrets, the premise's open places and the conclusion's sure hats come flagged.
+// The first place of a rule's conclusion that is risky and not covered; nothing where the rule is dead. Only what matters is
+// asked: whether an entry of the premise is open if a secret or a risky subterm stands there, and whether there is a sure
+// hat for a risky entry that stands at no open place. The roots of the secrets come flagged, and what is known of the
+// encryptions of the premise and the conclusion is handed in and on.
 pub fn uncovered(
     file: &[u8],
-    roots: &[u8; 384],
-    opened: &[u8; 64],
-    hats: &[u8; 64],
+    roots: &[u8; 400],
+    above: &mut [u8; 64],
+    shared: &mut [u8; 64],
     block: &[u8],
 ) -> Found
     requires { ⌜ Laid (now file) × RuleBlock (now block) × RootsOf (now file) (now roots)
-        × OpenFlags (certificateOf (now file)) (firstEntries (now block)) (now opened) × HatFlags (certificateOf (now file)) (secondEntries (now block)) (now hats) ⌝ }
-    ensures { λ r. ⌜ r ≡ verdicts.uncovered (certificateOf (now (file .entry))) (ruleOf (now (block .entry))) ⌝ }
+        × Remembered (NoHat (certificateOf (now file))) (firstEntries (now block)) (now above)
+        × Remembered (SharesBad (certificateOf (now file))) (secondEntries (now block)) (now shared) ⌝ }
+    ensures premise { λ _. ⌜ Remembered (NoHat (certificateOf (now (file .entry)))) (firstEntries (now (block .entry))) (now (above .exit)) ⌝ }
+    ensures conclusion { λ _. ⌜ Remembered (SharesBad (certificateOf (now (file .entry)))) (secondEntries (now (block .entry))) (now (shared .exit)) ⌝ }
+    ensures answer { λ r. ⌜ r ≡ verdicts.uncovered (certificateOf (now (file .entry))) (ruleOf (now (block .entry))) ⌝ }
 {
     let premise = blocks::first_entries(block);
-    if is_dead(file, roots, premise, opened) {
+    let conclusion = blocks::second_entries(block);
+    let risky = risky_places(file, roots, conclusion);
+    let wanted = wanted_places(file, roots, premise, conclusion, &risky);
+    let opened = open_places(file, premise, above, wanted);
+    if is_dead(file, roots, premise, &opened) {
         return Found::Nothing;
     }
-    let conclusion = blocks::second_entries(block);
-    first_uncovered(file, roots, premise, opened, conclusion, hats)
+    let mut bare = bare_places(premise, &opened, conclusion, &risky);
+    take_hats(file, conclusion, shared, &mut bare);
+    flag::first_on(&bare, conclusion.len() / 4)
 }

@@ -1,15 +1,18 @@
 // The verdict of a file: numbers 1 to 12 in document 01's order.
 ghost use mathlib.Core.Path.{_≡_};
 ghost use Prim.Native.Nat.{_+_, _<_};
-ghost use Rattle.blocks.specs.Block.{firstEntries, secondEntries};
+ghost use Rattle.blocks.specs.Block.{blockAt, kindOf, firstEntries, secondEntries};
 ghost use Rattle.terms.specs.Solve.{Says};
-ghost use Rattle.judge.specs.File.{blockCount, certificateOf};
+ghost use Rattle.judge.specs.File.{blockCount, certificateOf, ruleOf};
 ghost use Rattle.judge.specs.Laid.{Laid};
 ghost use Rattle.judge.specs.Judgement.{judgedOf, OnlyRulesFrom, Heads};
-ghost use Rattle.judge.specs.Listed.{RootsOf};
-ghost use Rattle.judge.specs.CoverEntries.{HatFlags, OpenFlags, AfterRule, Before};
+ghost use Rattle.judge.specs.Cover.{NoHat};
+ghost use Rattle.judge.specs.Listed.{RootsOf, SharesBad};
+ghost use Rattle.judge.specs.CoverEntries.{AfterRule, Before, Repeats};
+ghost use Rattle.judge.specs.Verdict as verdicts;
 ghost use Rattle.judge.specs.Verdict.{onKind, uncoveredRule, ruleFault, certificateFault, faultOf, verdictOf};
 use crate::cover;
+use crate::flag;
 use crate::layout;
 use crate::layout::Judged;
 use crate::listed;
@@ -60,65 +63,75 @@ fn is_after_rule(file: &[u8], i: usize) -> bool
     blocks::kind(blocks::block(file, i - 1)) == 5
 }
 
-// The open places of block i's premise, if it is a rule: those of the rule before it, if the premise is the same.
-fn opened_at(file: &[u8], head: &[u8], i: usize, opened: [u8; 64]) -> [u8; 64]
-    requires { ⌜ Laid (now file) × (i < blockCount (now file)) × Laid (now head) × Before firstEntries (OpenFlags (certificateOf (now head))) (now file) i opened ⌝ }
-    ensures { λ r. ⌜ Before firstEntries (OpenFlags (certificateOf (now (head .entry)))) (now (file .entry)) (i + 1) r ⌝ }
+// Has rule i the premise of the rule before it?
+fn repeats_premise(file: &[u8], i: usize) -> bool
+    requires { ⌜ Laid (now file) × (i < blockCount (now file)) × (kindOf (blockAt (now file) i) ≡ 5) ⌝ }
+    ensures { λ r. ⌜ Says r (Repeats firstEntries (now (file .entry)) i) ⌝ }
 {
-    let block = blocks::block(file, i);
-    if blocks::kind(block) != 5 {
-        return opened;
-    }
-    let premise = blocks::first_entries(block);
     if is_after_rule(file, i) {
         let before = blocks::first_entries(blocks::block(file, i - 1));
-        if same_bytes(before, premise) {
-            return opened;
-        }
+        same_bytes(before, blocks::first_entries(blocks::block(file, i)))
+    } else {
+        false
     }
-    cover::open_places(head, premise)
 }
 
-// The entries of block i's conclusion for which there is a sure hat, if it is a rule: those of the rule before it, if the
-// conclusion is the same.
-fn hats_at(file: &[u8], head: &[u8], i: usize, hats: [u8; 64]) -> [u8; 64]
-    requires { ⌜ Laid (now file) × (i < blockCount (now file)) × Laid (now head) × Before secondEntries (HatFlags (certificateOf (now head))) (now file) i hats ⌝ }
-    ensures { λ r. ⌜ Before secondEntries (HatFlags (certificateOf (now (head .entry)))) (now (file .entry)) (i + 1) r ⌝ }
+// Has rule i the conclusion of the rule before it?
+fn repeats_conclusion(file: &[u8], i: usize) -> bool
+    requires { ⌜ Laid (now file) × (i < blockCount (now file)) × (kindOf (blockAt (now file) i) ≡ 5) ⌝ }
+    ensures { λ r. ⌜ Says r (Repeats secondEntries (now (file .entry)) i) ⌝ }
 {
-    let block = blocks::block(file, i);
-    if blocks::kind(block) != 5 {
-        return hats;
-    }
-    let conclusion = blocks::second_entries(block);
     if is_after_rule(file, i) {
         let before = blocks::second_entries(blocks::block(file, i - 1));
-        if same_bytes(before, conclusion) {
-            return hats;
-        }
+        same_bytes(before, blocks::second_entries(blocks::block(file, i)))
+    } else {
+        false
     }
-    cover::sure_hats(head, conclusion)
 }
 
-// Number 12 at block i, if it is a rule: its first place that is risky and not covered. What the file lists is read from
-// its head.
+// Number 12 at rule i: its first place that is risky and not covered. What the file lists is read from its head. What was
+// found for the encryptions of a premise or a conclusion serves again where the next rule has the same.
+fn uncovered_in(
+    file: &[u8],
+    head: &[u8],
+    roots: &[u8; 400],
+    above: &mut [u8; 64],
+    shared: &mut [u8; 64],
+    i: usize,
+) -> Found
+    requires { ⌜ Laid (now file) × (i < blockCount (now file)) × (kindOf (blockAt (now file) i) ≡ 5) × Laid (now head) × RootsOf (now head) (now roots)
+        × Before firstEntries (NoHat (certificateOf (now head))) (now file) i (now above)
+        × Before secondEntries (SharesBad (certificateOf (now head))) (now file) i (now shared) ⌝ }
+    ensures answer { λ r. ⌜ r ≡ verdicts.uncovered (certificateOf (now (head .entry))) (ruleOf (blockAt (now (file .entry)) i)) ⌝ }
+    ensures premise { λ _. ⌜ Before firstEntries (NoHat (certificateOf (now (head .entry)))) (now (file .entry)) (i + 1) (now (above .exit)) ⌝ }
+    ensures conclusion { λ _. ⌜ Before secondEntries (SharesBad (certificateOf (now (head .entry)))) (now (file .entry)) (i + 1) (now (shared .exit)) ⌝ }
+{
+    flag::renew(above, repeats_premise(file, i));
+    flag::renew(shared, repeats_conclusion(file, i));
+    cover::uncovered(head, roots, above, shared, blocks::block(file, i))
+}
+
+// Number 12 at block i, if it is a rule.
 fn uncovered_at(
     file: &[u8],
     head: &[u8],
-    roots: &[u8; 384],
-    opened: &[u8; 64],
-    hats: &[u8; 64],
+    roots: &[u8; 400],
+    above: &mut [u8; 64],
+    shared: &mut [u8; 64],
     i: usize,
 ) -> Judged
     requires { ⌜ Laid (now file) × (i < blockCount (now file)) × Heads (now head) (now file) × RootsOf (now head) (now roots)
-        × Before firstEntries (OpenFlags (certificateOf (now head))) (now file) (i + 1) (now opened)
-        × Before secondEntries (HatFlags (certificateOf (now head))) (now file) (i + 1) (now hats) ⌝ }
-    ensures { λ r. ⌜ r ≡ judgedOf (onKind 5 (uncoveredRule (certificateOf (now (file .entry)))) (now (file .entry)) i) ⌝ }
+        × Before firstEntries (NoHat (certificateOf (now head))) (now file) i (now above)
+        × Before secondEntries (SharesBad (certificateOf (now head))) (now file) i (now shared) ⌝ }
+    ensures answer { λ r. ⌜ r ≡ judgedOf (onKind 5 (uncoveredRule (certificateOf (now (file .entry)))) (now (file .entry)) i) ⌝ }
+    ensures premise { λ _. ⌜ Before firstEntries (NoHat (certificateOf (now (head .entry)))) (now (file .entry)) (i + 1) (now (above .exit)) ⌝ }
+    ensures conclusion { λ _. ⌜ Before secondEntries (SharesBad (certificateOf (now (head .entry)))) (now (file .entry)) (i + 1) (now (shared .exit)) ⌝ }
 {
     let block = blocks::block(file, i);
     if blocks::kind(block) != 5 {
         return Judged::Fine;
     }
-    match cover::uncovered(head, roots, opened, hats, block) {
+    match uncovered_in(file, head, roots, above, shared, i) {
         Found::At(k) => Judged::Faulty(Fault::Uncovered(
             i as u8,
             (blocks::first_count(block) + k) as u8,
@@ -136,13 +149,11 @@ fn rule_fault(file: &[u8]) -> Judged
     let head = &file[0..512 * n];
     let roots = listed::secret_roots(head);
     let count = file.len() / 512;
-    let mut opened = [0u8; 64];
-    let mut hats = [0u8; 64];
+    let mut above = [0u8; 64];
+    let mut shared = [0u8; 64];
     let mut i = 0;
     while i < count {
-        opened = opened_at(file, head, i, opened);
-        hats = hats_at(file, head, i, hats);
-        match uncovered_at(file, head, &roots, &opened, &hats, i) {
+        match uncovered_at(file, head, &roots, &mut above, &mut shared, i) {
             Judged::Faulty(f) => return Judged::Faulty(f),
             Judged::Fine => i += 1,
         }

@@ -2,6 +2,7 @@
 pub mod answer;
 pub mod checking;
 mod cover;
+mod flag;
 pub mod judging;
 mod layout;
 pub mod line;

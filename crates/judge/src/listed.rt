@@ -144,25 +144,59 @@ pub fn is_listed_secret(file: &[u8], e: &[u8]) -> bool
     false
 }
 
+// Is block i a secret's, and its secret an instance of e's term? A secret has no variables: they then share it.
+fn instance_at(file: &[u8], i: usize, e: &[u8]) -> bool
+    requires { ⌜ Searching (now file) 2 (now e) × (i < blockCount (now file)) ⌝ }
+    ensures { λ r. ⌜ Says r (HoldsAt (now (file .entry)) 2 (λ p. Share p (termOf (now (e .entry)))) i) ⌝ }
+{
+    if is_kind(file, i, 2) {
+        matching::matches(e, term_at(file, i))
+    } else {
+        false
+    }
+}
+
+// Does a listed secret share an instance with the term that e begins with? Asked from the first block to the first of a
+// higher kind.
+pub fn shares_secret(file: &[u8], e: &[u8]) -> bool
+    requires { ⌜ Searching (now file) 2 (now e) ⌝ }
+    ensures { λ r. ⌜ r ≡ answer (shares-listed? (certificateOf (now (file .entry))) 2 (termOf (now (e .entry)))) ⌝ }
+{
+    let count = file.len() / 512;
+    let mut i = 0;
+    while i < count {
+        if instance_at(file, i, e) {
+            return true;
+        }
+        if 2 < kind_at(file, i) {
+            return false;
+        }
+        i += 1;
+    }
+    false
+}
+
 // The slot of the root of the term that e begins with. Atoms, pairs and encryptions have 128 slots each, by the root's
-// value; a pair's value is always 0, so its left half's root is asked instead.
-fn root_slot(e: &[u8]) -> usize
+// value; a pair's value is always 0, so its left half's root is asked instead. Variables have 16.
+pub fn root_slot(e: &[u8]) -> usize
     requires { ⌜ Begins (now e) ⌝ }
-    ensures { λ r. ⌜ (r ≡ slotAt (now (e .entry))) × (r < 384) ⌝ }
+    ensures { λ r. ⌜ (r ≡ slotAt (now (e .entry))) × (r < 400) ⌝ }
 {
     let tag = e[0];
     if tag == 2 {
         128 + entry::value(&e[4..]) % 128
     } else if tag == 3 {
         256 + entry::value(e) % 128
+    } else if 3 < tag {
+        384 + entry::value(e) % 16
     } else {
         entry::value(e) % 128
     }
 }
 
 // Flags the root of block i's term, if it is a secret's.
-fn flag_root(file: &[u8], i: usize, roots: &mut [u8; 384])
-    requires { ⌜ Laid (now file) × (i < blockCount (now file)) × (length (now roots) ≡ 384) ⌝ }
+fn flag_root(file: &[u8], i: usize, roots: &mut [u8; 400])
+    requires { ⌜ Laid (now file) × (i < blockCount (now file)) × (length (now roots) ≡ 400) ⌝ }
     ensures { λ _. ⌜ FlaggedMore (now (file .entry)) i (now (roots .entry)) (now (roots .exit)) ⌝ }
 {
     if is_kind(file, i, 2) {
@@ -172,11 +206,11 @@ fn flag_root(file: &[u8], i: usize, roots: &mut [u8; 384])
 }
 
 // The roots of all secrets, flagged.
-pub fn secret_roots(file: &[u8]) -> [u8; 384]
+pub fn secret_roots(file: &[u8]) -> [u8; 400]
     requires { ⌜ Laid (now file) ⌝ }
     ensures { λ r. ⌜ RootsOf (now (file .entry)) r ⌝ }
 {
-    let mut roots = [0u8; 384];
+    let mut roots = [0u8; 400];
     let count = file.len() / 512;
     let mut i = 0;
     while i < count {
@@ -188,8 +222,8 @@ pub fn secret_roots(file: &[u8]) -> [u8; 384]
 
 // Might the term that e begins with be a secret or share an instance with one? A variable might, and a pair whose left
 // half is one; any other term if a secret's root has its slot.
-pub fn may_be_secret(roots: &[u8; 384], e: &[u8]) -> bool
-    requires { ⌜ (length (now roots) ≡ 384) × Begins (now e) ⌝ }
+pub fn may_be_secret(roots: &[u8; 400], e: &[u8]) -> bool
+    requires { ⌜ (length (now roots) ≡ 400) × Begins (now e) ⌝ }
     ensures { λ r. ⌜ (r ≡ false → NoRoot (now (roots .entry)) (now (e .entry))) ⌝ }
 {
     let tag = e[0];

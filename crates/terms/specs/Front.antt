@@ -2,6 +2,7 @@
 use mathlib.Core.Path.{_≡_}
 use mathlib.Core.Bool.{Bool, true, false}
 use mathlib.Core.List.{List, [], map}
+use mathlib.Core.Logic.{_↔_}
 use mathlib.Core.Option.{Option, none, some}
 use Prim.Native.Nat.{ℕ, _+_, _*_, _-_, _<_, _≤_}
 use lib.Dec.{ltb}
@@ -34,6 +35,27 @@ pub record SameFirst (e f : List ℕ) : Type 0 where
   pub tag : tagAt e ≡ tagAt f
   pub value : valueAt e ≡ valueAt f
 
+-- Replacements make the first n terms of both the same.
+pub record Unified (n : ℕ) (e f : List ℕ) : Type 0 where
+  pub by : Variable → Term Variable
+  pub by′ : Variable → Term Variable
+  pub same : map (replace by) (frontOf n e) ≡ map (replace by′) (frontOf n f)
+
+-- With `need` terms to compare, the first `count` entries of both are the same symbols; behind them `left` terms are left.
+pub record Ran (need : ℕ) (e f : List ℕ) (count left : ℕ) : Type 0 where
+  pub inside : 4 * count ≤ length e
+  pub other-inside : 4 * count ≤ length f
+  pub front : Front left (from (4 * count) e)
+  pub other-front : Front left (from (4 * count) f)
+  pub takes : (by : Variable → Term Variable) → Takes by need e f ↔ Takes by left (from (4 * count) e) (from (4 * count) f)
+  pub unified : Unified need e f → Unified left (from (4 * count) e) (from (4 * count) f)
+
+-- It goes on: a term is left, and both go on with the same symbol.
+pub record Goes (e f : List ℕ) (count left : ℕ) : Type 0 where
+  pub some-left : ¬ (left ≡ 0)
+  pub symbol : tagAt (from (4 * count) e) ≤ 3
+  pub same : SameFirst (from (4 * count) e) (from (4 * count) f)
+
 -- The slot of a variable that is a term: 0 to 7 plain, 8 to 15 marked; 16 for any other term.
 unfoldable pub slotOf : Term Variable → ℕ
 slotOf (variable (plain x)) = x
@@ -41,11 +63,6 @@ slotOf (variable (marked x)) = 8 + x
 slotOf (atom a) = 16
 slotOf (pair t u) = 16
 slotOf (encrypted k t) = 16
-
--- One begins with a symbol, and the other with another entry.
-pub record ClashFirst (e f : List ℕ) : Type 0 where
-  pub symbol : 16 ≤ slotOf (termOf e)
-  pub other : ¬ SameFirst e f
 
 -- The variable of a slot.
 abbrev pub inHalf : Bool → ℕ → Variable

@@ -11,15 +11,16 @@ use borrow.Author.Tests.{eqb-true, eqb-false}
 use lib.ListN.{length, take, drop, length-drop}
 use lib.Seq.{drop-drop}
 use borrow.Rule.Slice.PartAt.{part-to-end}
-use Rattle.terms.specs.Term.{Term, Variable, variable, atom, pair, encrypted, plain, marked, replace}
+use Rattle.terms.specs.Term.{Term, Variable, variable, atom, pair, encrypted, plain, marked, replace, asTerm}
 use Rattle.terms.specs.Entry.{Symbol, atomSymbol, pairSymbol, encryptionSymbol, variableSymbol, tagOf, valueOf, before, termOf, tagAt, valueAt}
 use Rattle.terms.specs.Entry.{size, childrenOf, Reads, Begins}
 use Rattle.terms.specs.EntryLaws.{First, first-atom, first-pair, first-encrypted, first-plain, first-marked, first, none≢some, termOf-reads}
 use Rattle.terms.specs.EntryLaws.{past, fits, begins, size-positive}
 use Rattle.terms.specs.WalkLaws.{from}
-use Rattle.terms.specs.Occurs.{replace-none}
+use Rattle.terms.specs.Instance.{Share}
+use Rattle.terms.specs.Occurs.{replace-none, replace-twice}
 use Rattle.terms.specs.Solve.{Says, says-same}
-use Rattle.terms.specs.Front.{frontOf, listOf, SameFirst, Front, Takes}
+use Rattle.terms.specs.Front.{Unified, frontOf, listOf, SameFirst, Front, Takes}
 
 -- A part's part is a part.
 pub from-from : (a b : ℕ) (e : List ℕ) → from a (from b e) ≡ from (b + a) e
@@ -226,6 +227,46 @@ module _ (need : ℕ) {e f : List ℕ} (left : Front need e) (right : Front need
       let is : o .symbol ≡ u .symbol = cc (h .same) in
       off (record { tag = cc; value = cc })
 
+-- A term against a term, and then the others, with replacements on both sides.
+pub unified-past : (need : ℕ) {e f : List ℕ} → Front need e → Front need f → ¬ (need ≡ 0) → Unified need e f
+    → Unified (need - 1) (from (4 * size (termOf e)) e) (from (4 * size (termOf f)) f)
+unified-past need left right some-left h =
+    let a = parted need left some-left .splits in
+    let b = parted need right some-left .splits in
+    let q = rw (a, b) at (h .same) in
+    record { by = h .by; by′ = h .by′; same = cc }
+
+-- The same for replacements on both sides.
+module _ (need : ℕ) {e f : List ℕ} (left : Front need e) (right : Front need f) (some-left : ¬ (need ≡ 0))
+    (keeps : (by : Variable → Term Variable) → KeepsFirst by e) (keeps′ : (by : Variable → Term Variable) → KeepsFirst by f) where
+  made : (by : Variable → Term Variable) → before (opened need left some-left .symbol) (map (replace by) (frontOf (next need e) (from 4 e)))
+      ≡ some (map (replace by) (frontOf need e))
+  made by = let o = opened need left some-left in before-replaced by (o .symbol) (kept o (parted need left some-left) (keeps by)) _ (o .makes)
+
+  made′ : (by : Variable → Term Variable) → before (opened need right some-left .symbol) (map (replace by) (frontOf (next need f) (from 4 f)))
+      ≡ some (map (replace by) (frontOf need f))
+  made′ by = let o = opened need right some-left in before-replaced by (o .symbol) (kept o (parted need right some-left) (keeps′ by)) _ (o .makes)
+
+  pub unified-symbol : SameFirst e f → Unified need e f → Unified (next need e) (from 4 e) (from 4 f)
+  unified-symbol first-same h = record {
+    by = h .by;
+    by′ = h .by′;
+    same = let o = opened need left some-left in let u = opened need right some-left in
+        let a = before-shows (o .symbol) _ (made (h .by)) .1 in
+        let b = before-shows (u .symbol) _ (made′ (h .by′)) .1 in
+        let tags = first-same .tag in
+        rw (tags) (rw tags at (sym a) ∙ ap after (h .same) ∙ b);
+  }
+
+  pub unified-other : ¬ SameFirst e f → ¬ Unified need e f
+  unified-other off h =
+      let o = opened need left some-left in
+      let u = opened need right some-left in
+      let a = before-shows (o .symbol) _ (made (h .by)) .0 in
+      let b = before-shows (u .symbol) _ (made′ (h .by′)) .0 in
+      let is : o .symbol ≡ u .symbol = cc (h .same) in
+      off (record { tag = cc; value = cc })
+
 -- No term is left.
 pub none-left : {need : ℕ} (by : Variable → Term Variable) (e f : List ℕ) → need ≡ 0 → Takes by need e f
 unfolding frontOf
@@ -240,6 +281,23 @@ pub one-term : {e f : List ℕ} → Begins e → Begins f → (by : Variable →
 one-term b d by =
     let n = next-term 1 (front-few b (omega arith)) (front-few d (omega arith)) (omega arith) by in
     (λ h. n .0 h .0, λ h. n .1 (h, none-left by _ _ refl))
+
+-- Terms that share an instance are made the same.
+one-front : {e : List ℕ} → Begins e → frontOf 1 e ≡ termOf e ∷ []
+one-front b = rw (front-reads (b .reads), termOf-reads (b .reads)) refl
+
+pub share-unified : {e f : List ℕ} → Begins e → Begins f → Share (termOf e) (termOf f) → Unified 1 e f
+unfolding asTerm
+share-unified {e} {f} b d h =
+    let left : replace (λ x. asTerm (h .left .by x)) (termOf e) ≡ asTerm (h .message) =
+    sym (replace-twice (λ x. absurd x) (h .left .by) (termOf e)) ∙ ap asTerm (h .left .same) in
+    let right : replace (λ x. asTerm (h .right .by x)) (termOf f) ≡ asTerm (h .message) =
+    sym (replace-twice (λ x. absurd x) (h .right .by) (termOf f)) ∙ ap asTerm (h .right .same) in
+    record {
+      by = λ x. asTerm (h .left .by x);
+      by′ = λ x. asTerm (h .right .by x);
+      same = rw (one-front b, one-front d) (ap (λ (t : Term Variable). t ∷ []) (left ∙ sym right));
+    }
 
 -- Each variable replaced by itself: the terms are the same.
 pub same-term : {e f : List ℕ} → Begins e → Begins f → Takes variable 1 e f ↔ (termOf e ≡ termOf f)

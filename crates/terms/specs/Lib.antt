@@ -35,6 +35,7 @@ pub mod TermLaws
 pub mod Front
 pub mod FrontLaws
 pub mod MatchLaws
+pub mod RunLaws
 -- Sharing on entries: two terms as one graph, classes of its nodes, and the test that every way down ends.
 pub mod Graph
 pub mod GraphLaws

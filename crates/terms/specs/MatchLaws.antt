@@ -18,9 +18,9 @@ use Rattle.terms.specs.EntryLaws.{First, first-atom, first-pair, first-e
 use Rattle.terms.specs.WalkLaws.{from}
 use Rattle.terms.specs.Solve.{Says, says-same}
 use Rattle.terms.specs.Decide.{answer, yes-of, no-of, says-answer, variable?, term?, match?}
-use Rattle.terms.specs.Front.{Front, Takes, slotOf, inSlot, inHalf, Bound, Agrees, SameFirst, ClashFirst, Comparable, Bindable, Ready, Made}
+use Rattle.terms.specs.Front.{Front, Takes, slotOf, inSlot, inHalf, Bound, Agrees, SameFirst, Comparable, Bindable, Ready, Made}
 use Rattle.terms.specs.FrontLaws.{from-from, from-length, front-begins, parted, opened, next, next-term, next-symbol, other-symbol, KeepsFirst}
-use Rattle.terms.specs.FrontLaws.{none-left, front-few, one-term, same-term, same-below, same-step, same-clash}
+use Rattle.terms.specs.FrontLaws.{none-left, front-few, one-term, same-term}
 
 -- The slot of a term that stands first, by its tag and value.
 pub record Slotted (tag n : ℕ) (t : Term Variable) : Type 0 where
@@ -73,13 +73,18 @@ slot-first {e} b = go (first (b .reads))
     go (first-plain g n q k) = rw (termOf-reads (rw q at (b .reads)), g) (plain-slotted (valueAt e) n)
     go (first-marked g n q k) = rw (termOf-reads (rw q at (b .reads)), g) (marked-slotted (valueAt e) n)
 
+-- A symbol stands first: it is no variable.
+pub symbol-slot : {e : List ℕ} → Begins e → tagAt e ≤ 3 → (x : Variable) → ¬ (termOf e ≡ variable x)
+symbol-slot {e} b low =
+    let none : 16 ≡ slotOf (termOf e) = slot-first b .no-slot (λ z. omega arith) (λ z. omega arith) in slot-first b .off-slot (omega arith)
+
 -- What the answer of a decision says.
 answered : {P : Type 0} (b : Bool) (d : Dec P) → b ≡ answer d → Says b P
 answered true d is = yes-of d (sym is)
 answered false d is = no-of d (sym is)
 
 -- Where every slot holds 255, nothing is bound.
-none-bound : (i : ℕ) → ¬ Bound (replicate 16 255) i
+pub none-bound : (i : ℕ) → ¬ Bound (replicate 16 255) i
 none-bound i h = h .1 (getD-replicate 16 i 255 0 (h .0))
 
 -- The replacement of the bindings.
@@ -264,17 +269,6 @@ module _ {p t bound : List ℕ} {at need : ℕ} (r : Ready p t at need bound) (s
     pub symbol-clash : ¬ SameFirst p (from (4 * at) t) → ¬ Made p t at need bound
     symbol-clash off m = other-symbol need (r .pattern) (r .subject) some-left (m .by) (keeps (m .by)) off (m .takes)
 
--- A pattern that begins with a symbol matches no term that begins with another entry.
-pub first-clash : {p t : List ℕ} → Begins p → Begins t → ClashFirst p t → ¬ Matches (termOf p) (termOf t)
-first-clash b d clash m =
-    other-symbol 1 (front-few b (omega arith)) (front-few d (omega arith)) (omega arith) (m .by)
-    (λ y is. absurd (slot-first b .off-slot (clash .symbol) y is)) (clash .other) (one-term b d (m .by) .1 (m .same))
-
--- As the code finds it.
-pub clash-told : {p t : List ℕ} → Begins p → Begins t → {x : ℕ} → x ≡ slotOf (termOf p) → 16 ≤ x → (b : Bool) → Says b (SameFirst p t) → Says (not b) (ClashFirst p t)
-clash-told begins begins′ slot high true same = λ clash. clash .other same
-clash-told begins begins′ slot high false off = record { symbol = rw slot at high; other = off }
-
 -- From the first entry on, with nothing bound: the pattern matches.
 from-none : (e : List ℕ) → from (4 * 0) e ≡ e
 from-none e = part-to-end e 0
@@ -299,21 +293,5 @@ pub match-answer : {p t : List ℕ} → Begins p → Begins t → (b : Bool) →
     → b ≡ answer (match? variable? variable? (termOf p) (termOf t))
 match-answer b d r says = let m = match-made b d in says-answer r (says-same r (m .0) (m .1) says) (match? variable? variable? _ _)
 
-same-answer : {e f : List ℕ} → Begins e → Begins f → (b : Bool) → Says b (Takes variable 1 e f) → b ≡ answer (term? variable? (termOf e) (termOf f))
+pub same-answer : {e f : List ℕ} → Begins e → Begins f → (b : Bool) → Says b (Takes variable 1 e f) → b ≡ answer (term? variable? (termOf e) (termOf f))
 same-answer b d r says = let m = same-term b d in says-answer r (says-same r (m .0) (m .1) says) (term? variable? _ _)
-
--- Terms that begin with the same entry are compared below it.
-module _ {e f : List ℕ} (left : Begins e) (right : Begins f) where
-  fronts : Front 1 e × Front 1 f
-  fronts = (front-few left (omega arith), front-few right (omega arith))
-
-  pub first-below : SameFirst e f → {k : ℕ} → k ≡ childrenOf (tagAt e) → Front k (from 4 e) × Front k (from 4 f)
-  first-below first-same {k} is = let none : 1 - 1 + k ≡ k = omega arith in rw none at (same-below fronts (omega arith) first-same is)
-
-  pub first-step : SameFirst e f → {k : ℕ} → k ≡ childrenOf (tagAt e) → (b : Bool) → Says b (Takes variable k (from 4 e) (from 4 f))
-      → b ≡ answer (term? variable? (termOf e) (termOf f))
-  first-step first-same {k} is b says =
-      let none : 1 - 1 + k ≡ k = omega arith in same-answer left right b (same-step fronts (omega arith) first-same is b (rw none says))
-
-  pub first-differs : ¬ SameFirst e f → false ≡ answer (term? variable? (termOf e) (termOf f))
-  first-differs off = same-answer left right false (same-clash fronts (omega arith) off)

@@ -1,11 +1,8 @@
 -- Two terms that begin with different symbols share no instance.
 use mathlib.Core.Path.{_≡_, sym, ap, _∙_}
-use mathlib.Core.Bool.{true, not, false≢true}
 use mathlib.Core.List.{List, _∷_}
 use Prim.Native.Nat.{ℕ, _≤_}
 use native.Mathlib.Omega.{arith}
-use lib.Dec.{eqb}
-use borrow.Author.Tests.{eq-eqb}
 use lib.ListN.{drop}
 use Rattle.terms.specs.Term.{Term, Message, Variable, atom, pair, encrypted, replace}
 use Rattle.terms.specs.Instance.{Share}
@@ -40,7 +37,3 @@ module _ {s t : List ℕ} (left : Begins s) (right : Begins t) (symbol : tagAt s
   pub values-apart : (valueAt s ≡ valueAt t → ⊥) → Share (termOf s) (termOf t) → ⊥
   values-apart off h = off
       (sym (root left .valued symbol (h .left .by)) ∙ ap number (h .left .same ∙ sym (h .right .same)) ∙ root right .valued other (h .right .by))
-
--- Two numbers that the code found to differ.
-pub told-apart : {a b x y : ℕ} → a ≡ x → b ≡ y → not (eqb a b) ≡ true → x ≡ y → ⊥
-told-apart {a} {b} p q e same = false≢true (sym (ap not (eq-eqb a b (p ∙ same ∙ sym q))) ∙ e)

@@ -321,6 +321,18 @@ module _ {e z : List ℕ} {base : ℕ} (k : ℕ) (b : Begins e) (short : length 
         small = omega arith;
       }
 
+-- A size that was read from the table is that of the part's term, and the term ends within the entries.
+pub sized-part : {e z : List ℕ} (h : ℕ) {n : ℕ} → SizedFrom e z 0 0 → Begins (from (4 * h) e) → n ≡ getD z h 0
+    → (n ≡ size (termOf (from (4 * h) e))) × (4 * (h + n) ≤ length e)
+sized-part {e} {z} h {n} sized b read =
+    let room = b .room in
+    let fit : 4 * (h + 1) ≤ length e = omega (arith, rw part-to-end at room, length-drop (4 * h) e) in
+    let is : n ≡ size (termOf (from (4 * h) e)) = rw part-to-end (read ∙ rw zero-add at (sized .at h (omega arith) fit)) in
+    let here : termOf (from (4 * h) e) ≡ b .term = termOf-reads (b .reads) in
+    let small : 4 * size (termOf (from (4 * h) e)) ≤ length (from (4 * h) e) = rw here (fits (b .term) (b .reads)) in
+    let long : length (from (4 * h) e) ≡ length e - 4 * h = rw part-to-end (length-drop (4 * h) e) in
+    (is, omega arith)
+
 -- The table before the last entry, and with one more.
 pub sized-none : {e z : List ℕ} (base : ℕ) {first : ℕ} → length z ≡ 128 → length e < 4 * (first + 1) → SizedFrom e z base first
 sized-none base long last = record { long = long; at = λ k low fit. absurd (omega arith) }

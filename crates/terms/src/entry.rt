@@ -1,8 +1,11 @@
 // The entries of a block as terms: four bytes an entry, parents before children, left before right.
 ghost use mathlib.Core.Path.{_≡_};
-ghost use Prim.Native.Nat.{_+_, _*_, _≤_};
+ghost use Prim.Native.Nat.{_+_, _*_, _≤_, _<_};
 ghost use lib.ListN.{length};
 ghost use Rattle.terms.specs.Entry.{Begins, termOf, size, childrenOf, valueAt};
+ghost use Rattle.terms.specs.TermGraph.{SizedFrom};
+ghost use Rattle.terms.specs.WalkLaws.{from};
+use crate::node::fill_sizes;
 
 // A byte, wider.
 fn wide(x: u8) -> usize
@@ -43,4 +46,22 @@ pub fn term_size(e: &[u8]) -> usize
     } else {
         1
     }
+}
+
+// For each entry, how many entries the term has that begins there.
+pub fn sizes(e: &[u8]) -> [u8; 128]
+    requires { ⌜ Begins (now e) × (length (now e) ≤ 252) ⌝ }
+    ensures { λ r. ⌜ SizedFrom (now (e .entry)) r 0 0 ⌝ }
+{
+    let mut z = [0u8; 128];
+    fill_sizes(e, &mut z, 0);
+    z
+}
+
+// The entry past the term at entry h, by the sizes.
+pub fn end_of(e: &[u8], z: &[u8; 128], h: usize) -> usize
+    requires { ⌜ SizedFrom (now e) (now z) 0 0 × Begins (from (4 * h) (now e)) × (4 * h < length (now e)) × (length (now e) ≤ 252) ⌝ }
+    ensures { λ r. ⌜ (r ≡ h + size (termOf (from (4 * h) (now (e .entry))))) × (4 * r ≤ length (now (e .entry))) ⌝ }
+{
+    h + wide(z[h])
 }

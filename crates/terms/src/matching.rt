@@ -1,12 +1,15 @@
 // Equality of terms, and matching of a pattern, each by a walk over the entries left.
 ghost use mathlib.Core.Path.{_≡_};
-ghost use Prim.Native.Nat.{_<_, _≤_};
+ghost use mathlib.Core.Bool.{true};
+ghost use Prim.Native.Nat.{_*_, _<_, _≤_};
 ghost use lib.ListN.{length, set};
 ghost use Rattle.terms.specs.Term.{variable};
 ghost use Rattle.terms.specs.Entry.{Begins, termOf};
+ghost use Rattle.terms.specs.Instance.{Share};
+ghost use Rattle.terms.specs.WalkLaws.{from};
 ghost use Rattle.terms.specs.Solve.{Says};
 ghost use Rattle.terms.specs.Decide.{answer, variable?, term?, match?};
-ghost use Rattle.terms.specs.Front.{slotOf, SameFirst, ClashFirst, Comparable, Bindable, Front, Takes, Ready, Made};
+ghost use Rattle.terms.specs.Front.{slotOf, SameFirst, Comparable, Bindable, Front, Takes, Ready, Made, Unified, Ran, Goes};
 use super::entry;
 
 // Do both begin with the same entry?
@@ -35,16 +38,87 @@ fn same_front(s: &[u8], t: &[u8], need: usize) -> bool
     }
 }
 
+// How far two terms begin with the same symbols, entry by entry, and how many terms are then left to compare.
+pub struct Run {
+    pub count: usize,
+    pub left: usize,
+}
+
+// Do both go on with the same symbol at entry k, with so many terms left?
+fn goes_on(p: &[u8], t: &[u8], k: usize, left: usize) -> bool
+    requires { ⌜ (4 * k ≤ length (now p)) × (4 * k ≤ length (now t)) × Front left (from (4 * k) (now p)) × Front left (from (4 * k) (now t)) ⌝ }
+    ensures { λ r. ⌜ Says r (Goes (now (p .entry)) (now (t .entry)) k left) ⌝ }
+{
+    if left == 0 {
+        return false;
+    }
+    if 3 < p[4 * k] {
+        return false;
+    }
+    same_entry(&p[4 * k..], &t[4 * k..])
+}
+
+// The symbols that both begin with, where the first `need` terms are compared.
+fn run_on(p: &[u8], t: &[u8], need: usize) -> Run
+    requires { ⌜ Front need (now p) × Front need (now t) ⌝ }
+    ensures ran { λ r. ⌜ Ran need (now (p .entry)) (now (t .entry)) (r .count) (r .left) ⌝ }
+    ensures stops { λ r. ⌜ ¬ Goes (now (p .entry)) (now (t .entry)) (r .count) (r .left) ⌝ }
+{
+    let mut k = 0;
+    let mut left = need;
+    while goes_on(p, t, k, left) {
+        left = left - 1 + entry::children(p[4 * k]);
+        k += 1;
+    }
+    Run {
+        count: k,
+        left: left,
+    }
+}
+
+// The symbols that both terms begin with.
+pub fn same_run(p: &[u8], t: &[u8]) -> Run
+    requires { ⌜ Begins (now p) × Begins (now t) ⌝ }
+    ensures ran { λ r. ⌜ Ran 1 (now (p .entry)) (now (t .entry)) (r .count) (r .left) ⌝ }
+    ensures stops { λ r. ⌜ ¬ Goes (now (p .entry)) (now (t .entry)) (r .count) (r .left) ⌝ }
+{
+    run_on(p, t, 1)
+}
+
+// Do the first `need` terms come to different symbols? Walked side by side; a variable on either side stands for what is
+// opposite to it.
+fn clashes(p: &[u8], t: &[u8], need: usize) -> bool
+    requires { ⌜ Front need (now p) × Front need (now t) ⌝ }
+    ensures { λ r. ⌜ (r ≡ true → ¬ Unified need (now (p .entry)) (now (t .entry))) ⌝ }
+{
+    let run = run_on(p, t, need);
+    let left = run.left;
+    if left == 0 {
+        return false;
+    }
+    let at = 4 * run.count;
+    let s = &p[at..];
+    let u = &t[at..];
+    if 3 < s[0] {
+        clashes(&s[4..], &u[4 * entry::term_size(u)..], left - 1)
+    } else if 3 < u[0] {
+        clashes(&s[4 * entry::term_size(s)..], &u[4..], left - 1)
+    } else {
+        true
+    }
+}
+
 // Are the terms that stand first the same, symbol for symbol? Most differ in their first entries.
 pub fn same(s: &[u8], t: &[u8]) -> bool
     requires { ⌜ Begins (now s) × Begins (now t) ⌝ }
     ensures { λ r. ⌜ r ≡ answer (term? variable? (termOf (now (s .entry))) (termOf (now (t .entry)))) ⌝ }
 {
-    if same_entry(s, t) {
-        same_front(&s[4..], &t[4..], entry::children(s[0]))
-    } else {
-        false
+    if !same_entry(s, t) {
+        return false;
     }
+    let run = same_run(s, t);
+    let at = 4 * run.count;
+    same_front(&s[at..], &t[at..], run.left)
 }
 
 // The slot of the variable that stands first: 0 to 7 plain, 8 to 15 marked; 16 where none does.
@@ -109,26 +183,48 @@ fn match_front(p: &[u8], t: &[u8], at: usize, need: usize, bound: [u8; 16]) -> b
     }
 }
 
-// Does p begin with a symbol, and t with another entry?
-fn clash_first(p: &[u8], t: &[u8]) -> bool
-    requires { ⌜ Begins (now p) × Begins (now t) ⌝ }
-    ensures { λ r. ⌜ Says r (ClashFirst (now (p .entry)) (now (t .entry))) ⌝ }
+// Do different symbols follow what both terms begin with?
+pub fn differs(p: &[u8], t: &[u8], run: Run) -> bool
+    requires { ⌜ Begins (now p) × Begins (now t) × (length (now t) ≤ 252) × Ran 1 (now p) (now t) (run .count) (run .left) × ¬ Goes (now p) (now t) (run .count) (run .left) ⌝ }
+    ensures { λ r. ⌜ (r ≡ true → ¬ Share (termOf (now (p .entry))) (termOf (now (t .entry)))) ⌝ }
 {
-    if slot(p) < 16 {
-        false
-    } else {
-        !same_entry(p, t)
+    if run.left == 0 {
+        return false;
     }
+    let at = 4 * run.count;
+    if 3 < p[at] {
+        return false;
+    }
+    t[at] <= 3
 }
 
-// Is the term the pattern with its variables replaced by terms? Most tests end at the first entries.
+// Do the terms come to different symbols, behind what both begin with?
+pub fn clashes_behind(p: &[u8], t: &[u8], run: Run) -> bool
+    requires { ⌜ Begins (now p) × Begins (now t) × Ran 1 (now p) (now t) (run .count) (run .left) ⌝ }
+    ensures { λ r. ⌜ (r ≡ true → ¬ Share (termOf (now (p .entry))) (termOf (now (t .entry)))) ⌝ }
+{
+    let at = 4 * run.count;
+    clashes(&p[at..], &t[at..], run.left)
+}
+
+// Is the term the pattern with its variables replaced by terms, behind what both begin with?
+pub fn matches_behind(p: &[u8], t: &[u8], run: Run) -> bool
+    requires { ⌜ Begins (now p) × Begins (now t) × (length (now t) ≤ 252) × Ran 1 (now p) (now t) (run .count) (run .left) ⌝ }
+    ensures { λ r. ⌜ r ≡ answer (match? variable? variable? (termOf (now (p .entry))) (termOf (now (t .entry)))) ⌝ }
+{
+    let at = run.count;
+    match_front(&p[4 * at..], t, at, run.left, [255; 16])
+}
+
+// Is the term the pattern with its variables replaced by terms? Most tests end where the two first differ.
 pub fn matches(p: &[u8], t: &[u8]) -> bool
     requires { ⌜ Begins (now p) × Begins (now t) × (length (now t) ≤ 252) ⌝ }
     ensures { λ r. ⌜ r ≡ answer (match? variable? variable? (termOf (now (p .entry))) (termOf (now (t .entry)))) ⌝ }
 {
-    if clash_first(p, t) {
+    let run = same_run(p, t);
+    if differs(p, t, run) {
         false
     } else {
-        match_front(p, t, 0, 1, [255; 16])
+        matches_behind(p, t, run)
     }
 }

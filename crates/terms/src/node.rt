@@ -73,7 +73,7 @@ fn size_by_children(e: &[u8], z: &[u8; 128], base: usize, k: usize) -> u8
 }
 
 // Fills in the sizes of the terms at e's entries, the last first, from node `base` on.
-fn fill_sizes(e: &[u8], z: &mut [u8; 128], base: usize)
+pub fn fill_sizes(e: &[u8], z: &mut [u8; 128], base: usize)
     requires { ⌜ Begins (now e) × (length (now e) ≤ 252) × (base ≤ 64) × (length (now z) ≡ 128) ⌝ }
     ensures { λ _. ⌜ graph.SizedFrom (now (e .entry)) (now (z .exit)) base 0 × graph.KeptBelow base (now (z .entry)) (now (z .exit)) ⌝ }
 {
@@ -85,13 +85,13 @@ fn fill_sizes(e: &[u8], z: &mut [u8; 128], base: usize)
 }
 
 // The sizes of the terms at the entries of both sides, so that the right half of a pair is found at once. A size of 0 says
-// that it is not in the table and is walked for: with at most 20 entries in s none is filled in, as walking is as fast.
+// that it is not in the table and is walked for: with few entries none is filled in, as walking is as fast.
 pub fn sizes(s: &[u8], t: &[u8]) -> [u8; 128]
     requires { ⌜ graph.TwoTerms (now s) (now t) ⌝ }
     ensures { λ r. ⌜ graph.Sizes (now (s .entry)) (now (t .entry)) r ⌝ }
 {
     let mut z = [0u8; 128];
-    if 80 < s.len() {
+    if 100 < s.len() + t.len() {
         fill_sizes(s, &mut z, 0);
         fill_sizes(t, &mut z, 64);
     }

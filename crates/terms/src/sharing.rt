@@ -2,8 +2,10 @@
 // messages are united; at the end every way down over the classes must come to an end. `z` is the table of sizes
 // (`node::sizes`).
 use crate::ending::is_finite;
-use crate::entry::value;
-use crate::matching::matches;
+use crate::matching::clashes_behind;
+use crate::matching::differs;
+use crate::matching::matches_behind;
+use crate::matching::same_run;
 use crate::node::byte_at;
 use crate::node::first_child;
 use crate::node::home;
@@ -220,23 +222,6 @@ fn meet_halves(s: &[u8], t: &[u8], c: &mut [u8; 256], z: &[u8; 128], i: usize, j
     }
 }
 
-// Both terms begin with a symbol, and not with the same one.
-fn roots_differ(s: &[u8], t: &[u8]) -> bool
-    requires { ⌜ TwoTerms (now s) (now t) ⌝ }
-    ensures { λ r. ⌜ (r ≡ true → Share (termOf (now (s .entry))) (termOf (now (t .entry))) → ⊥) ⌝ }
-{
-    if 3 < s[0] {
-        return false;
-    }
-    if 3 < t[0] {
-        return false;
-    }
-    if s[0] != t[0] {
-        return true;
-    }
-    value(s) != value(t)
-}
-
 // The classes of all nodes that must get equal messages, and whether every way down over them ends.
 fn shares_by_classes(s: &[u8], t: &[u8]) -> bool
     requires { ⌜ TwoTerms (now s) (now t) ⌝ }
@@ -252,15 +237,18 @@ fn shares_by_classes(s: &[u8], t: &[u8]) -> bool
 }
 
 // Two terms share an instance: some finite message is an instance of both, each term with variables of its own. Most
-// tests end at the roots, or as the second is the first with its variables replaced.
+// tests end where the two first differ, or as the second is the first with its variables replaced.
 pub fn shares(s: &[u8], t: &[u8]) -> bool
     requires { ⌜ TwoTerms (now s) (now t) ⌝ }
     ensures { λ r. ⌜ r ≡ answer (share? variable? variable? (termOf (now (s .entry))) (termOf (now (t .entry)))) ⌝ }
 {
-    if roots_differ(s, t) {
+    let run = same_run(s, t);
+    if differs(s, t, run) {
         false
-    } else if matches(s, t) {
+    } else if matches_behind(s, t, run) {
         true
+    } else if clashes_behind(s, t, run) {
+        false
     } else {
         shares_by_classes(s, t)
     }

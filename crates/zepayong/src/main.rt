@@ -1,13 +1,21 @@
-// The check program: reads a certificate from standard input, at most 32,769 bytes, and prints the verdict line.
+// The check program: reads a certificate from standard input, at most 32,769 bytes, and prints the verdict line. Input
+// that cannot be read to its end gets no verdict: half a file may be a right certificate.
+mod step;
+mod transfer;
+
+ghost use Rattle.zepayong.specs.Transfer.{Inside};
 use judge::judging::judge;
 use judge::line::print_line;
-use libc::STDIN_FILENO;
-use libc::STDOUT_FILENO;
+use transfer::Input;
+use transfer::read_all;
+use transfer::write_all;
 
 // Writes the line's first bytes.
 fn write_line(line: &[u8], count: usize) {
     if count <= line.len() {
-        io::write_all(STDOUT_FILENO, &line[0..count]);
+        if !write_all(&line[0..count]) {
+            os::fail(b"zepayong: the verdict line cannot be written");
+        }
     }
 }
 
@@ -18,8 +26,18 @@ fn answer(file: &[u8]) {
     write_line(&line, blocks::written(printed));
 }
 
+// Judges the bytes that came.
+fn answer_input(buf: &[u8], input: Input)
+    requires { ⌜ Inside input (now buf) ⌝ }
+{
+    match input {
+        Input::Came(count) => answer(&buf[..count]),
+        Input::Failed => os::fail(b"zepayong: standard input cannot be read"),
+    }
+}
+
 fn main() {
-    let mut file = [0u8; 32769];
-    let count = io::read_full(STDIN_FILENO, &mut file);
-    answer(&file[..count]);
+    let mut buf = [0u8; 32769];
+    let input = read_all(&mut buf);
+    answer_input(&buf, input);
 }

@@ -5,17 +5,12 @@
 //! fastest of many rounds. Exits with 1 if the answers differ, or if some ratio
 //! is above R.
 
-mod proved;
-mod stack;
-
-use std::hint::black_box;
+use bench::{clock, proved, stack};
 use std::path::{Path, PathBuf};
 use std::process::ExitCode;
-use std::time::{Duration, Instant};
 
 const TYPICAL: &str = "1-typical";
 const ROUNDS: usize = 100;
-const ROUND: Duration = Duration::from_micros(300);
 
 struct Case {
     name: String,
@@ -87,37 +82,12 @@ impl Case {
     }
 
     fn time(&mut self) {
-        let calls = [proved::check, fast::check].map(|check| calls_of_a_round(check, &self.file));
-        for _ in 0..ROUNDS {
-            let proved = microseconds(proved::check, &self.file, calls[0]);
-            let fast = microseconds(fast::check, &self.file, calls[1]);
-            self.proved = self.proved.min(proved);
-            self.fast = self.fast.min(fast);
-        }
+        [self.proved, self.fast] = clock::fastest([proved::check, fast::check], &self.file, ROUNDS);
     }
 
     fn ratio(&self) -> f64 {
         self.proved / self.fast
     }
-}
-
-/// So many calls that a round takes long enough for the clock.
-fn calls_of_a_round(check: fn(&[u8]) -> u32, file: &[u8]) -> usize {
-    let mut calls = 1;
-    while microseconds(check, file, calls) * (calls as f64) < ROUND.as_micros() as f64 {
-        calls *= 2;
-    }
-    calls
-}
-
-/// Microseconds of one call, over this many; one call before is not timed.
-fn microseconds(check: fn(&[u8]) -> u32, file: &[u8], calls: usize) -> f64 {
-    black_box(check(black_box(file)));
-    let start = Instant::now();
-    for _ in 0..calls {
-        black_box(check(black_box(file)));
-    }
-    start.elapsed().as_nanos() as f64 / 1_000.0 / calls as f64
 }
 
 fn answer_in_words(answer: u32) -> String {

@@ -8,8 +8,8 @@
 
 use std::hint::black_box;
 
-const STACK: usize = 8 << 20;
-const PAINTED: usize = 4 << 20;
+const STACK: usize = 1 << 20;
+const PAINTED: usize = 256 << 10;
 
 /// Bytes of stack that the check of this file takes.
 pub fn peak(check: fn(&[u8]) -> u32, file: &[u8]) -> usize {

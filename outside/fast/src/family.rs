@@ -3,6 +3,7 @@
 
 use crate::alphabet::{Symbol, FIRST_VARIABLE, PAIR};
 use crate::term::Term;
+use crate::walk::Watched;
 
 const MOST: usize = 64;
 
@@ -11,7 +12,7 @@ pub struct Family {
     members: [u8; MOST],
     /// Entries that a member has in common with the one before.
     common: [u8; MOST],
-    linear: u64,
+    watched: [Watched; MOST],
     /// The entries of the longest member.
     pub longest: usize,
     /// For a root, the first member and the one after the last.
@@ -23,7 +24,7 @@ impl Family {
         count: 0,
         members: [0; MOST],
         common: [0; MOST],
-        linear: 0,
+        watched: [Watched::NONE; MOST],
         longest: 0,
         ranges: [(0, 0); 128],
     };
@@ -60,7 +61,7 @@ impl Family {
             self.common[place] = beginning(before, term) as u8;
         }
         self.longest = self.longest.max(term.length);
-        self.linear |= (term.is_linear(0) as u64) << place;
+        self.watched[place] = Watched::of(term);
         if self.common[place] == 0 {
             self.ranges[root].0 = place as u8;
         }
@@ -94,8 +95,9 @@ impl Family {
         self.members[place & 63] as usize & 127
     }
 
-    pub fn is_linear(&self, place: usize) -> bool {
-        self.linear >> place & 1 == 1
+    #[inline(always)]
+    pub fn watched(&self, place: usize) -> Watched {
+        self.watched[place & 63]
     }
 
     /// The next member that has not the same entries up to `clash`.

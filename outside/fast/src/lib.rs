@@ -3,8 +3,8 @@
 //!
 //! `block` bytes and check, `alphabet` which entries are allowed, `term` terms
 //! by entries, `family` patterns in an order in which one clash answers for
-//! many, `walk` two terms side by side, `unify` repeated variables, `read`
-//! numbers 2 to 8, `rule` number 12, `judge` the order of the rest.
+//! many, `walk` two terms side by side, `quick` and `unify` repeated variables,
+//! `read` numbers 2 to 8, `rule` number 12, `judge` the order of the rest.
 #![forbid(unsafe_code)]
 
 pub mod against;
@@ -12,6 +12,7 @@ mod alphabet;
 mod block;
 mod family;
 mod judge;
+mod quick;
 mod read;
 mod rule;
 mod term;

@@ -6,7 +6,8 @@ use crate::family::Family;
 use crate::read::Certificate;
 use crate::term::{variable_bit, Bits, Term};
 use crate::unify::{have_solution, Room};
-use crate::walk::{instance, instance_without_variables, same_term, side_by_side, Meetings};
+use crate::walk::{instance, instance_without_variables, same_term};
+use crate::walk::{side_by_side, Meetings, Parts, Shared};
 
 pub struct Judge<'a> {
     terms: &'a [Term; 128],
@@ -19,6 +20,7 @@ pub struct Judge<'a> {
 
 /// Room for sharing tests.
 struct Work {
+    parts: Parts,
     meetings: Meetings,
     room: Room,
 }
@@ -32,6 +34,7 @@ impl<'a> Judge<'a> {
             goods: Family::of(terms, certificate.blocks_of(3)),
             bads: Family::of(terms, certificate.blocks_of(4)),
             work: Work {
+                parts: Parts::NONE,
                 meetings: Meetings::NONE,
                 room: Room::EMPTY,
             },
@@ -115,7 +118,8 @@ impl<'a> Judge<'a> {
         } = self;
         work.shares(terms, goods, premise, i)
             && !bads.any(premise.symbol(i), |member| {
-                instance(&terms[bads.slot(member)], premise, i).map(|_| ())
+                let pattern = &terms[bads.slot(member)];
+                instance(pattern, bads.watched(member), premise, i).map(|_| ())
             })
     }
 
@@ -143,7 +147,8 @@ impl<'a> Judge<'a> {
     fn marked_by_goods(&self, conclusion: &Term, i: usize) -> u64 {
         let mut all = 0;
         self.goods.any(conclusion.symbol(i), |member| {
-            let marked = instance(&self.terms[self.goods.slot(member)], conclusion, i)?;
+            let pattern = &self.terms[self.goods.slot(member)];
+            let marked = instance(pattern, self.goods.watched(member), conclusion, i)?;
             all |= marked;
             Err(usize::MAX)
         });
@@ -154,18 +159,29 @@ impl<'a> Judge<'a> {
 impl Work {
     /// The subterm at `i` shares an instance with some member.
     fn shares(&mut self, terms: &[Term; 128], family: &Family, term: &Term, i: usize) -> bool {
+        let mut known = None;
         family.any(term.symbol(i), |member| {
             let pattern = &terms[family.slot(member)];
-            side_by_side(term, i, pattern, &mut self.meetings)?;
-            let apart = !self.meetings.repeated;
-            if apart && (family.is_linear(member) || term.is_linear(i))
-                || have_solution(term, pattern, &self.meetings, &mut self.room)
-            {
-                Ok(())
-            } else {
-                Err(usize::MAX)
+            let watched = family.watched(member);
+            self.parts.find(term, i, pattern)?;
+            if watched.repeated == 0 && !self.parts.term_is_replaced(term, pattern) {
+                return Ok(());
+            }
+            let occurrences = known.get_or_insert_with(|| term.occurrences(i));
+            match self.parts.share(term, occurrences, pattern, watched) {
+                Shared::Some => Ok(()),
+                Shared::Never(last) => Err(last),
+                Shared::Open => self.shares_by_classes(term, i, pattern),
             }
         })
+    }
+
+    fn shares_by_classes(&mut self, term: &Term, i: usize, pattern: &Term) -> Result<(), usize> {
+        side_by_side(term, i, pattern, &mut self.meetings)?;
+        match have_solution(term, pattern, &self.meetings, &mut self.room) {
+            true => Ok(()),
+            false => Err(pattern.length - 1),
+        }
     }
 }
 

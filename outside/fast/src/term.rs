@@ -165,18 +165,35 @@ impl Term {
         &self.symbols[i..self.end(i)]
     }
 
-    /// No variable occurs twice in the subterm at `i`.
-    pub fn is_linear(&self, i: usize) -> bool {
-        let mut seen = 0u32;
-        for at in Bits(self.variables & span(i, self.end(i))) {
-            let bit = variable_bit(self.symbol(at));
-            if seen & bit != 0 {
-                return false;
-            }
-            seen |= bit;
-        }
-        true
+    /// These two subterms are the same.
+    #[inline(always)]
+    pub fn is_same(&self, one: usize, other: usize) -> bool {
+        self.symbol(one) == self.symbol(other)
+            && (self.size(one) == 1 || self.subterm(one) == self.subterm(other))
     }
+
+    /// Where the variables of the subterm at `i` stand.
+    pub fn occurrences(&self, i: usize) -> Occurrences {
+        let mut occurrences = Occurrences {
+            places: [0; 24],
+            repeated: 0,
+        };
+        for at in Bits(self.variables & span(i, self.end(i))) {
+            let here = &mut occurrences.places[variable_number(self.symbol(at))];
+            if *here != 0 {
+                occurrences.repeated |= *here | 1 << at;
+            }
+            *here |= 1 << at;
+        }
+        occurrences
+    }
+}
+
+pub struct Occurrences {
+    /// The entries of each variable.
+    pub places: [u64; 24],
+    /// The entries with a variable that stands there more than once.
+    pub repeated: u64,
 }
 
 /// Rule variables 0 to 7, then plain and marked ones of a pattern.

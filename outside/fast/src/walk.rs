@@ -1,7 +1,8 @@
 //! Two terms side by side, up to the first clash.
 
 use crate::alphabet::{Symbol, FIRST_VARIABLE};
-use crate::term::{is_marked, span, variable_bit, variable_number, Term};
+use crate::quick::{Quick, Stopped};
+use crate::term::{is_marked, span, variable_bit, variable_number, Bits, Occurrences, Term};
 
 /// Where a variable stands beside something, entry of either side.
 pub struct Meetings {
@@ -28,7 +29,12 @@ impl Meetings {
     }
 
     #[inline(always)]
-    fn add(&mut self, i: usize, j: usize, variables: u32) {
+    fn meet(&mut self, term: &Term, i: usize, pattern: &Term, j: usize) {
+        let bit = |symbol| match is_variable(symbol) {
+            true => variable_bit(symbol),
+            false => 0,
+        };
+        let variables = bit(term.symbol(i)) | bit(pattern.symbol(j));
         self.list[self.count & 63] = (i as u8, j as u8);
         self.count += 1;
         self.repeated |= self.seen & variables != 0;
@@ -54,7 +60,157 @@ fn equal_run(term: &Term, i: usize, pattern: &Term, j: usize) -> usize {
     }
 }
 
-/// The pattern's entry of the first clash, or all meetings of variables.
+/// Four bits, one for each of four symbols that is not zero.
+#[inline(always)]
+fn not_zero(four: u64) -> u64 {
+    const LOW: u64 = 0x7FFF_7FFF_7FFF_7FFF;
+    let high = (((four & LOW) + LOW) | four) >> 15 & 0x0001_0001_0001_0001;
+    // The bits at 0, 16, 32 and 48, gathered.
+    high.wrapping_mul(1 << 48 | 1 << 33 | 1 << 18 | 1 << 3) >> 48 & 15
+}
+
+/// How many entries stand beside each other from `i` and `j` on, equal but for
+/// those that are `free`; these count from `j`.
+#[inline(always)]
+fn even_run(term: &Term, i: usize, pattern: &Term, j: usize, free: u64) -> usize {
+    let mut run = 0;
+    while j + run < pattern.length {
+        let other = term.four(i + run) ^ pattern.four(j + run);
+        if other != 0 {
+            let wrong = not_zero(other) & !(free >> run);
+            if wrong != 0 {
+                run += wrong.trailing_zeros() as usize;
+                return run.min(pattern.length - j);
+            }
+        }
+        run += 4;
+    }
+    pattern.length - j
+}
+
+/// What is known of a pattern's variables.
+#[derive(Clone, Copy)]
+pub struct Watched {
+    /// Entries with a variable that the pattern has more than once.
+    pub repeated: u64,
+    /// Entries with a marked variable.
+    pub marked: u64,
+}
+
+impl Watched {
+    pub const NONE: Watched = Watched {
+        repeated: 0,
+        marked: 0,
+    };
+
+    pub fn of(pattern: &Term) -> Watched {
+        let marked = Bits(pattern.variables)
+            .filter(|j| is_marked(pattern.symbol(*j)))
+            .fold(0, |marked, j| marked | 1 << j);
+        Watched {
+            repeated: pattern.occurrences(0).repeated,
+            marked,
+        }
+    }
+}
+
+/// Parts of two terms in which entry stands beside entry, as long as what a
+/// variable meets is one entry long; behind that, such a longer one.
+pub struct Parts {
+    /// The first entry of either side, and the pattern's behind the last.
+    list: [(u8, u8, u8); 64],
+    count: usize,
+}
+
+impl Parts {
+    pub const NONE: Parts = Parts {
+        list: [(0, 0, 0); 64],
+        count: 0,
+    };
+
+    /// Finds the parts, or the pattern's entry of the first clash.
+    #[inline(always)]
+    pub fn find(&mut self, term: &Term, at: usize, pattern: &Term) -> Result<(), usize> {
+        // Most clash at their first difference.
+        let run = equal_run(term, at, pattern, 0);
+        let (one, other) = (term.symbol(at + run), pattern.symbol(run));
+        if run < pattern.length && !is_variable(one) && !is_variable(other) {
+            return Err(run);
+        }
+        let leaves = !(term.pairs | term.encryptions);
+        let pattern_leaves = !(pattern.pairs | pattern.encryptions);
+        self.count = 0;
+        let (mut i, mut j) = (at, 0);
+        while j < pattern.length {
+            let free = (pattern.variables >> j) & (leaves >> i)
+                | (term.variables >> i) & (pattern_leaves >> j);
+            let run = even_run(term, i, pattern, j, free);
+            self.list[self.count & 63] =
+                (i as u8, j as u8, (j + run + 1).min(pattern.length) as u8);
+            self.count += 1;
+            (i, j) = (i + run, j + run);
+            if j >= pattern.length {
+                break;
+            }
+            (i, j) = if pattern.variables >> j & 1 == 1 {
+                (term.end(i), j + 1)
+            } else if term.variables >> i & 1 == 1 {
+                (i + 1, pattern.end(j))
+            } else {
+                return Err(j);
+            };
+        }
+        Ok(())
+    }
+
+    /// Some variable of the term meets what is no variable.
+    pub fn term_is_replaced(&self, term: &Term, pattern: &Term) -> bool {
+        self.list[..self.count].iter().any(|(i, j, end)| {
+            let met = (term.variables >> i << j) & !pattern.variables;
+            met & span(*j as usize, *end as usize) != 0
+        })
+    }
+
+    /// With the parts found: some instance is shared; none is, with the last
+    /// entry of the pattern that was needed to see it; or it took too many steps.
+    pub fn share(
+        &self,
+        term: &Term,
+        occurrences: &Occurrences,
+        pattern: &Term,
+        watched: Watched,
+    ) -> Shared {
+        let mut quick = Quick::new(term, occurrences, pattern);
+        for (i, j, end) in &self.list[..self.count] {
+            let (i, j) = (*i as usize, *j as usize);
+            let repeated = occurrences.repeated >> i << j;
+            let variables = term.variables >> i << j;
+            // A variable that stands at one place only takes what it meets.
+            let counts = watched.repeated & !(variables & !repeated)
+                | repeated & !(pattern.variables & !watched.repeated);
+            for k in Bits(counts & span(j, *end as usize)) {
+                match quick.equal(i + k - j, k) {
+                    Ok(()) => {}
+                    Err(Stopped::Unequal) => return Shared::Never(pattern.end(k) - 1),
+                    Err(Stopped::OutOfSteps) => return Shared::Open,
+                }
+            }
+        }
+        match quick.is_finite() {
+            true => Shared::Some,
+            false => Shared::Never(pattern.length - 1),
+        }
+    }
+}
+
+/// An answer, or none.
+pub enum Shared {
+    Some,
+    Never(usize),
+    Open,
+}
+
+/// All meetings of variables, or the pattern's entry of the first clash.
 pub fn side_by_side(
     term: &Term,
     at: usize,
@@ -69,17 +225,11 @@ pub fn side_by_side(
         if j >= pattern.length {
             return Ok(());
         }
-        let (one, other) = (term.symbol(i), pattern.symbol(j));
-        if is_variable(other) {
-            let both = if is_variable(one) {
-                variable_bit(one)
-            } else {
-                0
-            };
-            meetings.add(i, j, both | variable_bit(other));
+        if is_variable(pattern.symbol(j)) {
+            meetings.meet(term, i, pattern, j);
             (i, j) = (term.end(i), j + 1);
-        } else if is_variable(one) {
-            meetings.add(i, j, variable_bit(one));
+        } else if is_variable(term.symbol(i)) {
+            meetings.meet(term, i, pattern, j);
             (i, j) = (i + 1, pattern.end(j));
         } else {
             return Err(j);
@@ -89,31 +239,58 @@ pub fn side_by_side(
 
 /// The subterm at `at` as the pattern with its variables replaced: the entries
 /// at or below a mark, or the pattern's entry of the first clash.
-pub fn instance(pattern: &Term, term: &Term, at: usize) -> Result<u64, usize> {
-    let mut starts = [u8::MAX; 24];
-    let mut marked = 0;
+pub fn instance(pattern: &Term, watched: Watched, term: &Term, at: usize) -> Result<u64, usize> {
+    let leaves = !(term.pairs | term.encryptions);
+    let mut replaced = Replaced::NONE;
     let (mut i, mut j) = (at, 0);
     loop {
-        let run = equal_run(term, i, pattern, j);
-        (i, j) = (i + run, j + run);
+        let free = (pattern.variables >> j) & (leaves >> i);
+        let end = j + even_run(term, i, pattern, j, free);
+        let watch = watched.repeated | watched.marked;
+        for k in Bits(watch & span(j, (end + 1).min(pattern.length))) {
+            replaced.put(pattern, k, term, i + k - j)?;
+        }
+        i += end - j;
+        if end >= pattern.length {
+            return Ok(replaced.marked);
+        }
+        if pattern.variables >> end & 1 == 0 {
+            return Err(end);
+        }
+        (i, j) = (term.end(i), end + 1);
         if j >= pattern.length {
-            return Ok(marked);
+            return Ok(replaced.marked);
         }
+    }
+}
+
+/// What the variables of a pattern are replaced by.
+struct Replaced {
+    starts: [u8; 24],
+    /// The entries at or below a mark.
+    marked: u64,
+}
+
+impl Replaced {
+    const NONE: Replaced = Replaced {
+        starts: [u8::MAX; 24],
+        marked: 0,
+    };
+
+    /// The variable at `j` by the subterm at `i`, or `j` if it was another.
+    #[inline(always)]
+    fn put(&mut self, pattern: &Term, j: usize, term: &Term, i: usize) -> Result<(), usize> {
         let symbol = pattern.symbol(j);
-        if !is_variable(symbol) {
-            return Err(j);
-        }
-        let start = &mut starts[variable_number(symbol)];
+        let start = &mut self.starts[variable_number(symbol)];
         if *start == u8::MAX {
             *start = i as u8;
-        } else if term.subterm(*start as usize) != term.subterm(i) {
+        } else if !term.is_same(*start as usize, i) {
             return Err(j);
         }
-        let end = term.end(i);
         if is_marked(symbol) {
-            marked |= span(i, end);
+            self.marked |= span(i, term.end(i));
         }
-        (i, j) = (end, j + 1);
+        Ok(())
     }
 }
 

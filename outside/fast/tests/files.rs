@@ -27,7 +27,7 @@ fn certificates(folder: &str) -> usize {
 #[test]
 fn corpus_and_bench_files() {
     assert_eq!(certificates("../corpus"), 23);
-    assert_eq!(certificates("../bench/files"), 10);
+    assert!(certificates("../bench/files") >= 10);
 }
 
 #[test]

@@ -10,7 +10,7 @@ use borrow.Fn.PlainCycle.{Measures, is, falls, and}
 use Rattle.judge.proofs.cover.mark_cover.Reads as mark-cover
 use Rattle.judge.proofs.cover.mark_cover.Kinds as mark-cover-kinds
 use Rattle.judge.proofs.cover.+mark_cover.Lts-mark_cover as mark-cover-lts
-use Rattle.judge.proofs.cover.paint.Reads as paint-reads
+use Rattle.judge.proofs.flag.paint.Reads as paint-reads
 use Rattle.terms.proofs.entry.term_size.Reads as term-size-reads
 use Rattle.judge.proofs.cover.+mark_cover.{statement}
 use Rattle.judge.proofs.cover.+mark_cover.Tie.{close}

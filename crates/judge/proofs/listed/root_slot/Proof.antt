@@ -1,8 +1,8 @@
 -- `judge::listed::root_slot` meets its contract. Assumes nothing.
+use borrow.Author.Needs.{needs}
 use native.Mathlib.Omega.{arith}
 use Rattle.terms.specs.FrontLaws.{from-length}
-use Rattle.judge.proofs.Roots.{slot-pair, slot-encryption, slot-atom, pair-room}
-use borrow.Author.Needs.{needs}
+use Rattle.judge.proofs.Roots.{slot-pair, slot-encryption, slot-atom, slot-variable, pair-room}
 use Rattle.judge.proofs.listed.root_slot.Statement.{statement}
 use Rattle.judge.proofs.listed.root_slot.Tie as tie
 
@@ -12,12 +12,15 @@ root-slot-spec = tie.close (tie.spec
     (λ c. let room = c .before .before .before .pre .room in search needs)  -- sub-value
     (λ c. search needs)  -- part-value-start
     (λ c. search needs)  -- part-value-end
-    (λ c κs. let start = c .before .before .before .before in omega (arith, pair-room (start .pre) (c .before .if1 .taken), from-length 4 (start .args .e .now)))  -- value-requires
+    (λ c κs. omega (arith, pair-room (c .before .before .before .before .pre) (c .before .if1 .taken), from-length 4 (c .before .before .before .before .args .e .now)))  -- value-requires
     (λ c. search needs)  -- add-result
     (λ c κs. c .before .before .before .before .pre .room)  -- value-requires-2
     (λ c. search needs)  -- add-result-2
-    (λ c κs. c .before .before .before .before .pre .room)  -- value-requires-3
+    (λ c κs. c .before .before .before .before .before .pre .room)  -- value-requires-3
+    (λ c. search needs)  -- add-result-3
+    (λ c κs. c .before .before .before .before .before .pre .room)  -- value-requires-4
     (λ c. (slot-pair (c .before .before .before .before .before .args .e .now) (c .before .before .if1 .taken) (c .value .ensures .0), omega arith))  -- returns
     (λ c. (slot-encryption (c .before .before .before .before .before .args .e .now) (c .before .if2 .taken) (c .value2 .ensures .0), omega arith))  -- returns-2
-    (λ c. (slot-atom (c .before .before .before .before .before .args .e .now) (c .before .before .if1 .left) (c .before .if2 .left) (c .value3 .ensures .0), omega arith))  -- returns-3
+    (λ c. (slot-variable (c .before .before .before .before .before .before .args .e .now) (c .before .if3 .taken) (c .value3 .ensures .0), omega arith))  -- returns-3
+    (λ c. (slot-atom (c .before .before .before .before .before .before .args .e .now) (c .before .if3 .left) (c .before .before .before .if1 .left) (c .before .before .if2 .left) (c .value4 .ensures .0), omega arith))  -- returns-4
     )

@@ -14,7 +14,7 @@ use Rattle.judge.proofs.listed.secret_roots.Tie as tie
 abbrev Inv-loop : tie.InvT-loop
 Inv-loop file roots₀ count i₀ roots i =
     (i ≤ blockCount file)
-    × (length roots ≡ 384)
+    × (length roots ≡ 400)
     × ((j : ℕ) → j < i → kindOf (blockAt file j) ≡ 2 → FlaggedAt roots (firstEntries (blockAt file j)))
 
 abbrev μ-loop : tie.MeasureT-loop

@@ -1,28 +1,24 @@
 -- `terms::matching::same` meets its contract. Assumes nothing.
 use borrow.Author.Needs.{needs}
-use Rattle.terms.specs.FrontLaws.{said, denied}
-use Rattle.terms.specs.MatchLaws.{first-below, first-step, first-differs}
+use native.Mathlib.Omega.{arith}
+use borrow.Author.Tests.{not-true}
+use Rattle.terms.specs.FrontLaws.{denied}
+use Rattle.terms.specs.RunLaws.{first-differs, run-same}
 use Rattle.terms.proofs.matching.same.Statement.{statement}
 use Rattle.terms.proofs.matching.same.Tie as tie
 
 pub same-spec : {M : Type 1} → statement M
 same-spec = tie.close (tie.spec
     (λ c κs. search needs)  -- same-entry-requires
-    (λ c. search needs)  -- sub-same-front
-    (λ c. search needs)  -- part-same-front-start
-    (λ c. search needs)  -- part-same-front-end
-    (λ c. search needs)  -- sub-same-front-2
-    (λ c. search needs)  -- part-same-front-start-2
-    (λ c. search needs)  -- part-same-front-end-2
-    (λ c. search needs)  -- shared-slice-read-children
-    (λ c κs. search needs)  -- children-requires
-    (λ c κs. let pre = c .before .before .before .before .before .before .before .before .pre in
-    let if1 = c .before .before .before .before .if1 in let same-entry = c .before .before .before .before .before .same-entry in
-    first-below (pre .0) (pre .1) (said (if1 .taken) (same-entry .ensures)) (c .children .ensures .0))  -- same-front-requires
-    (λ c. let pre = c .before .before .before .before .before .before .before .before .before .pre in
-    let if1 = c .before .before .before .before .before .if1 in let same-entry = c .before .before .before .before .before .before .same-entry in
-    first-step (pre .0) (pre .1) (said (if1 .taken) (same-entry .ensures)) (c .before .children .ensures .0) (c .same-front .result)
-    (c .same-front .ensures))  -- returns
-    (λ c. let pre = c .before .before .before .before .pre in
-    first-differs (pre .0) (pre .1) (denied (c .if1 .left) (c .before .same-entry .ensures)))  -- returns-2
+    (λ c. first-differs (c .before .before .before .before .pre .0) (c .before .before .before .before .pre .1) (denied (not-true (c .before .same-entry .result) (c .if1 .taken)) (c .before .same-entry .ensures)))  -- returns
+    (λ c κs. c .before .before .before .before .pre)  -- same-run-requires
+    (λ c. let inside = c .before .same-run .ensures .0 .inside in search needs)  -- mul-at
+    (λ c. let inside = c .before .same-run .ensures .0 .inside in search needs)  -- sub-same-front
+    (λ c. let inside = c .before .same-run .ensures .0 .inside in search needs)  -- part-same-front-start
+    (λ c. let inside = c .before .same-run .ensures .0 .inside in search needs)  -- part-same-front-end
+    (λ c. let inside = c .before .before .same-run .ensures .0 .other-inside in search needs)  -- sub-same-front-2
+    (λ c. let inside = c .before .before .same-run .ensures .0 .other-inside in search needs)  -- part-same-front-start-2
+    (λ c. let inside = c .before .before .same-run .ensures .0 .other-inside in search needs)  -- part-same-front-end-2
+    (λ c κs. (c .before .before .before .same-run .ensures .0 .front, c .before .before .before .same-run .ensures .0 .other-front))  -- same-front-requires
+    (λ c. run-same (c .before .before .before .before .before .before .before .before .before .pre .0) (c .before .before .before .before .before .before .before .before .before .pre .1) (c .before .before .before .before .same-run .ensures .0) (c .same-front .result) (c .same-front .ensures))  -- returns-2
     )

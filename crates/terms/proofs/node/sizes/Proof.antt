@@ -7,6 +7,7 @@ use Rattle.terms.proofs.node.sizes.Tie as tie
 
 pub sizes-spec : {M : Type 1} → statement M
 sizes-spec = tie.close (tie.spec
+    (λ c. let left = c .before .before .pre .left-short in let right = c .before .before .pre .right-short in search needs)  -- add-if1
     (λ c κs. let pre = c .before .before .before .before .pre in (pre .left, pre .left-short, search needs, search needs))  -- fill-sizes-requires
     (λ c κs. let pre = c .before .before .before .before .before .before .pre in
     (pre .right, pre .right-short, search needs, c .before .fill-sizes .ensures .0 .long))  -- fill-sizes-requires-2

@@ -1,0 +1,23 @@
+-- `judge::cover::close_under` meets its contract. Assumes nothing.
+use borrow.Author.Needs.{needs}
+use borrow.Author.Tests.{not-true, not-false}
+use Rattle.terms.specs.Decisions.{says-yes, says-no}
+use Rattle.judge.proofs.Hats.{standing-end}
+use Rattle.judge.proofs.Opens.{closed-none, closed-below}
+use Rattle.judge.proofs.cover.close_under.Statement.{statement}
+use Rattle.judge.proofs.cover.close_under.Tie as tie
+
+pub close-under-spec : {M : Type 1} → statement M
+close-under-spec = tie.close (tie.spec
+    (λ c κs. (c .before .before .before .pre .0, c .before .before .before .pre .1))  -- no-hat-at-requires
+    (λ c. search needs)  -- add-paint
+    (λ c κs. let fits = standing-end (c .before .before .before .before .before .before .pre .0) (c .before .before .before .before .before .before .pre .4) in (c .before .before .before .before .before .before .pre .2, fits .0, fits .1))  -- paint-requires
+    (λ c. let told = c .before .before .before .no-hat-at in (
+      told .ensures .1,
+      closed-below (c .before .before .before .before .before .before .before .pre .3) (says-no (told .result) (told .ensures .0) (not-true (told .result) (c .before .before .if1 .taken))) (c .before .before .before .before .before .before .before .pre .4) (c .paint .ensures),
+    ))  -- returns
+    (λ c. let told = c .before .no-hat-at in (
+      told .ensures .1,
+      closed-none (c .before .before .before .before .before .pre .2) (λ tag. says-yes (told .result) (told .ensures .0) (not-false (told .result) (c .if1 .left))),
+    ))  -- returns-2
+    )

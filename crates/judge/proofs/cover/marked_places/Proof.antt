@@ -1,0 +1,11 @@
+-- `judge::cover::marked_places` meets its contract. Assumes nothing.
+use borrow.Author.Needs.{needs}
+use Rattle.judge.proofs.Hats.{marked-flags}
+use Rattle.judge.proofs.cover.marked_places.Statement.{statement}
+use Rattle.judge.proofs.cover.marked_places.Tie as tie
+
+pub marked-places-spec : {M : Type 1} → statement M
+marked-places-spec = tie.close (tie.spec
+    (λ c κs. search needs)  -- lay-goods-requires
+    (λ c. marked-flags (c .lay-goods .ensures))  -- returns
+    )

@@ -1,0 +1,20 @@
+-- `judge::cover::take_hat` meets its contract. Assumes nothing.
+use borrow.Author.Needs.{needs}
+use borrow.Author.Tests.{not-true, not-false}
+use Rattle.terms.specs.Decisions.{says-yes, says-no}
+use Rattle.judge.proofs.Hats.{hat-taken, hat-shares}
+use Rattle.judge.proofs.cover.take_hat.Statement.{statement}
+use Rattle.judge.proofs.cover.take_hat.Tie as tie
+
+pub take-hat-spec : {M : Type 1} → statement M
+take-hat-spec = tie.close (tie.spec
+    (λ c κs. (c .before .before .before .pre .0, c .before .before .before .pre .1))  -- shares-bad-requires
+    (λ c κs. c .before .before .before .before .before .pre .0)  -- marked-places-requires
+    (λ c κs. (c .before .before .before .before .before .before .before .before .pre .2, c .before .before .marked-places .ensures .long))  -- clear-requires
+    (λ c. let told = c .before .before .before .before .before .shares-bad in (
+      told .ensures .1,
+      hat-taken (c .before .before .before .marked-places .ensures) (says-no (told .result) (told .ensures .0) (not-true (told .result) (c .before .before .before .before .if1 .taken))) (c .clear .ensures),
+    ))  -- returns
+    (λ c. let told = c .before .shares-bad in
+    (told .ensures .1, hat-shares (c .before .before .before .before .before .pre .2) (says-yes (told .result) (told .ensures .0) (not-false (told .result) (c .if1 .left)))))  -- returns-2
+    )

@@ -1,0 +1,162 @@
+-- Laws of the run of equal symbols with which two terms begin, and of what follows where they then differ.
+use mathlib.Core.Path.{_≡_, refl, sym, ap, _∙_}
+use mathlib.Core.Bool.{Bool, false}
+use mathlib.Core.List.{List, _∷_, map}
+use mathlib.Core.Logic.{_↔_}
+use Prim.Native.Nat.{ℕ, _+_, _*_, _-_, _<_, _≤_}
+use native.Mathlib.Omega.{arith}
+use borrow.Rule.Slice.PartAt.{part-to-end}
+use lib.ListN.{length, getD, replicate}
+use Rattle.terms.specs.Term.{Term, Message, Variable, variable, replace, asTerm}
+use Rattle.terms.specs.Instance.{Matches, Share}
+use Rattle.terms.specs.Occurs.{replace-twice}
+use Rattle.terms.specs.Entry.{size, termOf, tagAt, valueAt, childrenOf, Begins}
+use Rattle.terms.specs.EntryLaws.{size-positive}
+use Rattle.terms.specs.WalkLaws.{from, leaf-first}
+use Rattle.terms.specs.Solve.{Says, says-same}
+use Rattle.terms.specs.Decide.{answer, variable?, term?, match?, says-answer}
+use Rattle.terms.specs.Front.{Front, Takes, Unified, Ran, Goes, SameFirst, Ready, Made}
+use Rattle.terms.specs.FrontLaws.{from-from, from-length, front-few, front-begins, parted, opened, next, next-symbol, one-term}
+use Rattle.terms.specs.FrontLaws.{KeepsFirst, unified-symbol, unified-other, unified-past, share-unified, same-clash}
+use Rattle.terms.specs.MatchLaws.{none-bound, symbol-slot, same-answer}
+use Rattle.terms.specs.TermGraphLaws.{tag-in}
+
+-- Nothing has been compared yet.
+from-start : (e : List ℕ) → from (4 * 0) e ≡ e
+from-start e = part-to-end e 0
+
+pub ran-start : {need : ℕ} {e f : List ℕ} → Front need e → Front need f → Ran need e f 0 need
+ran-start {e = e} {f = f} b d = record {
+  inside = omega arith;
+  other-inside = omega arith;
+  front = rw (from-start e) b;
+  other-front = rw (from-start f) d;
+  takes = λ by. rw (from-start e, from-start f) (λ h. h, λ h. h);
+  unified = λ u. rw (from-start e, from-start f) u;
+}
+
+-- There is room for an entry where a term is left.
+pub front-room : (e : List ℕ) (k : ℕ) {left : ℕ} → Front left (from (4 * k) e) → ¬ (left ≡ 0) → 4 * (k + 1) ≤ length e
+front-room e k f some-left = omega (arith, front-begins f some-left .room, from-length (4 * k) e)
+
+-- One symbol more.
+module _ {need : ℕ} {e f : List ℕ} {k left : ℕ} (r : Ran need e f k left) where
+  further : (d : List ℕ) → from 4 (from (4 * k) d) ≡ from (4 * (k + 1)) d
+  further d = let there : 4 * k + 4 ≡ 4 * (k + 1) = omega arith in rw (from-from, there) refl
+
+  keeps : tagAt (from (4 * k) e) ≤ 3 → ¬ (left ≡ 0) → (by : Variable → Term Variable) → KeepsFirst by (from (4 * k) e)
+  keeps low some-left by x is = absurd (symbol-slot (front-begins (r .front) some-left) low x is)
+
+  keeps-other : tagAt (from (4 * k) f) ≤ 3 → ¬ (left ≡ 0) → (by : Variable → Term Variable) → KeepsFirst by (from (4 * k) f)
+  keeps-other low some-left by x is = absurd (symbol-slot (front-begins (r .other-front) some-left) low x is)
+
+  ran-room : ¬ (left ≡ 0) → (4 * (k + 1) ≤ length e) × (4 * (k + 1) ≤ length f)
+  ran-room some-left = (front-room e k (r .front) some-left, front-room f k (r .other-front) some-left)
+
+  pub ran-more : Goes e f k left → {c : ℕ} → c ≡ childrenOf (tagAt (from (4 * k) e)) → Ran need e f (k + 1) (left - 1 + c)
+  ran-more g is =
+      let a = opened left (r .front) (g .some-left) .below in
+      let b = opened left (r .other-front) (g .some-left) .below in
+      let low = g .symbol in let tags = g .same .tag in
+      let room = ran-room (g .some-left) in
+      rw is (record {
+        inside = room .0;
+        other-inside = room .1;
+        front = rw (further e) at a;
+        other-front = rw (further f, ← tags) at b;
+        takes = λ by. (
+          λ h. rw (further e, further f) at (step by .0 (r .takes by .0 h)),
+          λ h. r .takes by .1 (step by .1 (rw (further e, further f) h)),
+        );
+        unified = λ u. rw (further e, further f) at (unified-symbol left (r .front) (r .other-front) (g .some-left)
+            (λ by. keeps low (g .some-left) by) (λ by. keeps-other (omega arith) (g .some-left) by) (g .same) (r .unified u));
+      })
+    where
+      step : (by : Variable → Term Variable) → Takes by left (from (4 * k) e) (from (4 * k) f)
+          ↔ Takes by (next left (from (4 * k) e)) (from 4 (from (4 * k) e)) (from 4 (from (4 * k) f))
+      step by = next-symbol left (r .front) (r .other-front) (g .some-left) by (keeps (g .symbol) (g .some-left) by) (g .same)
+
+  pub ran-small : 4 * left ≤ length f
+  ran-small = let room = r .other-front .room in omega (arith, from-length (4 * k) f)
+
+  -- Then other symbols stand on both sides: nothing makes the terms the same.
+  module _ (some-left : ¬ (left ≡ 0)) (low : tagAt (from (4 * k) e) ≤ 3) (low′ : tagAt (from (4 * k) f) ≤ 3) (stops : ¬ Goes e f k left) where
+    off : ¬ SameFirst (from (4 * k) e) (from (4 * k) f)
+    off same = stops (record { some-left = some-left; symbol = low; same = same })
+
+    pub differ-unified : ¬ Unified need e f
+    differ-unified u = unified-other left (r .front) (r .other-front) some-left (λ by. keeps low some-left by) (λ by. keeps-other low′ some-left by) off (r .unified u)
+
+  -- A variable stands on one side: what is behind it, and behind the other side's term, is left to compare.
+  module _ (some-left : ¬ (left ≡ 0)) where
+    past-unified : ¬ Unified (left - 1) (from (4 * size (termOf (from (4 * k) e))) (from (4 * k) e)) (from (4 * size (termOf (from (4 * k) f))) (from (4 * k) f))
+        → ¬ Unified need e f
+    past-unified off u = off (unified-past left (r .front) (r .other-front) some-left (r .unified u))
+
+    module _ (high : 3 < tagAt (from (4 * k) e)) {n : ℕ} (is : n ≡ size (termOf (from (4 * k) f))) where
+      one : size (termOf (from (4 * k) e)) ≡ 1
+      one = sym (leaf-first (front-begins (r .front) some-left) (λ z. omega arith) (λ z. omega arith))
+
+      pub left-fronts : Front (left - 1) (from 4 (from (4 * k) e)) × Front (left - 1) (from (4 * n) (from (4 * k) f))
+      left-fronts = (rw one at (parted left (r .front) some-left .others), rw is (parted left (r .other-front) some-left .others))
+
+      pub left-apart : ¬ Unified (left - 1) (from 4 (from (4 * k) e)) (from (4 * n) (from (4 * k) f)) → ¬ Unified need e f
+      left-apart off = past-unified (rw one (rw is at off))
+
+    module _ (high : 3 < tagAt (from (4 * k) f)) {n : ℕ} (is : n ≡ size (termOf (from (4 * k) e))) where
+      other-one : size (termOf (from (4 * k) f)) ≡ 1
+      other-one = sym (leaf-first (front-begins (r .other-front) some-left) (λ z. omega arith) (λ z. omega arith))
+
+      pub right-some : 1 ≤ n
+      right-some = omega (arith, size-positive (termOf (from (4 * k) e)))
+
+      pub right-fronts : Front (left - 1) (from (4 * n) (from (4 * k) e)) × Front (left - 1) (from 4 (from (4 * k) f))
+      right-fronts = (rw is (parted left (r .front) some-left .others), rw other-one at (parted left (r .other-front) some-left .others))
+
+      pub right-apart : ¬ Unified (left - 1) (from (4 * n) (from (4 * k) e)) (from 4 (from (4 * k) f)) → ¬ Unified need e f
+      right-apart off = past-unified (rw other-one (rw is at off))
+
+-- Nothing makes the terms behind the run the same: they share no instance.
+pub behind-shares : {e f : List ℕ} {k left : ℕ} → Begins e → Begins f → Ran 1 e f k left → ¬ Unified left (from (4 * k) e) (from (4 * k) f)
+    → ¬ Share (termOf e) (termOf f)
+behind-shares b d r off h = off (r .unified (share-unified b d h))
+
+-- Terms that nothing makes the same share no instance.
+pub apart-shares : {e f : List ℕ} → Begins e → Begins f → ¬ Unified 1 e f → ¬ Share (termOf e) (termOf f)
+apart-shares b d off h = off (share-unified b d h)
+
+-- The tag of an entry, as the code reads it.
+pub tag-from : (e : List ℕ) (k : ℕ) → getD e (4 * k) 0 ≡ tagAt (from (4 * k) e)
+tag-from e k = rw part-to-end (tag-in e k)
+
+-- Matching goes on behind the run, with nothing bound.
+pub run-ready : {e f : List ℕ} {k left : ℕ} → Ran 1 e f k left → length f ≤ 252 → Ready (from (4 * k) e) f k left (replicate 16 255)
+run-ready {e} {f} {k} {left} r small = record {
+  pattern = r .front;
+  subject = r .other-front;
+  held = λ i h. absurd (none-bound i h);
+  inside = let room = r .other-front .room in let inside = r .other-inside in omega (arith, from-length (4 * k) f);
+  small = small;
+}
+
+pub run-answer : {e f : List ℕ} {k left : ℕ} → Begins e → Begins f → Ran 1 e f k left → (b : Bool) → Says b (Made (from (4 * k) e) f k left (replicate 16 255))
+    → b ≡ answer (match? variable? variable? (termOf e) (termOf f))
+run-answer {e} {f} {k} {left} b d r t says = says-answer t (says-same t to back says) (match? variable? variable? _ _)
+  where
+    to : Made (from (4 * k) e) f k left (replicate 16 255) → Matches (termOf e) (termOf f)
+    to m = record { by = m .by; same = one-term b d (m .by) .0 (r .takes (m .by) .1 (m .takes)) }
+
+    back : Matches (termOf e) (termOf f) → Made (from (4 * k) e) f k left (replicate 16 255)
+    back m = record {
+      by = m .by;
+      agrees = record { held = λ i h. absurd (none-bound i h) };
+      takes = r .takes (m .by) .0 (one-term b d (m .by) .1 (m .same));
+    }
+
+-- Terms that begin with different entries are not the same; where they do not, equality goes on behind the run.
+pub first-differs : {e f : List ℕ} → Begins e → Begins f → ¬ SameFirst e f → false ≡ answer (term? variable? (termOf e) (termOf f))
+first-differs b d off = same-answer b d false (same-clash (front-few b (omega arith), front-few d (omega arith)) (omega arith) off)
+
+pub run-same : {e f : List ℕ} {k left : ℕ} → Begins e → Begins f → Ran 1 e f k left → (b : Bool) → Says b (Takes variable left (from (4 * k) e) (from (4 * k) f))
+    → b ≡ answer (term? variable? (termOf e) (termOf f))
+run-same b d r t says = same-answer b d t (says-same t (r .takes variable .1) (r .takes variable .0) says)

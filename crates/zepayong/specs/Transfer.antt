@@ -1,0 +1,27 @@
+-- What the answers of read and write say.
+use Prim.Native.Nat.{ℕ, _≤_}
+use mathlib.Core.Bool.{Bool, cond}
+use mathlib.Core.List.{List}
+use lib.Dec.{eqb}
+use Rattle.io.specs.Counts.{Counts}
+use Rattle.zepayong.specs.declared.step.Step.{Step}
+use Rattle.zepayong.specs.declared.step.Step.the-variants.{Bytes, Nothing, Interrupted, Failed}
+use Rattle.zepayong.specs.declared.transfer.Input.{Input}
+use Rattle.zepayong.specs.declared.transfer.Input.the-variants as input
+
+-- A call that answers a negative number moved nothing; if a signal interrupted it, it is made again.
+abbrev pub stepOf : Bool → ℕ → Bool → Step
+stepOf negative count interrupted =
+    cond negative (cond interrupted Interrupted Failed) (cond (eqb count 0) Nothing (Bytes count))
+
+-- It moved at most so many bytes.
+abbrev pub Within : Step → ℕ → Type 0
+Within (Bytes n) most = n ≤ most
+Within Nothing most = Unit {0}
+Within Interrupted most = Unit {0}
+Within Failed most = Unit {0}
+
+-- What came stands at the start of the buffer.
+abbrev pub Inside : Input → List ℕ → Type 0
+Inside (input.Came n) buffer = Counts n buffer
+Inside input.Failed buffer = Unit {0}

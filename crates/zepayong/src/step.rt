@@ -1,0 +1,31 @@
+// What one call of read or write did, as its answer says.
+ghost use mathlib.Core.Path.{_≡_};
+ghost use Rattle.zepayong.specs.Transfer.{stepOf, Within};
+
+pub enum Step {
+    // It moved so many bytes.
+    Bytes(usize),
+    // It moved none: for a read, the input's end.
+    Nothing,
+    // A signal came before it moved a byte.
+    Interrupted,
+    Failed,
+}
+
+// What a call's answer says, by its sign, the bytes it counts, and whether the error that it left is an interruption.
+pub fn said(negative: bool, count: usize, interrupted: bool) -> Step
+    ensures { λ r. ⌜ r ≡ stepOf negative count interrupted ⌝ }
+    ensures { λ r. ⌜ Within r count ⌝ }
+{
+    if negative {
+        if interrupted {
+            Step::Interrupted
+        } else {
+            Step::Failed
+        }
+    } else if count == 0 {
+        Step::Nothing
+    } else {
+        Step::Bytes(count)
+    }
+}

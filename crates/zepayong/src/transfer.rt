@@ -1,0 +1,71 @@
+// Reading and writing to the end.
+ghost use lib.ListN.{length};
+ghost use Rattle.zepayong.specs.Transfer.{Within, Inside};
+use crate::step::Step;
+use crate::step::said;
+use libc::STDIN_FILENO;
+use libc::STDOUT_FILENO;
+
+// What was read.
+pub enum Input {
+    // So many bytes: the whole input, or a full buffer.
+    Came(usize),
+    Failed,
+}
+
+// One read into the buffer.
+fn read_some(buf: &mut [u8]) -> Step
+    ensures { λ r. ⌜ Within r (length (now (buf .entry))) ⌝ }
+{
+    let got = libc::read(STDIN_FILENO, buf);
+    said(got < 0, io::count(got, buf), os::errno() == libc::EINTR)
+}
+
+// One write of the bytes.
+fn write_some(bytes: &[u8]) -> Step
+    ensures { λ r. ⌜ Within r (length (now (bytes .entry))) ⌝ }
+{
+    let got = libc::write(STDOUT_FILENO, bytes);
+    said(got < 0, io::count(got, bytes), os::errno() == libc::EINTR)
+}
+
+// Reads until the buffer is full or a read says that the input has ended. An interrupted read is made again; the turns
+// are counted because a loop has to end, and no run uses them up.
+pub fn read_all(buf: &mut [u8]) -> Input
+    ensures { λ r. ⌜ Inside r (now (buf .exit)) ⌝ }
+{
+    let size = buf.len();
+    let mut done = 0;
+    let mut turns = u64::MAX;
+    while done < size && turns > 0 {
+        let step = read_some(&mut buf[done..]);
+        match step {
+            Step::Bytes(n) => done += n,
+            Step::Nothing => return Input::Came(done),
+            Step::Interrupted => {}
+            Step::Failed => return Input::Failed,
+        }
+        turns -= 1;
+    }
+    if done < size {
+        return Input::Failed;
+    }
+    Input::Came(done)
+}
+
+// Writes all the bytes, and answers whether it could.
+pub fn write_all(bytes: &[u8]) -> bool {
+    let size = bytes.len();
+    let mut done = 0;
+    let mut turns = u64::MAX;
+    while done < size && turns > 0 {
+        let step = write_some(&bytes[done..]);
+        match step {
+            Step::Bytes(n) => done += n,
+            Step::Nothing | Step::Failed => return false,
+            Step::Interrupted => {}
+        }
+        turns -= 1;
+    }
+    done == size
+}

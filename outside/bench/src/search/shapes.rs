@@ -1,0 +1,109 @@
+//! The atoms of the families' files, and terms to build them with.
+
+use generate::sketch::Sketch;
+use literal::read::Atom;
+use literal::Term;
+
+pub const BLOCKS: usize = 64;
+pub const ENTRIES: usize = 63;
+
+/// Symmetric keys from 2 to 5, as in the generator's pairs of terms: the first
+/// is a secret, the last is known.
+pub const KEY: u16 = 2;
+pub const OTHER_KEY: u16 = 3;
+pub const KNOWN_KEY: u16 = 5;
+/// Nonces: a secret one, and many that are known.
+const NONCE: u16 = 6;
+const FIRST_KNOWN: u16 = 7;
+const KNOWN: u16 = 60;
+
+fn atoms() -> Vec<Atom> {
+    let atom = |kind, known, partner| Atom {
+        kind,
+        known,
+        partner,
+    };
+    let mut atoms = vec![atom(1, 1, 0), atom(1, 1, 0)];
+    atoms.extend((KEY..=KNOWN_KEY).map(|key| atom(5, (key == KNOWN_KEY) as u8, key)));
+    atoms.push(atom(2, 0, 0));
+    atoms.extend((0..KNOWN).map(|_| atom(2, 1, 0)));
+    atoms
+}
+
+/// The atoms, with the key and the nonce as secrets.
+pub fn base() -> Sketch {
+    Sketch {
+        atoms: atoms(),
+        secrets: vec![Term::Atom(KEY), nonce()],
+        ..Sketch::default()
+    }
+}
+
+pub fn nonce() -> Term {
+    Term::Atom(NONCE)
+}
+
+/// One of the known nonces.
+pub fn leaf(i: usize) -> Term {
+    Term::Atom(FIRST_KNOWN + (i % KNOWN as usize) as u16)
+}
+
+/// Pattern variables by number: eight plain ones, then eight marked ones.
+pub fn either(i: usize) -> Term {
+    match i % 16 {
+        plain @ 0..8 => Term::Plain(plain as u8),
+        marked => Term::Marked(marked as u8 - 8),
+    }
+}
+
+pub fn plain(i: usize) -> Term {
+    Term::Plain((i % 8) as u8)
+}
+
+/// All variables moved on by a number.
+pub fn moved(term: &Term, by: usize) -> Term {
+    let on = |number: &u8| (*number + (by % 8) as u8) % 8;
+    match term {
+        Term::Plain(number) => Term::Plain(on(number)),
+        Term::Marked(number) => Term::Marked(on(number)),
+        Term::Pair(left, right) => Term::pair(moved(left, by), moved(right, by)),
+        Term::Encryption(message, key) => under(*key, moved(message, by)),
+        Term::Atom(_) => term.clone(),
+    }
+}
+
+pub fn under(key: u16, term: Term) -> Term {
+    Term::encryption(term, key)
+}
+
+/// So many encryptions around the term.
+pub fn chain(length: usize, key: u16, inside: Term) -> Term {
+    (0..length).fold(inside, |term, _| under(key, term))
+}
+
+/// (i0, (i1, (.. , last))).
+pub fn to_the_right(items: impl DoubleEndedIterator<Item = Term>, last: Term) -> Term {
+    items.rev().fold(last, |term, item| Term::pair(item, term))
+}
+
+/// (((last, i0), i1), ..).
+pub fn to_the_left(items: impl Iterator<Item = Term>, last: Term) -> Term {
+    items.fold(last, Term::pair)
+}
+
+/// {(i0, {(i1, .. last)}k)}k: each level costs what its item does and two.
+pub fn links(items: impl DoubleEndedIterator<Item = Term>, key: u16, last: Term) -> Term {
+    items
+        .rev()
+        .fold(last, |term, item| under(key, Term::pair(item, term)))
+}
+
+/// Rules by their number, up to the last block.
+pub fn fill(mut sketch: Sketch, rule: impl Fn(usize) -> (Option<Term>, Term)) -> Sketch {
+    let mut i = 0;
+    while sketch.block_count() < BLOCKS {
+        sketch.rules.push(rule(i));
+        i += 1;
+    }
+    sketch
+}

@@ -1,0 +1,203 @@
+//! Repeated variables, as far as it goes with few steps: variables are bound to
+//! each other or to subterms, and nothing may be bound to what contains it.
+//! Where the steps are used up, `unify` decides.
+//!
+//! Nodes: entries of the term from 0, of the pattern from 64, variables from
+//! 128.
+
+use crate::alphabet::{Symbol, FIRST_VARIABLE, PAIR};
+use crate::term::{span, variable_number, Bits, Occurrences, Term};
+
+const FIRST_OF_VARIABLES: u8 = 128;
+const FREE: u8 = u8::MAX;
+const STEPS: usize = 4;
+const ROOM: usize = 16;
+
+pub struct Quick<'a> {
+    sides: [&'a Term; 2],
+    /// The node that a variable is bound to.
+    bound: [u8; 32],
+    /// The variables that are bound to pairs or encryptions.
+    nested: u32,
+    occurrences: &'a Occurrences,
+    /// How many more pairs of nodes may be taken apart.
+    steps: usize,
+}
+
+/// Why it did not go on.
+#[derive(Debug, PartialEq)]
+pub enum Stopped {
+    /// No replacement makes all equal.
+    Unequal,
+    OutOfSteps,
+}
+
+impl<'a> Quick<'a> {
+    pub fn new(term: &'a Term, occurrences: &'a Occurrences, pattern: &'a Term) -> Quick<'a> {
+        Quick {
+            sides: [term, pattern],
+            bound: [FREE; 32],
+            nested: 0,
+            occurrences,
+            steps: STEPS,
+        }
+    }
+
+    /// The subterm at `i` and the pattern's at `j` are to be equal.
+    #[inline(always)]
+    pub fn equal(&mut self, i: usize, j: usize) -> Result<(), Stopped> {
+        let (one, other) = (self.resolved(i as u8), self.resolved(j as u8 + 64));
+        if one == other {
+            return Ok(());
+        }
+        if other >= FIRST_OF_VARIABLES {
+            return self.bind(other, one);
+        }
+        if one >= FIRST_OF_VARIABLES {
+            return self.bind(one, other);
+        }
+        match self.symbol(one) {
+            symbol if symbol != self.symbol(other) => Err(Stopped::Unequal),
+            symbol if symbol < PAIR => Ok(()),
+            _ => self.equal_nodes(one, other),
+        }
+    }
+
+    /// Two entries that are no variables, and what is below them.
+    fn equal_nodes(&mut self, one: u8, other: u8) -> Result<(), Stopped> {
+        let mut waiting = [(one, other); ROOM];
+        let mut count = 1;
+        while count > 0 {
+            count -= 1;
+            let (one, other) = waiting[count];
+            let (one, other) = (self.resolved(one), self.resolved(other));
+            if one == other {
+                continue;
+            }
+            if one >= FIRST_OF_VARIABLES {
+                self.bind(one, other)?;
+                continue;
+            }
+            if other >= FIRST_OF_VARIABLES {
+                self.bind(other, one)?;
+                continue;
+            }
+            let symbol = self.symbol(one);
+            if symbol != self.symbol(other) {
+                return Err(Stopped::Unequal);
+            }
+            if self.steps == 0 || count + 2 > ROOM {
+                return Err(Stopped::OutOfSteps);
+            }
+            self.steps -= 1;
+            if symbol == PAIR {
+                waiting[count] = (self.second(one), self.second(other));
+                count += 1;
+            }
+            if symbol >= PAIR {
+                waiting[count] = (one + 1, other + 1);
+                count += 1;
+            }
+        }
+        Ok(())
+    }
+
+    fn side(&self, node: u8) -> &'a Term {
+        self.sides[node as usize >> 6 & 1]
+    }
+
+    #[inline(always)]
+    fn symbol(&self, node: u8) -> Symbol {
+        self.side(node).symbol(node as usize)
+    }
+
+    fn second(&self, node: u8) -> u8 {
+        self.side(node).end(node as usize + 1) as u8 + (node & 64)
+    }
+
+    /// The entry or the free variable that a node stands for.
+    #[inline(always)]
+    fn resolved(&self, mut node: u8) -> u8 {
+        loop {
+            let number = if node >= FIRST_OF_VARIABLES {
+                node - FIRST_OF_VARIABLES
+            } else {
+                let symbol = self.symbol(node);
+                if symbol < FIRST_VARIABLE {
+                    return node;
+                }
+                variable_number(symbol) as u8
+            };
+            match self.bound[number as usize & 31] {
+                FREE => return FIRST_OF_VARIABLES + number,
+                next => node = next,
+            }
+        }
+    }
+
+    /// Binds a free variable to a node that is none or another one.
+    #[inline(always)]
+    fn bind(&mut self, variable: u8, node: u8) -> Result<(), Stopped> {
+        let number = (variable - FIRST_OF_VARIABLES) as usize & 31;
+        if node < FIRST_OF_VARIABLES && self.symbol(node) >= PAIR {
+            if self.stands_in(number, node) {
+                return Err(Stopped::Unequal);
+            }
+            self.nested |= 1 << number;
+        }
+        self.bound[number] = node;
+        Ok(())
+    }
+
+    /// The rule's variable stands below this entry of the rule.
+    #[inline(always)]
+    fn stands_in(&self, number: usize, node: u8) -> bool {
+        let at = node as usize;
+        number < 8
+            && at < 64
+            && self.occurrences.places[number] & span(at, self.sides[0].end(at)) != 0
+    }
+
+    /// Nothing is bound to what contains it: takes away, again and again, the
+    /// variables that are bound to something without any of those left.
+    pub fn is_finite(&self) -> bool {
+        if self.nested == 0 {
+            return true;
+        }
+        let mut below = [0u32; 32];
+        for number in Bits(self.nested as u64) {
+            below[number] = self.below(self.bound[number]);
+        }
+        let mut left = self.nested;
+        loop {
+            let stay = Bits(left as u64)
+                .filter(|number| below[*number] & left != 0)
+                .fold(0, |stay, number| stay | 1 << number);
+            if stay == left {
+                return left == 0;
+            }
+            left = stay;
+        }
+    }
+
+    /// The variables below an entry, each as the last one that it is bound to.
+    fn below(&self, node: u8) -> u32 {
+        let (side, at) = (self.side(node), node as usize & 63);
+        let (mut seen, mut below) = (0u32, 0);
+        for i in Bits(side.variables & span(at, side.end(at))) {
+            let number = variable_number(side.symbol(i));
+            if seen >> number & 1 == 0 {
+                seen |= 1 << number;
+                below |= 1 << self.last_variable(number);
+            }
+        }
+        below
+    }
+
+    fn last_variable(&self, mut number: usize) -> usize {
+        while (FIRST_OF_VARIABLES..FREE).contains(&self.bound[number & 31]) {
+            number = (self.bound[number & 31] - FIRST_OF_VARIABLES) as usize;
+        }
+        number
+    }
+}
