@@ -1,9 +1,10 @@
--- Laws of specs/Answer.antt: the answers of the code, and what the packed number tells. Assumes nothing.
-use mathlib.Core.Path.{_≡_, sym, ap, _∙_}
+-- Laws of specs/Answer.antt: the answers of the code, and what tells a verdict. Assumes nothing.
+use mathlib.Core.Path.{_≡_, refl, sym, ap, _∙_}
 use mathlib.Core.Bool.{Bool, true, false}
-use mathlib.Core.List.{List, []}
-use Prim.Native.Nat.{ℕ, _+_, _*_, _/_, _%_, _≤_, _<_}
+use mathlib.Core.List.{List, [], _∷_}
+use Prim.Native.Nat.{ℕ, _+_, _*_, _≤_}
 use native.Mathlib.Omega.{arith}
+use lib.ListN.{getD}
 use borrow.Author.Tests.{eq-eqb, ne-eqb, leb-true}
 use Rattle.blocks.specs.Block.{HasBlock, hasBlock, blockAt}
 use Rattle.judge.specs.declared.verdict.Fault.{Fault}
@@ -18,6 +19,7 @@ use Rattle.judge.specs.Answer.{rowOf, numberOf, blockOf, placeOf, packed
 use Rattle.judge.specs.declared.checking.Checked.{Checked}
 use Rattle.judge.specs.Checked.{checkedOf}
 use Rattle.judge.specs.Verdict.{verdictOf}
+use Rattle.judge.specs.Values.{VerdictValues, verdictValues, judgingValues}
 
 -- ---- the packed number
 
@@ -43,13 +45,46 @@ numbers (Uncovered b p) = omega arith
 pub number-is : {r : Row} (f : Fault) → r ≡ rowOf f → (r .number ≡ numberOf f) × (r .number ≤ 12)
 number-is f e = let same = ap (λ (r : Row). r .number) e in (same, omega (arith, numbers f))
 
--- The loader reads them back: 0 is no refusal, and number, block and place are parts of the packed number.
-pub packed-tells : (f : Fault) → blockOf f < 256 → placeOf f < 256
-    → (0 < packedOf (Refused f))
-    × (packedOf (Refused f) / 65536 ≡ numberOf f)
-    × (packedOf (Refused f) / 256 % 256 ≡ blockOf f)
-    × (packedOf (Refused f) % 256 ≡ placeOf f)
-packed-tells f b p = omega (arith, numbers f)
+-- ---- a verdict is told by its number and values
+
+-- The fault of a number, with this block and place.
+faultBy : ℕ → ℕ → ℕ → Fault
+faultBy n b p = getD
+    (Length ∷ Length ∷ Check b ∷ Kind b ∷ Missing b ∷ Layout b ∷ AtomEntry b p ∷ TermEntry b p ∷ NotOneTerm b p
+    ∷ KnownSecret b ∷ NotClosed b ∷ KeyNotKept b ∷ Uncovered b p ∷ []) n Length
+
+fault-by : (f : Fault) → faultBy (numberOf f) (blockOf f) (placeOf f) ≡ f
+unfolding faultBy
+fault-by Length = refl
+fault-by (Check b) = refl
+fault-by (Kind b) = refl
+fault-by (Missing n) = refl
+fault-by (Layout b) = refl
+fault-by (AtomEntry b p) = refl
+fault-by (TermEntry b p) = refl
+fault-by (NotOneTerm b p) = refl
+fault-by (KnownSecret b) = refl
+fault-by (NotClosed b) = refl
+fault-by (KeyNotKept b) = refl
+fault-by (Uncovered b p) = refl
+
+same-fault : (f g : Fault) → numberOf f ≡ numberOf g → blockOf f ≡ blockOf g → placeOf f ≡ placeOf g → f ≡ g
+same-fault f g n b p = sym (fault-by f) ∙ rw (n, b, p) (fault-by g)
+
+-- Two verdicts with the same number and values are the same.
+pub same-values : (v w : Verdict) → verdictValues v ≡ verdictValues w → v ≡ w
+same-values (Accepted c) (Accepted d) e =
+    let l = ap (λ (x : VerdictValues). x .values) e in
+    let at : (k : ℕ) → getD (verdictValues (Accepted c) .values) k 0 ≡ getD (verdictValues (Accepted d) .values) k 0 =
+    λ k. ap (λ (m : List ℕ). getD m k 0) l in
+    rw (at 0, at 1, at 2, at 3, at 4) refl
+same-values (Accepted c) (Refused f) e =
+    let n = ap (λ (x : VerdictValues). x .number) e in absurd (omega (arith, numbers f))
+same-values (Refused f) (Accepted c) e =
+    let n = ap (λ (x : VerdictValues). x .number) e in absurd (omega (arith, numbers f))
+same-values (Refused f) (Refused g) e =
+    let l = ap (λ (x : VerdictValues). x .values) e in
+    ap Refused (same-fault f g (ap (λ (x : VerdictValues). x .number) e) (ap (λ (m : List ℕ). getD m 0 0) l) (ap (λ (m : List ℕ). getD m 1 0) l))
 
 -- ---- the refused part
 
@@ -102,6 +137,7 @@ tallied-refused t e h = rw (e, h)
 
 -- ---- one check
 
-pub checked-is : (file : List ℕ) (t : Tally) {u : Tally} {v : Verdict} → v ≡ verdictOf file → u ≡ talliedOf t v
-    → _≡_ {A = Checked} (record { verdict = v; tally = u }) (checkedOf file t)
-checked-is file t e h = rw (h, e)
+pub checked-is : (file : List ℕ) (t : Tally) {u : Tally} {v : Verdict}
+    → (v ≡ verdictOf file) × (verdictValues v ≡ judgingValues file) → u ≡ talliedOf t v
+    → (_≡_ {A = Checked} (record { verdict = v; tally = u }) (checkedOf file t)) × (verdictValues v ≡ judgingValues file)
+checked-is file t e h = (rw (h, e .0), e .1)

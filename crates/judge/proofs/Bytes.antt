@@ -11,10 +11,8 @@ use Rattle.terms.specs.Term.{Term, Message, Variable, atom, Foreign, instance, 
 use Rattle.terms.specs.Atom.{Atom, length-atoms}
 use Rattle.terms.specs.TermLaws.{TermRight, atomRight, pairRight, encryptedRight, plainRight, markedRight}
 use Rattle.judge.specs.declared.verdict.Counts.{Counts}
-use Rattle.judge.specs.declared.verdict.Verdict.{Verdict}
-use Rattle.judge.specs.declared.verdict.Verdict.the-variants.{Accepted, Refused}
+use Rattle.judge.specs.declared.verdict.Verdict.the-variants.{Accepted}
 use Rattle.judge.specs.Answer.{packedOf}
-use Rattle.judge.proofs.Answers.{numbers}
 use Rattle.judge.specs.Certificate.{Secret}
 use Rattle.judge.specs.File.{blocksOf, ofKind, patternOf, secretOf, ruleOf, certificateOf}
 use Rattle.judge.specs.Laid.{Laid}
@@ -27,6 +25,7 @@ use Rattle.judge.specs.Meaning.{Formed, Accepts, Every}
 use Rattle.judge.proofs.LaidLaws.{fits, pattern-right, laid}
 use Rattle.judge.proofs.Members.{listed-block}
 use Rattle.judge.proofs.Verdicts.{accepted-iff}
+use Rattle.judge.proofs.Packed.{zero-accepted}
 use Rattle.judge.proofs.Secrecy.{secrecy}
 
 -- ---- accepted bytes
@@ -92,10 +91,4 @@ secrecy-of-accepted file counts e = secrecy (certificateOf file) (accepted-meets
 pub secrecy-of-zero : (file : List ℕ) → packedOf (verdictOf file) ≡ 0
     → (steps : List (Step (certificateOf file))) (s : Message) → Secret (certificateOf file) s
     → Derives (certificateOf file) (after (certificateOf file) steps) s → ⊥
-secrecy-of-zero file zero = go (verdictOf file) refl zero
-  where
-    go : (v : Verdict) → verdictOf file ≡ v → packedOf v ≡ 0
-        → (steps : List (Step (certificateOf file))) (s : Message) → Secret (certificateOf file) s
-        → Derives (certificateOf file) (after (certificateOf file) steps) s → ⊥
-    go (Accepted counts) e none = secrecy-of-accepted file counts e
-    go (Refused f) e none = let n = numbers f in absurd (omega arith)
+secrecy-of-zero file zero = let w = zero-accepted file .0 zero in secrecy-of-accepted file (w .0) (w .1)

@@ -9,6 +9,7 @@ pub mod Judged
 pub mod LaidLaws
 pub mod Members
 pub mod Verdicts
+pub mod Packed
 pub mod Bytes
 pub mod Spots
 pub mod Cases
