@@ -8,6 +8,7 @@ pub mod Exact
 pub mod Judged
 pub mod LaidLaws
 pub mod Members
+pub mod ForeignLaws
 pub mod Verdicts
 pub mod Packed
 pub mod Bytes

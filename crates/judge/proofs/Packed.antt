@@ -4,7 +4,7 @@ use mathlib.Core.Logic.{_↔_}
 use mathlib.Core.List.{List}
 use Prim.Native.Nat.{ℕ, _+_, _/_, _%_, _<_, _≤_}
 use native.Mathlib.Omega.{arith}
-use Rattle.blocks.specs.Block.{blockAt, kindOf, firstCount, secondCount}
+use Rattle.blocks.specs.Block.{blockAt, kindOf, firstCount}
 use Rattle.blocks.specs.Layout.{CountsRight, atoms, term, rule}
 use Rattle.blocks.proofs.Parts.{second-length}
 use Rattle.terms.specs.Entry.{size}
@@ -15,7 +15,7 @@ use Rattle.judge.specs.declared.verdict.Verdict.the-variants.{Accepted, 
 use Rattle.judge.specs.Answer.{numberOf, blockOf, placeOf, packedOf}
 use Rattle.judge.specs.File.{blockCount, ruleOf}
 use Rattle.judge.specs.Verdict.{verdictOf}
-use Rattle.judge.specs.Meaning.{LengthRight, BlockRight, BlockFaulty, checkFails, kindFails, layoutFails, atomFails}
+use Rattle.judge.specs.Meaning.{LengthRight, BlockFaulty, checkFails, kindFails, layoutFails, atomFails}
 use Rattle.judge.specs.Meaning.{entryFails, patternFails, premiseFails, conclusionFails, Formed, Faulty, lengthFails}
 use Rattle.judge.specs.Meaning.{blockFails, missing, secretKnown, secretNotClosed, keyNotKept, placeUncovered}
 use Rattle.judge.proofs.Answers.{numbers}

@@ -6,6 +6,7 @@ pub mod Run
 pub mod Hat
 pub mod Cover
 pub mod Conditions
+pub mod Foreign
 pub mod Decisions
 pub mod Verdict
 pub mod Meaning
