@@ -6,7 +6,7 @@ use Prim.Native.Nat.{ℕ, _+_, _*_, _≤_}
 use native.Mathlib.Omega.{arith}
 use lib.ListN.{getD}
 use borrow.Author.Tests.{eq-eqb, ne-eqb, leb-true}
-use Rattle.blocks.specs.Block.{HasBlock, hasBlock, blockAt}
+use Rattle.blocks.specs.Block.{HasBlock, hasBlock, blockAt, behind}
 use Rattle.judge.specs.declared.verdict.Fault.{Fault}
 use Rattle.judge.specs.declared.verdict.Fault.the-variants.{Length, Check, Kind, Missing, Layout, AtomEntry}
 use Rattle.judge.specs.declared.verdict.Fault.the-variants.{TermEntry, NotOneTerm, KnownSecret, NotClosed, KeyNotKept, Uncovered}
@@ -15,7 +15,8 @@ use Rattle.judge.specs.declared.verdict.Verdict.{Verdict}
 use Rattle.judge.specs.declared.verdict.Verdict.the-variants.{Accepted, Refused}
 use Rattle.judge.specs.declared.answer.Row.{Row}
 use Rattle.judge.specs.declared.answer.Tally.{Tally}
-use Rattle.judge.specs.Answer.{rowOf, numberOf, blockOf, placeOf, packedOf, blockOrNone, partOf, full, raisedOf, talliedOf}
+use Rattle.judge.specs.Answer.{rowOf, numberOf, blockOf, placeOf, packedOf, full, raisedOf, talliedOf}
+use Rattle.judge.specs.Answer.{blockOrNone, blockStart, partOf, partStart}
 use Rattle.judge.specs.declared.checking.Checked.{Checked}
 use Rattle.judge.specs.Checked.{checkedOf}
 use Rattle.judge.specs.Verdict.{verdictOf}
@@ -92,32 +93,45 @@ same-values (Refused f) (Refused g) e =
 pub has : (file : List ℕ) (i : ℕ) {t : Bool} → t ≡ hasBlock file i → t ≡ true → HasBlock file i
 has file i e h = leb-true _ _ (sym e ∙ h)
 
-module _ (file : List ℕ) (i : ℕ) {t : Bool} (e : t ≡ hasBlock file i) where
-  pub block-there : t ≡ true → {part : List ℕ} → part ≡ blockAt file i → part ≡ blockOrNone file i
-  unfolding blockOrNone
-  block-there h p = rw (← e, h) p
+-- A part of a file that begins at `start`: it is the block or empty, and stands where that does.
+module _ (file : List ℕ) (start : ℕ × ℕ) (i : ℕ) {t : Bool} (e : t ≡ hasBlock file i) where
+  abbrev IsBlock : List ℕ → ℕ × ℕ → Type 0
+  IsBlock part place = (part ≡ blockOrNone file i) × (place ≡ behind (blockStart file i) start)
 
-  pub block-lacking : t ≡ false → [] ≡ blockOrNone file i
-  unfolding blockOrNone
-  block-lacking h = rw (← e, h)
+  pub block-there : t ≡ true → {part : List ℕ} {place : ℕ × ℕ} → part ≡ blockAt file i → place ≡ behind (512 * i) start
+      → IsBlock part place
+  unfolding blockOrNone blockStart
+  block-there h p q = (rw (← e, h) p, rw (← e, h) q)
 
-pub part-accepted : (file : List ℕ) {v : Verdict} {c : Counts} → v ≡ Accepted c → [] ≡ partOf file v
-unfolding partOf
-part-accepted file e = rw e
+  pub block-lacking : t ≡ false → IsBlock [] (behind 0 start)
+  unfolding blockOrNone blockStart
+  block-lacking h = (rw (← e, h), rw (← e, h))
 
-module _ (file : List ℕ) {v : Verdict} {f : Fault} (e : v ≡ Refused f) {n : ℕ} (number : n ≡ numberOf f) where
-  pub part-of-one : n ≡ 1 → [] ≡ partOf file v
-  unfolding partOf
-  part-of-one h = rw (e, ← number, eq-eqb n 1 h)
+-- The same of the refused part.
+module _ (file : List ℕ) (start : ℕ × ℕ) where
+  abbrev IsPart : Verdict → List ℕ → ℕ × ℕ → Type 0
+  IsPart v part place = (part ≡ partOf file v) × (place ≡ behind (partStart file v) start)
 
-  pub part-of-four : (n ≡ 1 → ⊥) → n ≡ 4 → [] ≡ partOf file v
-  unfolding partOf
-  part-of-four l h = rw (e, ← number, ne-eqb n 1 l, eq-eqb n 4 h)
+  pub part-accepted : {v : Verdict} {c : Counts} → v ≡ Accepted c → IsPart v [] (behind 0 start)
+  unfolding partOf partStart
+  part-accepted e = (rw e, rw e)
 
-  pub part-of-other : (n ≡ 1 → ⊥) → (n ≡ 4 → ⊥) → {b : ℕ} {part : List ℕ} → b ≡ blockOf f → part ≡ blockOrNone file b
-      → part ≡ partOf file v
-  unfolding partOf
-  part-of-other l m q p = rw (e, ← number, ne-eqb n 1 l, ne-eqb n 4 m, ← q) p
+  module _ {v : Verdict} {f : Fault} (e : v ≡ Refused f) {n : ℕ} (number : n ≡ numberOf f) where
+    pub part-of-one : n ≡ 1 → IsPart v [] (behind 0 start)
+    unfolding partOf partStart
+    part-of-one h = let one = eq-eqb n 1 h in (rw (e, ← number, one), rw (e, ← number, one))
+
+    pub part-of-four : (n ≡ 1 → ⊥) → n ≡ 4 → IsPart v [] (behind 0 start)
+    unfolding partOf partStart
+    part-of-four l h =
+        let one = ne-eqb n 1 l in let four = eq-eqb n 4 h in (rw (e, ← number, one, four), rw (e, ← number, one, four))
+
+    pub part-of-other : (n ≡ 1 → ⊥) → (n ≡ 4 → ⊥) → {b : ℕ} {part : List ℕ} {place : ℕ × ℕ} → b ≡ blockOf f
+        → (part ≡ blockOrNone file b) × (place ≡ behind (blockStart file b) start) → IsPart v part place
+    unfolding partOf partStart
+    part-of-other l m q p =
+        let one = ne-eqb n 1 l in let four = ne-eqb n 4 m in
+        (rw (e, ← number, one, four, ← q) (p .0), rw (e, ← number, one, four, ← q) (p .1))
 
 -- ---- the tally
 
