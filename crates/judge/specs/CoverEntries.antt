@@ -28,6 +28,10 @@ subAt e k = termOf (from (4 * k) e)
 abbrev pub On : List ℕ → ℕ → Type 0
 On flags k = getD flags k 0 ≡ 1
 
+-- Every flag is 0 or 1: what says which are on then says them all.
+abbrev pub Bits : List ℕ → Type 0
+Bits flags = (k : ℕ) → getD flags k 0 ≤ 1
+
 -- The flag of an answer; and a flag, put off or as it is.
 unfoldable pub flagOf : Bool → ℕ
 flagOf true = 1
@@ -66,11 +70,13 @@ pub record Painted (old new : List ℕ) (low high value : ℕ) : Type 0 where
 -- The flags that were on, and those of which P holds, are on.
 pub record Raised (old new : List ℕ) (P : ℕ → Type 0) : Type 0 where
   pub long : length new ≡ 64
+  pub bits : Bits old → Bits new
   pub on : (k : ℕ) → On new k ↔ (On old k ⊎ P k)
 
 -- Of the flags that were on, those of which P does not hold are on.
 pub record Cleared (old new : List ℕ) (P : ℕ → Type 0) : Type 0 where
   pub long : length new ≡ 64
+  pub bits : Bits old → Bits new
   pub kept : (k : ℕ) → On new k → On old k × ¬ P k
   pub gone : (k : ℕ) → On old k → ¬ On new k → P k
 
@@ -124,6 +130,7 @@ pub record HatBelow (certificate : Certificate) (e : List ℕ) (n k : ℕ) : Typ
 -- The flags are on where P holds.
 pub record Flags (flags : List ℕ) (P : ℕ → Type 0) : Type 0 where
   pub long : length flags ≡ 64
+  pub bits : Bits flags
   pub on : (k : ℕ) → On flags k ↔ P k
 
 -- The entries of a term, or none: a rule's premise.
@@ -141,6 +148,7 @@ pub record OpenBelow (certificate : Certificate) (e : List ℕ) (n k : ℕ) : Ty
 -- The entries strictly below entry h are closed, if it is an encryption that no open place may have above it.
 pub record ClosedBelow (certificate : Certificate) (old new e : List ℕ) (h : ℕ) : Type 0 where
   pub long : length new ≡ 64
+  pub bits : Bits old → Bits new
   pub on : (k : ℕ) → On new k ↔ (On old k × (getD e (4 * h) 0 ≡ 3 → h < k → k < h + size (subAt e h) → NoHat certificate (subAt e h)))
 
 -- Entry k is an open place of the term, if there is one.
@@ -157,10 +165,12 @@ pub record OpenHolds (certificate : Certificate) (e : List ℕ) (P : Term Variab
 -- The flags are on at the wanted entries that are open as far as the first n entries go; at those that are open.
 pub record OpenAmong (certificate : Certificate) (e wanted : List ℕ) (n : ℕ) (flags : List ℕ) : Type 0 where
   pub long : length flags ≡ 64
+  pub bits : Bits wanted → Bits flags
   pub on : (k : ℕ) → On flags k ↔ (On wanted k × OpenBelow certificate e n k)
 
 pub record OpenFlags (certificate : Certificate) (e wanted flags : List ℕ) : Type 0 where
   pub long : length flags ≡ 64
+  pub bits : Bits wanted → Bits flags
   pub on : (k : ℕ) → On flags k ↔ (On wanted k × OpenEntry certificate e k)
 
 -- What a search through flagged entries asks for.
