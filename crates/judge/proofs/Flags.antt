@@ -8,7 +8,7 @@ use native.Mathlib.Omega.{arith}
 use native.Mathlib.Decide.{ℕ-discrete, decLe, decLt}
 use lib.Dec.{eqb}
 use borrow.Author.Tests.{eqb-true, eqb-false}
-use lib.ListN.{length, getD, set, length-set, replicate, getD-replicate, List·getD-eq-default}
+use lib.ListN.{length, getD, set, length-set, replicate, length-replicate, getD-replicate, List·getD-eq-default}
 use lib.Seq.{getD-set-same, getD-set-other}
 use Rattle.terms.specs.Solve.{Says}
 use Rattle.judge.specs.CoverEntries.{On, Bits, flagOf, putOff, Painted, Raised, Cleared, SomeOn}
@@ -32,18 +32,18 @@ pub painted-all : {old flags : List ℕ} {low k high value : ℕ} → Painted ol
 painted-all p is = rw is at p
 
 -- No flag is on at first: all are 0.
-zero-at : (k : ℕ) → getD {A = ℕ} (replicate 64 0) k 0 ≡ 0
-zero-at k = go (decLt k 64)
+pub zero-at : (n k : ℕ) → getD {A = ℕ} (replicate n 0) k 0 ≡ 0
+zero-at n k = go (decLt k n)
   where
-    go : Dec (k < 64) → getD {A = ℕ} (replicate 64 0) k 0 ≡ 0
-    go (yes l) = getD-replicate 64 k 0 0 l
-    go (no n) = List·getD-eq-default (replicate 64 0) 0 {n = k} (omega arith)
+    go : Dec (k < n) → getD {A = ℕ} (replicate n 0) k 0 ≡ 0
+    go (yes l) = getD-replicate n k 0 0 l
+    go (no m) = List·getD-eq-default (replicate n 0) 0 {n = k} (let long : length {A = ℕ} (replicate n 0) ≡ n = length-replicate n 0 in omega arith)
 
 pub zero-off : (k : ℕ) → ¬ On (replicate 64 0) k
-zero-off k o = omega (arith, zero-at k)
+zero-off k o = omega (arith, zero-at 64 k)
 
 pub zero-bits : Bits (replicate 64 0)
-zero-bits k = omega (arith, zero-at k)
+zero-bits k = omega (arith, zero-at 64 k)
 
 -- Flags stay 0 or 1 where they are painted with such a value, and where one is written.
 pub painted-bits : {old new : List ℕ} {low high value : ℕ} → Painted old new low high value → value ≤ 1 → Bits old → Bits new
@@ -54,7 +54,7 @@ painted-bits {old} {new} {low} {high} p small b k = go (decLe low k) (decLt k hi
     go (yes l) (no n) = omega (arith, p .outside k (λ w. n (w .1)), b k)
     go (no n) d = omega (arith, p .outside k (λ w. n (w .0)), b k)
 
-bits-set : (flags : List ℕ) (n v : ℕ) → n < length flags → v ≤ 1 → Bits flags → Bits (set flags n v)
+pub bits-set : (flags : List ℕ) (n v : ℕ) → n < length flags → v ≤ 1 → Bits flags → Bits (set flags n v)
 bits-set flags n v inside small b k = go (ℕ-discrete k n)
   where
     go : Dec (k ≡ n) → getD (set flags n v) k 0 ≤ 1

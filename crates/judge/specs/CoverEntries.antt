@@ -46,7 +46,8 @@ unfoldable pub toldOf : Bool → ℕ
 toldOf true = 1
 toldOf false = 2
 
--- What is remembered of a claim about the subterms at e's entries is so.
+-- What is remembered of a claim about the subterms at e's entries is so. (Which answers are remembered is left open: one
+-- that is missing is asked for.)
 pub record Remembered (P : Term Variable → Type 0) (e memo : List ℕ) : Type 0 where
   pub long : length memo ≡ 64
   pub holds : (k : ℕ) → getD memo k 0 ≡ 1 → P (subAt e k)
@@ -189,7 +190,8 @@ pub record SomeFlagged (e flags : List ℕ) (P : Term Variable → Type 0) : Typ
   pub is : FlaggedWith e flags P number
 
 -- A table of the flagged entries by the slots of their roots: a slot has the number of a flagged entry, counted from 1, and
--- the slot of each flagged entry has one. (Of those below n: as far as it is filled in.)
+-- the slot of each flagged entry has one; which of several with one slot it has is left open. (Of those below n: as far as
+-- it is filled in.)
 pub record IndexedBelow (e flags : List ℕ) (n : ℕ) (index : List ℕ) : Type 0 where
   pub long : length index ≡ 400
   pub points : (s : ℕ) → ¬ (getD index s 0 ≡ 0) → On flags (getD index s 0 - 1)
