@@ -48,6 +48,10 @@ firstEntries b = take (4 * firstCount b) (entriesOf b)
 unfoldable pub secondEntries : List ℕ → List ℕ
 secondEntries b = take (4 * secondCount b) (drop (4 * firstCount b) (entriesOf b))
 
+-- Where a part stands: so many bytes behind the start of what it is a part of. (A place is a piece of memory and an offset.)
+abbrev pub behind : ℕ → ℕ × ℕ → ℕ × ℕ
+behind n start = (start .0, n + start .1)
+
 -- A block of 512 bytes whose two counts have room among its 126 entries. Number 5 gives it.
 pub record Fitting (b : List ℕ) : Type 0 where
   pub size : length b ≡ 512

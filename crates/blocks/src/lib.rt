@@ -4,8 +4,9 @@ pub mod weights;
 ghost use mathlib.Core.Path.{_≡_};
 ghost use Prim.Native.Nat.{_+_, _*_, _≤_, _<_};
 ghost use lib.ListN.{length};
+ghost use denote.Ref.{ptr};
 ghost use Rattle.blocks.specs.Block.{HasBlock, hasBlock, blockAt, wordAt, kindOf, firstCount, secondCount};
-ghost use Rattle.blocks.specs.Block.{firstEntries, secondEntries, Fitting};
+ghost use Rattle.blocks.specs.Block.{firstEntries, secondEntries, behind, Fitting};
 ghost use Rattle.blocks.specs.Check.{checkA, checkB, checkRight, valuesOf, sealing, sealingValues, afterSealing};
 ghost use Rattle.blocks.specs.Layout.{within, countsRight, zeroFrom, layoutRight};
 
@@ -62,6 +63,7 @@ pub fn block(file: &[u8], i: usize) -> &[u8]
     requires { ⌜ HasBlock (now file) i ⌝ }
     ensures part { λ r. ⌜ now r ≡ blockAt (now (file .entry)) i ⌝ }
     ensures size { λ r. ⌜ length (now r) ≡ 512 ⌝ }
+    ensures place { λ r. ⌜ ptr r ≡ behind (512 * i) (ptr (file .entry)) ⌝ }
 {
     &file[512 * i..512 * i + 512]
 }
@@ -103,6 +105,7 @@ pub fn first_entries(block: &[u8]) -> &[u8]
     requires { ⌜ Fitting (now block) ⌝ }
     ensures part { λ r. ⌜ now r ≡ firstEntries (now (block .entry)) ⌝ }
     ensures size { λ r. ⌜ length (now r) ≡ 4 * firstCount (now (block .entry)) ⌝ }
+    ensures place { λ r. ⌜ ptr r ≡ behind 4 (ptr (block .entry)) ⌝ }
 {
     let end = 4 + 4 * first_count(block);
     &block[4..end]
@@ -113,6 +116,7 @@ pub fn second_entries(block: &[u8]) -> &[u8]
     requires { ⌜ Fitting (now block) ⌝ }
     ensures part { λ r. ⌜ now r ≡ secondEntries (now (block .entry)) ⌝ }
     ensures size { λ r. ⌜ length (now r) ≡ 4 * secondCount (now (block .entry)) ⌝ }
+    ensures place { λ r. ⌜ ptr r ≡ behind (4 + 4 * firstCount (now (block .entry))) (ptr (block .entry)) ⌝ }
 {
     let start = 4 + 4 * first_count(block);
     let end = start + 4 * second_count(block);

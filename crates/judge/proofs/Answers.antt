@@ -1,11 +1,12 @@
--- Laws of specs/Answer.antt: the answers of the code, and what the packed number tells. Assumes nothing.
-use mathlib.Core.Path.{_≡_, sym, ap, _∙_}
+-- Laws of specs/Answer.antt: the answers of the code, and what tells a verdict. Assumes nothing.
+use mathlib.Core.Path.{_≡_, refl, sym, ap, _∙_}
 use mathlib.Core.Bool.{Bool, true, false}
-use mathlib.Core.List.{List, []}
-use Prim.Native.Nat.{ℕ, _+_, _*_, _/_, _%_, _≤_, _<_}
+use mathlib.Core.List.{List, [], _∷_}
+use Prim.Native.Nat.{ℕ, _+_, _*_, _≤_}
 use native.Mathlib.Omega.{arith}
+use lib.ListN.{getD}
 use borrow.Author.Tests.{eq-eqb, ne-eqb, leb-true}
-use Rattle.blocks.specs.Block.{HasBlock, hasBlock, blockAt}
+use Rattle.blocks.specs.Block.{HasBlock, hasBlock, blockAt, behind}
 use Rattle.judge.specs.declared.verdict.Fault.{Fault}
 use Rattle.judge.specs.declared.verdict.Fault.the-variants.{Length, Check, Kind, Missing, Layout, AtomEntry}
 use Rattle.judge.specs.declared.verdict.Fault.the-variants.{TermEntry, NotOneTerm, KnownSecret, NotClosed, KeyNotKept, Uncovered}
@@ -14,10 +15,12 @@ use Rattle.judge.specs.declared.verdict.Verdict.{Verdict}
 use Rattle.judge.specs.declared.verdict.Verdict.the-variants.{Accepted, Refused}
 use Rattle.judge.specs.declared.answer.Row.{Row}
 use Rattle.judge.specs.declared.answer.Tally.{Tally}
-use Rattle.judge.specs.Answer.{rowOf, numberOf, blockOf, placeOf, packedOf, blockOrNone, partOf, full, raisedOf, talliedOf}
+use Rattle.judge.specs.Answer.{rowOf, numberOf, blockOf, placeOf, packedOf, full, raisedOf, talliedOf}
+use Rattle.judge.specs.Answer.{blockOrNone, blockStart, partOf, partStart}
 use Rattle.judge.specs.declared.checking.Checked.{Checked}
 use Rattle.judge.specs.Checked.{checkedOf}
 use Rattle.judge.specs.Verdict.{verdictOf}
+use Rattle.judge.specs.Values.{VerdictValues, verdictValues, judgingValues}
 
 -- ---- the packed number
 
@@ -43,13 +46,46 @@ numbers (Uncovered b p) = omega arith
 pub number-is : {r : Row} (f : Fault) → r ≡ rowOf f → (r .number ≡ numberOf f) × (r .number ≤ 12)
 number-is f e = let same = ap (λ (r : Row). r .number) e in (same, omega (arith, numbers f))
 
--- The loader reads them back: 0 is no refusal, and number, block and place are parts of the packed number.
-pub packed-tells : (f : Fault) → blockOf f < 256 → placeOf f < 256
-    → (0 < packedOf (Refused f))
-    × (packedOf (Refused f) / 65536 ≡ numberOf f)
-    × (packedOf (Refused f) / 256 % 256 ≡ blockOf f)
-    × (packedOf (Refused f) % 256 ≡ placeOf f)
-packed-tells f b p = omega (arith, numbers f)
+-- ---- a verdict is told by its number and values
+
+-- The fault of a number, with this block and place.
+faultBy : ℕ → ℕ → ℕ → Fault
+faultBy n b p = getD
+    (Length ∷ Length ∷ Check b ∷ Kind b ∷ Missing b ∷ Layout b ∷ AtomEntry b p ∷ TermEntry b p ∷ NotOneTerm b p
+    ∷ KnownSecret b ∷ NotClosed b ∷ KeyNotKept b ∷ Uncovered b p ∷ []) n Length
+
+fault-by : (f : Fault) → faultBy (numberOf f) (blockOf f) (placeOf f) ≡ f
+unfolding faultBy
+fault-by Length = refl
+fault-by (Check b) = refl
+fault-by (Kind b) = refl
+fault-by (Missing n) = refl
+fault-by (Layout b) = refl
+fault-by (AtomEntry b p) = refl
+fault-by (TermEntry b p) = refl
+fault-by (NotOneTerm b p) = refl
+fault-by (KnownSecret b) = refl
+fault-by (NotClosed b) = refl
+fault-by (KeyNotKept b) = refl
+fault-by (Uncovered b p) = refl
+
+same-fault : (f g : Fault) → numberOf f ≡ numberOf g → blockOf f ≡ blockOf g → placeOf f ≡ placeOf g → f ≡ g
+same-fault f g n b p = sym (fault-by f) ∙ rw (n, b, p) (fault-by g)
+
+-- Two verdicts with the same number and values are the same.
+pub same-values : (v w : Verdict) → verdictValues v ≡ verdictValues w → v ≡ w
+same-values (Accepted c) (Accepted d) e =
+    let l = ap (λ (x : VerdictValues). x .values) e in
+    let at : (k : ℕ) → getD (verdictValues (Accepted c) .values) k 0 ≡ getD (verdictValues (Accepted d) .values) k 0 =
+    λ k. ap (λ (m : List ℕ). getD m k 0) l in
+    rw (at 0, at 1, at 2, at 3, at 4) refl
+same-values (Accepted c) (Refused f) e =
+    let n = ap (λ (x : VerdictValues). x .number) e in absurd (omega (arith, numbers f))
+same-values (Refused f) (Accepted c) e =
+    let n = ap (λ (x : VerdictValues). x .number) e in absurd (omega (arith, numbers f))
+same-values (Refused f) (Refused g) e =
+    let l = ap (λ (x : VerdictValues). x .values) e in
+    ap Refused (same-fault f g (ap (λ (x : VerdictValues). x .number) e) (ap (λ (m : List ℕ). getD m 0 0) l) (ap (λ (m : List ℕ). getD m 1 0) l))
 
 -- ---- the refused part
 
@@ -57,32 +93,45 @@ packed-tells f b p = omega (arith, numbers f)
 pub has : (file : List ℕ) (i : ℕ) {t : Bool} → t ≡ hasBlock file i → t ≡ true → HasBlock file i
 has file i e h = leb-true _ _ (sym e ∙ h)
 
-module _ (file : List ℕ) (i : ℕ) {t : Bool} (e : t ≡ hasBlock file i) where
-  pub block-there : t ≡ true → {part : List ℕ} → part ≡ blockAt file i → part ≡ blockOrNone file i
-  unfolding blockOrNone
-  block-there h p = rw (← e, h) p
+-- A part of a file that begins at `start`: it is the block or empty, and stands where that does.
+module _ (file : List ℕ) (start : ℕ × ℕ) (i : ℕ) {t : Bool} (e : t ≡ hasBlock file i) where
+  abbrev IsBlock : List ℕ → ℕ × ℕ → Type 0
+  IsBlock part place = (part ≡ blockOrNone file i) × (place ≡ behind (blockStart file i) start)
 
-  pub block-lacking : t ≡ false → [] ≡ blockOrNone file i
-  unfolding blockOrNone
-  block-lacking h = rw (← e, h)
+  pub block-there : t ≡ true → {part : List ℕ} {place : ℕ × ℕ} → part ≡ blockAt file i → place ≡ behind (512 * i) start
+      → IsBlock part place
+  unfolding blockOrNone blockStart
+  block-there h p q = (rw (← e, h) p, rw (← e, h) q)
 
-pub part-accepted : (file : List ℕ) {v : Verdict} {c : Counts} → v ≡ Accepted c → [] ≡ partOf file v
-unfolding partOf
-part-accepted file e = rw e
+  pub block-lacking : t ≡ false → IsBlock [] (behind 0 start)
+  unfolding blockOrNone blockStart
+  block-lacking h = (rw (← e, h), rw (← e, h))
 
-module _ (file : List ℕ) {v : Verdict} {f : Fault} (e : v ≡ Refused f) {n : ℕ} (number : n ≡ numberOf f) where
-  pub part-of-one : n ≡ 1 → [] ≡ partOf file v
-  unfolding partOf
-  part-of-one h = rw (e, ← number, eq-eqb n 1 h)
+-- The same of the refused part.
+module _ (file : List ℕ) (start : ℕ × ℕ) where
+  abbrev IsPart : Verdict → List ℕ → ℕ × ℕ → Type 0
+  IsPart v part place = (part ≡ partOf file v) × (place ≡ behind (partStart file v) start)
 
-  pub part-of-four : (n ≡ 1 → ⊥) → n ≡ 4 → [] ≡ partOf file v
-  unfolding partOf
-  part-of-four l h = rw (e, ← number, ne-eqb n 1 l, eq-eqb n 4 h)
+  pub part-accepted : {v : Verdict} {c : Counts} → v ≡ Accepted c → IsPart v [] (behind 0 start)
+  unfolding partOf partStart
+  part-accepted e = (rw e, rw e)
 
-  pub part-of-other : (n ≡ 1 → ⊥) → (n ≡ 4 → ⊥) → {b : ℕ} {part : List ℕ} → b ≡ blockOf f → part ≡ blockOrNone file b
-      → part ≡ partOf file v
-  unfolding partOf
-  part-of-other l m q p = rw (e, ← number, ne-eqb n 1 l, ne-eqb n 4 m, ← q) p
+  module _ {v : Verdict} {f : Fault} (e : v ≡ Refused f) {n : ℕ} (number : n ≡ numberOf f) where
+    pub part-of-one : n ≡ 1 → IsPart v [] (behind 0 start)
+    unfolding partOf partStart
+    part-of-one h = let one = eq-eqb n 1 h in (rw (e, ← number, one), rw (e, ← number, one))
+
+    pub part-of-four : (n ≡ 1 → ⊥) → n ≡ 4 → IsPart v [] (behind 0 start)
+    unfolding partOf partStart
+    part-of-four l h =
+        let one = ne-eqb n 1 l in let four = eq-eqb n 4 h in (rw (e, ← number, one, four), rw (e, ← number, one, four))
+
+    pub part-of-other : (n ≡ 1 → ⊥) → (n ≡ 4 → ⊥) → {b : ℕ} {part : List ℕ} {place : ℕ × ℕ} → b ≡ blockOf f
+        → (part ≡ blockOrNone file b) × (place ≡ behind (blockStart file b) start) → IsPart v part place
+    unfolding partOf partStart
+    part-of-other l m q p =
+        let one = ne-eqb n 1 l in let four = ne-eqb n 4 m in
+        (rw (e, ← number, one, four, ← q) (p .0), rw (e, ← number, one, four, ← q) (p .1))
 
 -- ---- the tally
 
@@ -102,6 +151,7 @@ tallied-refused t e h = rw (e, h)
 
 -- ---- one check
 
-pub checked-is : (file : List ℕ) (t : Tally) {u : Tally} {v : Verdict} → v ≡ verdictOf file → u ≡ talliedOf t v
-    → _≡_ {A = Checked} (record { verdict = v; tally = u }) (checkedOf file t)
-checked-is file t e h = rw (h, e)
+pub checked-is : (file : List ℕ) (t : Tally) {u : Tally} {v : Verdict}
+    → (v ≡ verdictOf file) × (verdictValues v ≡ judgingValues file) → u ≡ talliedOf t v
+    → (_≡_ {A = Checked} (record { verdict = v; tally = u }) (checkedOf file t)) × (verdictValues v ≡ judgingValues file)
+checked-is file t e h = (rw (h, e .0), e .1)

@@ -1,18 +1,21 @@
 -- Document 01's starred certificates to try: whole files in one table, under one theorem by computation.
-use mathlib.Core.Path.{_≡_, refl}
-use mathlib.Core.Bool.{false}
+use mathlib.Core.Path.{_≡_, refl, sym, subst}
 use mathlib.Core.Logic.{_⊎_, inl, inr}
-use mathlib.Core.List.{List, [], _∷_, _++_, map, List·Memᴰ, List·Memᴰ·not-nil, List·Memᴰ·cases-cons}
+use mathlib.Core.List.{List, [], _∷_, _++_, List·Memᴰ, List·Memᴰ·not-nil, List·Memᴰ·cases-cons}
 use Prim.Native.Nat.{ℕ, zero, suc}
+use Prim.Native.String.{String}
+use Rattle.blocks.specs.Block.{blockAt}
 use Rattle.blocks.specs.Check.{sealed}
 use Rattle.terms.specs.Term.{Term, Variable, variable, atom, pair, encrypted, plain, marked}
 use Rattle.terms.specs.Entry.{entriesOf, size}
 use Rattle.terms.specs.Instance.{Share}
-use Rattle.terms.specs.Decide.{answer, no-of, share?, variable?}
-use Rattle.judge.specs.declared.verdict.Fault.the-variants.{KnownSecret, NotClosed, KeyNotKept, Uncovered}
-use Rattle.judge.specs.declared.verdict.Verdict.{Verdict}
-use Rattle.judge.specs.declared.verdict.Verdict.the-variants.{Accepted, Refused}
+use Rattle.terms.specs.Decide.{yes-of, no-of, share?, variable?}
+use Rattle.judge.specs.File.{ruleOf, certificateOf}
+use Rattle.judge.specs.Cover.{Dead}
+use Rattle.judge.specs.Decisions.{dead?}
 use Rattle.judge.specs.Verdict.{verdictOf, computing}
+use Rattle.judge.specs.Values.{VerdictValues, verdictValues}
+use Rattle.judge.specs.Line.{textOf, digitsOf, fieldOf, newline, threeFields, acceptedLine, refusedLine, lineOf}
 
 -- ---- files from terms
 
@@ -92,64 +95,102 @@ usual : List (List ℕ) → List ℕ
 unfolding joined atoms secret good
 usual rest = joined (atoms ∷ secret N ∷ secret K ∷ good (encrypted 2 s) ∷ rest)
 
-accepted : ℕ → ℕ → ℕ → ℕ → ℕ → Verdict
-accepted blocks secrets goods bads rules =
-    Accepted (record { blocks = blocks; secrets = secrets; goods = goods; bads = bads; rules = rules })
-
 -- ---- the table
 
-pub table : List (List ℕ × Verdict)
-unfolding usual joined atoms secret good bad from start accepted
+-- What document 01 says of a case.
+pub data Case : Type 0 where
+  -- The file gets this number, with block and place, or 0 with its counts.
+  judged : List ℕ → VerdictValues → Case
+  -- This is its line.
+  printed : List ℕ → String → Case
+  -- The rule of this block is dead.
+  isDead : List ℕ → ℕ → Case
+  -- The two terms share no instance.
+  apart : Term Variable → Term Variable → Case
+
+abbrev pub Holds : Case → Type 0
+Holds (judged file values) = verdictValues (verdictOf file) ≡ values
+Holds (printed file line) = lineOf (verdictOf file) ≡ textOf line
+Holds (isDead file i) = Dead (certificateOf file) (ruleOf (blockAt file i))
+Holds (apart s t) = Share s t → ⊥
+
+accepted : ℕ → ℕ → ℕ → ℕ → ℕ → VerdictValues
+accepted blocks secrets goods bads rules = record { number = 0; values = blocks ∷ secrets ∷ goods ∷ bads ∷ rules ∷ [] }
+
+refused : ℕ → ℕ → ℕ → VerdictValues
+refused number block place = record { number = number; values = block ∷ place ∷ [] }
+
+-- a. rule with no premise, conclusion {N}2
+a : List ℕ
+unfolding usual start
+a = usual (start (encrypted 2 N) ∷ [])
+
+-- b. conclusion {N}4
+b : List ℕ
+unfolding usual start
+b = usual (start (encrypted 4 N) ∷ [])
+
+-- k. N to 3
+k : List ℕ
+unfolding usual from
+k = usual (from N K ∷ [])
+
+pub table : List Case
+unfolding a b k usual joined atoms secret good bad from start accepted refused
 table =
-    -- a. rule with no premise, conclusion {N}2
-    (usual (start (encrypted 2 N) ∷ []), accepted 5 2 1 0 1)
-    -- b. conclusion {N}4
-    ∷ (usual (start (encrypted 4 N) ∷ []), Refused (Uncovered 4 1))
+    judged a (accepted 5 2 1 0 1)
+    ∷ printed a "accepted blocks=5 secrets=2 good=1 bad=0 rules=1\n"
+    ∷ judged b (refused 12 4 1)
+    ∷ printed b "refused 12 block=4 place=1\n"
     -- c. {x}2 to {x}4
-    ∷ (usual (from (encrypted 2 x) (encrypted 4 x) ∷ []), Refused (Uncovered 4 3))
+    ∷ judged (usual (from (encrypted 2 x) (encrypted 4 x) ∷ [])) (refused 12 4 3)
     -- d. {x}4 to x
-    ∷ (usual (from (encrypted 4 x) x ∷ []), accepted 5 2 1 0 1)
+    ∷ judged (usual (from (encrypted 4 x) x ∷ [])) (accepted 5 2 1 0 1)
     -- e. good {(T, *s)}2 instead, {(I, x)}2 to {x}4
-    ∷ (
-      joined (atoms ∷ secret N ∷ secret K ∷ good (encrypted 2 (pair T s)) ∷ from (encrypted 2 (pair I x)) (encrypted 4 x) ∷ []),
-      accepted 5 2 1 0 1,
-    )
+    ∷ judged
+    (joined (atoms ∷ secret N ∷ secret K ∷ good (encrypted 2 (pair T s)) ∷ from (encrypted 2 (pair I x)) (encrypted 4 x) ∷ []))
+    (accepted 5 2 1 0 1)
     -- f. with bad {(I, x)}2: the rule of e
-    ∷ (usual (bad (encrypted 2 (pair I x)) ∷ from (encrypted 2 (pair I x)) (encrypted 4 x) ∷ []), accepted 6 2 1 1 1)
+    ∷ judged (usual (bad (encrypted 2 (pair I x)) ∷ from (encrypted 2 (pair I x)) (encrypted 4 x) ∷ [])) (accepted 6 2 1 1 1)
     -- g. with the same bad, {(T, x)}2 to {x}2
-    ∷ (usual (bad (encrypted 2 (pair I x)) ∷ from (encrypted 2 (pair T x)) (encrypted 2 x) ∷ []), Refused (Uncovered 5 5))
+    ∷ judged (usual (bad (encrypted 2 (pair I x)) ∷ from (encrypted 2 (pair T x)) (encrypted 2 x) ∷ [])) (refused 12 5 5)
     -- h. secret N alone, the rule of a
-    ∷ (joined (atoms ∷ secret N ∷ good (encrypted 2 s) ∷ start (encrypted 2 N) ∷ []), Refused (KeyNotKept 2))
+    ∷ judged (joined (atoms ∷ secret N ∷ good (encrypted 2 s) ∷ start (encrypted 2 N) ∷ [])) (refused 11 2 0)
     -- i. secret T first, the rule of a
-    ∷ (joined (atoms ∷ secret T ∷ secret N ∷ secret K ∷ good (encrypted 2 s) ∷ start (encrypted 2 N) ∷ []), Refused (KnownSecret 1))
+    ∷ judged (joined (atoms ∷ secret T ∷ secret N ∷ secret K ∷ good (encrypted 2 s) ∷ start (encrypted 2 N) ∷ [])) (refused 9 1 0)
     -- j. secret (N, T) alone, the rule of a
-    ∷ (joined (atoms ∷ secret (pair N T) ∷ good (encrypted 2 s) ∷ start (encrypted 2 N) ∷ []), Refused (NotClosed 1))
-    -- k. N to 3: dead
-    ∷ (usual (from N K ∷ []), accepted 5 2 1 0 1)
+    ∷ judged (joined (atoms ∷ secret (pair N T) ∷ good (encrypted 2 s) ∷ start (encrypted 2 N) ∷ [])) (refused 10 1 0)
+    ∷ judged k (accepted 5 2 1 0 1)
+    ∷ isDead k 4
+    -- l. (x, x) and (y, (T, y))
+    ∷ apart (pair x x) (pair y (pair T y))
     ∷ []
 
--- All rows, computed.
-rows : map (λ (row : List ℕ × Verdict). verdictOf (row .0)) table ≡ map (λ (row : List ℕ × Verdict). row .1) table
-unfolding table computing
-rows = refl
+-- ---- the theorem
 
--- Two functions that agree along a list agree at each member.
-agree : {A B : Type 0} (f g : A → B) (l : List A) → map f l ≡ map g l → (a : A) → List·Memᴰ a l → f a ≡ g a
-agree f g [] e a m = absurd (List·Memᴰ·not-nil m)
-agree {A} {B} f g (x ∷ l) e a m = go (List·Memᴰ·cases-cons m) (agree f g l (cc) a)
+-- Every case of a list holds.
+infixr 35 _also_
+data Hold : List Case → Type 0 where
+  none : Hold []
+  _also_ : {c : Case} {l : List Case} → Holds c → Hold l → Hold (c ∷ l)
+
+each : {l : List Case} → Hold l → (c : Case) → List·Memᴰ c l → Holds c
+each none c m = absurd (List·Memᴰ·not-nil m)
+each (_also_ {c = d} {l = l} p h) c m = go (List·Memᴰ·cases-cons m) (each h c)
   where
-    go : (a ≡ x) ⊎ List·Memᴰ a l → (List·Memᴰ a l → f a ≡ g a) → f a ≡ g a
-    go (inl q) rest = let h : f x ≡ g x = cc in rw q h
+    go : (c ≡ d) ⊎ List·Memᴰ c l → (List·Memᴰ c l → Holds c) → Holds c
+    go (inl e) rest = subst Holds (sym e) p
     go (inr n) rest = rest n
 
--- The starred cases a to k: the verdict of every row's file is the row's.
-pub cases : (row : List ℕ × Verdict) → List·Memᴰ row table → verdictOf (row .0) ≡ row .1
-cases row m = agree (λ (r : List ℕ × Verdict). verdictOf (r .0)) (λ (r : List ℕ × Verdict). r .1) table rows row m
+-- All rows, computed.
+rows : Hold table
+unfolding table computing lineOf acceptedLine refusedLine threeFields fieldOf newline digitsOf share? variable? dead?
+rows =
+    refl also refl also refl also refl also refl also refl also refl also refl also refl also refl also refl also refl also refl
+    also yes-of (dead? (certificateOf k) (ruleOf (blockAt k 4))) refl
+    also no-of (share? variable? variable? (pair x x) (pair y (pair T y))) refl
+    also none
 
--- The starred case l: (x, x) and (y, (T, y)) share no instance.
-pub case-l : answer (share? variable? variable? (pair x x) (pair y (pair T y))) ≡ false
-unfolding share? variable?
-case-l = refl
-
-pub case-l-means : Share (pair x x) (pair y (pair T y)) → ⊥
-case-l-means = no-of (share? variable? variable? (pair x x) (pair y (pair T y))) case-l
+-- "The starred ones, gathered in one table under one theorem": every row of the table holds.
+pub cases : (c : Case) → List·Memᴰ c table → Holds c
+cases = each rows

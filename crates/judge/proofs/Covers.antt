@@ -103,6 +103,7 @@ pub risky-flags : {c : Certificate} {e flags : List ℕ} {n : ℕ} → RaisedBel
     → Flags flags (RiskyEntry c e)
 risky-flags {c} {e} w all whole = record {
   long = w .long;
+  bits = w .bits;
   on = λ k. (
     λ o. (let v = w .on k .0 o in record { inside = let l = v .0 in omega arith; risky = v .1 }),
     λ r. w .on k .1 (let l = r .inside in omega arith, r .risky),
@@ -134,6 +135,7 @@ pub wanted-flags : {c : Certificate} {premise conclusion risky flags : List ℕ}
     → length premise / 4 ≡ n → Flags flags (WantedEntry c premise conclusion risky)
 wanted-flags {c} {premise} {n = n} e w all = record {
   long = w .long;
+  bits = w .bits;
   on = λ k. (
     λ o. (let v = w .on k .0 o in record { inside = let l = v .0 in omega arith; wanted = v .1 }),
     λ r. w .on k .1 (below k (r .inside), r .wanted),

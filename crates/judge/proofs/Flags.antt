@@ -8,10 +8,10 @@ use native.Mathlib.Omega.{arith}
 use native.Mathlib.Decide.{ℕ-discrete, decLe, decLt}
 use lib.Dec.{eqb}
 use borrow.Author.Tests.{eqb-true, eqb-false}
-use lib.ListN.{length, getD, set, length-set, replicate, getD-replicate, List·getD-eq-default}
+use lib.ListN.{length, getD, set, length-set, replicate, length-replicate, getD-replicate, List·getD-eq-default}
 use lib.Seq.{getD-set-same, getD-set-other}
 use Rattle.terms.specs.Solve.{Says}
-use Rattle.judge.specs.CoverEntries.{On, flagOf, putOff, Painted, Raised, Cleared, SomeOn}
+use Rattle.judge.specs.CoverEntries.{On, Bits, flagOf, putOff, Painted, Raised, Cleared, SomeOn}
 
 -- Nothing is painted yet; one more flag is.
 pub painted-none : {flags : List ℕ} (low value : ℕ) → length flags ≡ 64 → Painted flags flags low low value
@@ -31,17 +31,39 @@ painted-more {old} {flags} {low} {k} {value} p l small = record {
 pub painted-all : {old flags : List ℕ} {low k high value : ℕ} → Painted old flags low k value → k ≡ high → Painted old flags low high value
 painted-all p is = rw is at p
 
--- No flag is on at first.
-pub zero-off : (k : ℕ) → ¬ On (replicate 64 0) k
-zero-off k o = go (decLt k 64)
+-- No flag is on at first: all are 0.
+pub zero-at : (n k : ℕ) → getD {A = ℕ} (replicate n 0) k 0 ≡ 0
+zero-at n k = go (decLt k n)
   where
-    go : Dec (k < 64) → ⊥
-    go (yes l) = let z : getD {A = ℕ} (replicate 64 0) k 0 ≡ 0 = getD-replicate 64 k 0 0 l in omega arith
-    go (no n) = let z : getD {A = ℕ} (replicate 64 0) k 0 ≡ 0 = List·getD-eq-default (replicate 64 0) 0 {n = k} (omega arith) in omega arith
+    go : Dec (k < n) → getD {A = ℕ} (replicate n 0) k 0 ≡ 0
+    go (yes l) = getD-replicate n k 0 0 l
+    go (no m) = List·getD-eq-default (replicate n 0) 0 {n = k} (let long : length {A = ℕ} (replicate n 0) ≡ n = length-replicate n 0 in omega arith)
+
+pub zero-off : (k : ℕ) → ¬ On (replicate 64 0) k
+zero-off k o = omega (arith, zero-at 64 k)
+
+pub zero-bits : Bits (replicate 64 0)
+zero-bits k = omega (arith, zero-at 64 k)
+
+-- Flags stay 0 or 1 where they are painted with such a value, and where one is written.
+pub painted-bits : {old new : List ℕ} {low high value : ℕ} → Painted old new low high value → value ≤ 1 → Bits old → Bits new
+painted-bits {old} {new} {low} {high} p small b k = go (decLe low k) (decLt k high)
+  where
+    go : Dec (low ≤ k) → Dec (k < high) → getD new k 0 ≤ 1
+    go (yes l) (yes h) = omega (arith, p .inside k l h)
+    go (yes l) (no n) = omega (arith, p .outside k (λ w. n (w .1)), b k)
+    go (no n) d = omega (arith, p .outside k (λ w. n (w .0)), b k)
+
+pub bits-set : (flags : List ℕ) (n v : ℕ) → n < length flags → v ≤ 1 → Bits flags → Bits (set flags n v)
+bits-set flags n v inside small b k = go (ℕ-discrete k n)
+  where
+    go : Dec (k ≡ n) → getD (set flags n v) k 0 ≤ 1
+    go (yes e) = rw e (omega (arith, getD-set-same flags n v 0 inside))
+    go (no ne) = omega (arith, getD-set-other flags n k v 0 ne, b k)
 
 -- Flags that are painted with 1 are raised.
 pub painted-raised : {old new : List ℕ} {low high : ℕ} → Painted old new low high 1 → Raised old new (λ k. (low ≤ k) × (k < high))
-painted-raised {old} {new} {low} {high} p = record { long = p .long; on = λ k. (to k (decLe low k) (decLt k high), back k) }
+painted-raised {old} {new} {low} {high} p = record { long = p .long; bits = painted-bits p (omega arith); on = λ k. (to k (decLe low k) (decLt k high), back k) }
   where
     to : (k : ℕ) → Dec (low ≤ k) → Dec (k < high) → On new k → On old k ⊎ ((low ≤ k) × (k < high))
     to k (yes a) (yes b) e = inr (a, b)
@@ -59,14 +81,14 @@ painted-raised {old} {new} {low} {high} p = record { long = p .long; on = λ k. 
 
 -- Raised by nothing, by the same, and twice.
 pub raised-none : {flags : List ℕ} {P : ℕ → Type 0} → length flags ≡ 64 → ((k : ℕ) → ¬ P k) → Raised flags flags P
-raised-none {flags} {P} long none = record { long = long; on = λ k. (λ e. inl e, back k) }
+raised-none {flags} {P} long none = record { long = long; bits = λ b. b; on = λ k. (λ e. inl e, back k) }
   where
     back : (k : ℕ) → On flags k ⊎ P k → On flags k
     back k (inl e) = e
     back k (inr h) = absurd (none k h)
 
 pub raised-as : {old new : List ℕ} {P Q : ℕ → Type 0} → Raised old new P → ((k : ℕ) → P k ↔ Q k) → Raised old new Q
-raised-as {old} {new} {P} {Q} r same = record { long = r .long; on = λ k. (λ e. to k (r .on k .0 e), λ w. r .on k .1 (back k w)) }
+raised-as {old} {new} {P} {Q} r same = record { long = r .long; bits = r .bits; on = λ k. (λ e. to k (r .on k .0 e), λ w. r .on k .1 (back k w)) }
   where
     to : (k : ℕ) → On old k ⊎ P k → On old k ⊎ Q k
     to k (inl e) = inl e
@@ -77,7 +99,7 @@ raised-as {old} {new} {P} {Q} r same = record { long = r .long; on = λ k. (λ e
     back k (inr h) = inr (same k .1 h)
 
 pub raised-twice : {a b c : List ℕ} {P Q : ℕ → Type 0} → Raised a b P → Raised b c Q → Raised a c (λ k. P k ⊎ Q k)
-raised-twice {a} {b} {c} {P} {Q} r s = record { long = s .long; on = λ k. (λ e. to k (s .on k .0 e), λ w. s .on k .1 (back k w)) }
+raised-twice {a} {b} {c} {P} {Q} r s = record { long = s .long; bits = λ w. s .bits (r .bits w); on = λ k. (λ e. to k (s .on k .0 e), λ w. s .on k .1 (back k w)) }
   where
     first : (k : ℕ) → On a k ⊎ P k → On a k ⊎ (P k ⊎ Q k)
     first k (inl e) = inl e
@@ -94,13 +116,13 @@ raised-twice {a} {b} {c} {P} {Q} r s = record { long = s .long; on = λ k. (λ e
 
 -- Put off: nothing; what is off in other flags; by one claim and then by another.
 pub cleared-none : {flags : List ℕ} {P : ℕ → Type 0} → length flags ≡ 64 → ((k : ℕ) → On flags k → ¬ P k) → Cleared flags flags P
-cleared-none long none = record { long = long; kept = λ k o. (o, none k o); gone = λ k o off. absurd (off o) }
+cleared-none long none = record { long = long; bits = λ b. b; kept = λ k o. (o, none k o); gone = λ k o off. absurd (off o) }
 
 pub cleared-as : {old new : List ℕ} {P Q : ℕ → Type 0} → Cleared old new P → ((k : ℕ) → P k ↔ Q k) → Cleared old new Q
-cleared-as c same = record { long = c .long; kept = λ k o. (c .kept k o .0, λ q. c .kept k o .1 (same k .1 q)); gone = λ k o off. same k .0 (c .gone k o off) }
+cleared-as c same = record { long = c .long; bits = c .bits; kept = λ k o. (c .kept k o .0, λ q. c .kept k o .1 (same k .1 q)); gone = λ k o off. same k .0 (c .gone k o off) }
 
 pub cleared-twice : {a b c : List ℕ} {P Q : ℕ → Type 0} → Cleared a b P → Cleared b c Q → Cleared a c (λ k. P k ⊎ Q k)
-cleared-twice {a} {b} {c} {P} {Q} r s = record { long = s .long; kept = kept; gone = λ k o off. gone k o off (ℕ-discrete (getD b k 0) 1) }
+cleared-twice {a} {b} {c} {P} {Q} r s = record { long = s .long; bits = λ w. s .bits (r .bits w); kept = kept; gone = λ k o off. gone k o off (ℕ-discrete (getD b k 0) 1) }
   where
     kept : (k : ℕ) → On c k → On a k × ¬ (P k ⊎ Q k)
     kept k o = let w = s .kept k o in let v = r .kept k (w .0) in (v .0, none v w)
@@ -116,12 +138,13 @@ cleared-twice {a} {b} {c} {P} {Q} r s = record { long = s .long; kept = kept; go
 -- One flag after the other: those before flag k are put off where the claim holds.
 pub record ClearedBelow (old new : List ℕ) (P : ℕ → Type 0) (n : ℕ) : Type 0 where
   pub long : length new ≡ 64
+  pub bits : Bits old → Bits new
   pub before : (k : ℕ) → k < n → On new k → On old k × ¬ P k
   pub gone : (k : ℕ) → k < n → On old k → ¬ On new k → P k
   pub same : (k : ℕ) → n ≤ k → getD new k 0 ≡ getD old k 0
 
 pub below-start : {flags : List ℕ} {P : ℕ → Type 0} → length flags ≡ 64 → ClearedBelow flags flags P 0
-below-start long = record { long = long; before = λ k l. absurd (omega arith); gone = λ k l. absurd (omega arith); same = λ k l. refl }
+below-start long = record { long = long; bits = λ b. b; before = λ k l. absurd (omega arith); gone = λ k l. absurd (omega arith); same = λ k l. refl }
 
 -- A flag that is on is put off if the claim holds, by the answer of a test.
 abbrev pub Loses : Bool → Type 0 → Type 0 → Type 0
@@ -137,9 +160,10 @@ module _ {old flags : List ℕ} {P : ℕ → Type 0} {n : ℕ} (w : ClearedBelow
   here : (v : ℕ) → getD (set flags n v) n 0 ≡ v
   here v = getD-set-same flags n v 0 (let long = w .long in omega arith)
 
-  below-write : (v : ℕ) → (v ≡ 1 → On old n × ¬ P n) → (On old n → ¬ (v ≡ 1) → P n) → ClearedBelow old (set flags n v) P (n + 1)
-  below-write v stays goes = record {
+  below-write : (v : ℕ) → (Bits old → v ≤ 1) → (v ≡ 1 → On old n × ¬ P n) → (On old n → ¬ (v ≡ 1) → P n) → ClearedBelow old (set flags n v) P (n + 1)
+  below-write v bit stays goes = record {
     long = length-set flags n v ∙ w .long;
+    bits = λ b. bits-set flags n v (let long = w .long in omega arith) (bit b) (w .bits b);
     before = λ k l o. before k l o (ℕ-discrete k n);
     gone = λ k l o g. gone k l o g (ℕ-discrete k n);
     same = λ k l. getD-set-other flags n k v 0 (omega arith) ∙ w .same k (omega arith);
@@ -155,9 +179,9 @@ module _ {old flags : List ℕ} {P : ℕ → Type 0} {n : ℕ} (w : ClearedBelow
 
   pub below-more : {v : ℕ} (b : Bool) → v ≡ putOff (getD flags n 0) b → Loses b (On old n) (P n) → ClearedBelow old (set flags n v) P (n + 1)
   unfolding putOff
-  below-more {v} true is says = below-write v (λ one. absurd (omega arith)) (λ o g. says)
+  below-more {v} true is says = below-write v (λ b. omega arith) (λ one. absurd (omega arith)) (λ o g. says)
   below-more {v} false is says =
-      below-write v (λ one. (let on : On old n = sym (w .same n (omega arith)) ∙ sym is ∙ one in (on, says on)))
+      below-write v (λ b. omega (arith, w .bits b n)) (λ one. (let on : On old n = sym (w .same n (omega arith)) ∙ sym is ∙ one in (on, says on)))
       (λ o g. absurd (g (is ∙ w .same n (omega arith) ∙ o)))
 
 -- Flag n is put off where another one is on.
@@ -173,6 +197,7 @@ below-clear other {old} {flags} {n} {v} w small is = go (eqb (getD other n 0) 1)
 pub below-all : {old new : List ℕ} {P : ℕ → Type 0} {n : ℕ} → ClearedBelow old new P n → ((k : ℕ) → On old k → k < n) → Cleared old new P
 below-all {old} {new} {P} {n} w inside = record {
   long = w .long;
+  bits = w .bits;
   kept = λ k o. kept k o (decLt k n);
   gone = λ k o off. w .gone k (inside k o) o off;
 }
@@ -192,21 +217,27 @@ on-small flags long k o = go (decLt k 64)
 -- Flags raised one after the other where a claim holds of the first n.
 pub record RaisedBelow (flags : List ℕ) (P : ℕ → Type 0) (n : ℕ) : Type 0 where
   pub long : length flags ≡ 64
+  pub bits : Bits flags
   pub on : (k : ℕ) → On flags k ↔ ((k < n) × P k)
 
 pub raised-start : {P : ℕ → Type 0} → RaisedBelow (replicate 64 0) P 0
-raised-start = record { long = refl; on = λ k. (λ o. absurd (zero-off k o), λ w. absurd (let l = w .0 in omega arith)) }
+raised-start = record { long = refl; bits = zero-bits; on = λ k. (λ o. absurd (zero-off k o), λ w. absurd (let l = w .0 in omega arith)) }
 
 pub raised-more : {flags : List ℕ} {P : ℕ → Type 0} {n v : ℕ} → RaisedBelow flags P n → n < 64 → (b : Bool) → v ≡ flagOf b → Says b (P n)
     → RaisedBelow (set flags n v) P (n + 1)
 unfolding flagOf
 raised-more {flags} {P} {n} {v} w small b is says = record {
   long = length-set flags n v ∙ w .long;
+  bits = bits-set flags n v (let long = w .long in omega arith) (bit b is) (w .bits);
   on = λ k. (λ o. to k o (ℕ-discrete k n), λ h. back k h (ℕ-discrete k n));
 }
   where
     here : getD (set flags n v) n 0 ≡ v
     here = getD-set-same flags n v 0 (let long = w .long in omega arith)
+
+    bit : (b : Bool) → v ≡ flagOf b → v ≤ 1
+    bit true is = omega arith
+    bit false is = omega arith
 
     yes-at : (b : Bool) → v ≡ flagOf b → Says b (P n) → v ≡ 1 → P n
     yes-at true is says one = says

@@ -24,7 +24,7 @@ use Rattle.judge.specs.Laid.{Laid, TermBlock}
 use Rattle.judge.specs.Cover.{SureHat}
 use Rattle.judge.specs.Listed.{listedOf, AnyListed, HoldsAt, Searching, SharesListed}
 use Rattle.judge.specs.CoverEntries.{subAt, On, Raised, Cleared, SomeOn, Flags, MarkOver, Laying, Standing, HatOver, HatBelow}
-use Rattle.judge.proofs.Flags.{raised-none, raised-as, raised-twice, zero-off, cleared-none, cleared-as, cleared-twice}
+use Rattle.judge.proofs.Flags.{raised-none, raised-as, raised-twice, zero-off, zero-bits, cleared-none, cleared-as, cleared-twice}
 use Rattle.judge.proofs.Marks.{term-reads, mark-inside, mark-place}
 use Rattle.judge.proofs.Listing.{term-block, one-found, none-found}
 use Rattle.judge.proofs.ListedLaws.{not-bad-is}
@@ -110,7 +110,7 @@ laid-more {file} {u} {h} {i} r s = raised-as (raised-twice r s) (λ k. (to k, λ
 
 pub laid-all : {file : List ℕ} {u : Term Variable} {h n : ℕ} {old new : List ℕ} → Laid file → n ≡ blockCount file → Raised old new (LaidBelow file u h n)
     → Raised old new (λ k. AnyListed (certificateOf file) 3 (Lays u h k))
-laid-all {file} {u} {h} {n} {old} {new} laid all r = record { long = r .long; on = λ k. (λ e. to k (r .on k .0 e), back k) }
+laid-all {file} {u} {h} {n} {old} {new} laid all r = record { long = r .long; bits = r .bits; on = λ k. (λ e. to k (r .on k .0 e), back k) }
   where
     to : (k : ℕ) → On old k ⊎ LaidBelow file u h n k → On old k ⊎ AnyListed (certificateOf file) 3 (Lays u h k)
     to k (inl e) = inl e
@@ -142,7 +142,7 @@ module _ {c : Certificate} {u : Term Variable} {h : ℕ} where
   hat-shares long shares = cleared-none long (λ k o w. not-bad-is c u .0 (w .notBad) shares)
 
 pub marked-flags : {P : ℕ → Type 0} {new : List ℕ} → Raised (replicate 64 0) new P → Flags new P
-marked-flags {P} {new} r = record { long = r .long; on = λ k. (λ o. to k (r .on k .0 o), λ h. r .on k .1 (inr h)) }
+marked-flags {P} {new} r = record { long = r .long; bits = r .bits zero-bits; on = λ k. (λ o. to k (r .on k .0 o), λ h. r .on k .1 (inr h)) }
   where
     to : (k : ℕ) → On (replicate 64 0) k ⊎ P k → P k
     to k (inl o) = absurd (zero-off k o)

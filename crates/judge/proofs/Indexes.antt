@@ -3,29 +3,26 @@ use mathlib.Core.Path.{_≡_, refl, sym, ap, _∙_}
 use mathlib.Core.List.{List}
 use Prim.Native.Nat.{ℕ, _+_, _*_, _/_, _-_, _<_, _≤_}
 use native.Mathlib.Omega.{arith}
-use native.Mathlib.Decide.{ℕ-discrete, decLt}
-use lib.ListN.{length, getD, set, length-set, replicate, getD-replicate, List·getD-eq-default}
+use native.Mathlib.Decide.{ℕ-discrete}
+use lib.Dec.{eqb}
+use lib.ListN.{length, getD, set, length-set, replicate}
 use lib.Seq.{getD-set-same, getD-set-other}
 use Rattle.terms.specs.Entry.{Begins, termOf}
 use Rattle.terms.specs.WalkLaws.{from}
+use Rattle.terms.specs.Decisions.{says-eq}
+use Rattle.terms.specs.Solve.{Says, says-same}
 use Rattle.judge.specs.File.{blockCount, patternOf, certificateOf}
 use Rattle.judge.specs.Laid.{Laid}
 use Rattle.judge.specs.Listed.{slotAt, RootsOf, IsSecret, HoldsAt}
 use Rattle.judge.proofs.Listing.{none-found, term-block}
 use Rattle.judge.specs.CoverEntries.{On, Flagged, SomeFlagged, IndexedBelow, Indexed}
+use Rattle.judge.proofs.Flags.{zero-at}
 use Rattle.judge.proofs.Roots.{slot-same}
 use Rattle.judge.proofs.Covers.{flagged-begins, flagged-below}
 
 -- Nothing is noted yet.
-zero-at : (s : ℕ) → getD {A = ℕ} (replicate 400 0) s 0 ≡ 0
-zero-at s = go (decLt s 400)
-  where
-    go : Dec (s < 400) → getD {A = ℕ} (replicate 400 0) s 0 ≡ 0
-    go (yes l) = getD-replicate 400 s 0 0 l
-    go (no n) = List·getD-eq-default (replicate 400 0) 0 {n = s} (omega arith)
-
 pub index-none : {e flags : List ℕ} → IndexedBelow e flags 0 (replicate 400 0)
-index-none = record { long = refl; points = λ s off. absurd (off (zero-at s)); noted = λ k l. absurd (omega arith) }
+index-none = record { long = refl; points = λ s off. absurd (off (zero-at 400 s)); noted = λ k l. absurd (omega arith) }
 
 -- One entry more, which is flagged or not.
 module _ {e flags index : List ℕ} {k : ℕ} (w : IndexedBelow e flags k index) where
@@ -86,3 +83,10 @@ no-slot-secret {file} {roots} {t} laid flags b absent = none-found laid 2 (λ p.
         let start = term-block laid (omega arith) (omega arith) inside (h .of-kind) .term in
         let on : getD roots (slotAt t) 0 ≡ 1 = ap (λ (n : ℕ). getD roots n 0) (sym (slot-same start b (h .holds))) ∙ flags .flagged i inside (h .of-kind) in
         omega (arith, absent)
+
+-- The first number is 0, and a test tells whether the second is.
+pub both-zero : {x y a b : ℕ} → x ≡ a → y ≡ b → x ≡ 0 → Says (eqb y 0) ((a ≡ 0) × (b ≡ 0))
+both-zero {x} {y} {a} {b} p q z = says-same (eqb y 0) to (λ w. q ∙ w .1) (says-eq y 0)
+  where
+    to : y ≡ 0 → (a ≡ 0) × (b ≡ 0)
+    to e = (sym p ∙ z, sym q ∙ e)

@@ -2,7 +2,7 @@
 use mathlib.Core.Path.{_≡_, refl, _∙_}
 use mathlib.Core.Logic.{_⊎_, inl, inr}
 use mathlib.Core.Bool.{Bool, true, false, _&&_}
-use mathlib.Core.List.{List}
+use mathlib.Core.List.{List, _++_}
 use mathlib.Core.Option.{Option}
 use Prim.Native.Nat.{ℕ, zero, suc, _+_, _*_, _/_, _%_, _<_, _≤_}
 use native.Mathlib.Decide.{ℕ-discrete}
@@ -85,13 +85,17 @@ pub length-judged : (file : List ℕ) → Exact (LengthRight file) (λ g. (g ≡
 unfolding lengthFault
 length-judged file = tested (lengthRight file) Length (says-length file)
 
--- ---- the entries in use are as many as the counts say
+-- ---- the entries in use are those of both parts, and as many as the counts say
+
+pub used-both : (b : List ℕ) → usedEntries b ≡ firstEntries b ++ secondEntries b
+unfolding usedEntries
+used-both b =
+    let sum : 4 * (firstCount b + secondCount b) ≡ 4 * firstCount b + 4 * secondCount b = omega arith in
+    rw sum (entries-used b)
 
 pub used-length : (b : List ℕ) → Fitting b → length (usedEntries b) ≡ 4 * (firstCount b + secondCount b)
-unfolding usedEntries
 used-length b fits =
-    let sum : 4 * (firstCount b + secondCount b) ≡ 4 * firstCount b + 4 * secondCount b = omega arith in
-    rw (sum, entries-used) (length-append (firstEntries b) (secondEntries b) ∙ omega (arith, first-length b fits, second-length b fits))
+    rw (used-both b) (length-append (firstEntries b) (secondEntries b) ∙ omega (arith, first-length b fits, second-length b fits))
 
 -- ---- numbers 6, 7, 8 at a block
 

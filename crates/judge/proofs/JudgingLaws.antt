@@ -18,6 +18,7 @@ use Rattle.terms.specs.Decide.{answer}
 use Rattle.judge.specs.declared.verdict.Counts.{Counts}
 use Rattle.judge.specs.declared.verdict.Fault.{Fault}
 use Rattle.judge.specs.declared.verdict.Fault.the-variants.{Length, Uncovered}
+use Rattle.judge.specs.declared.verdict.Verdict.{Verdict}
 use Rattle.judge.specs.declared.verdict.Verdict.the-variants.{Accepted, Refused}
 use Rattle.judge.specs.declared.layout.Judged.the-variants.{Fine, Faulty}
 use Rattle.judge.specs.Certificate.{Certificate, Rule}
@@ -30,6 +31,7 @@ use Rattle.judge.specs.Verdict.{lengthRight, lengthFault, layoutFault, m
 use Rattle.judge.specs.File.{countsOf}
 use Rattle.judge.specs.Verdict.{fine?, uncovered, uncoveredRule, knownFault, closedFault, keyFault, ruleFault, certificateFault}
 use Rattle.judge.specs.Verdict.{faultOf, verdictOf}
+use Rattle.judge.specs.Values.{verdictValues, judgingValues}
 use Rattle.judge.proofs.LayoutLaws.{found-below}
 
 -- ---- number 12
@@ -138,10 +140,14 @@ module _ (file : List ℕ) where
       go true e = refl
       go false e = let z : _≡_ {A = ℕ} 0 1 = cc (fault-length e, h) in absurd (omega arith)
 
-  pub verdict-refused : {f : Fault} → faultOf file ≡ some f → Refused f ≡ verdictOf file
-  unfolding verdictOf
-  verdict-refused h = rw (h, verdictOf)
+  -- A verdict is the file's, and so are its number and values.
+  abbrev pub Judges : Verdict → Type 0
+  Judges v = (v ≡ verdictOf file) × (verdictValues v ≡ judgingValues file)
 
-  pub verdict-accepted : faultOf file ≡ none → {counts : Counts} → counts ≡ countsOf file → Accepted counts ≡ verdictOf file
-  unfolding verdictOf
-  verdict-accepted h e = rw (h, e, verdictOf)
+  pub verdict-refused : {f : Fault} → faultOf file ≡ some f → Judges (Refused f)
+  unfolding verdictOf judgingValues
+  verdict-refused h = (rw (h, verdictOf), rw (h, judgingValues))
+
+  pub verdict-accepted : faultOf file ≡ none → {counts : Counts} → counts ≡ countsOf file → Judges (Accepted counts)
+  unfolding verdictOf judgingValues countsOf
+  verdict-accepted h e = (rw (h, e, verdictOf), rw (h, e, judgingValues))

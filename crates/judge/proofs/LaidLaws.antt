@@ -1,25 +1,29 @@
 -- A file whose length and blocks have passed numbers 1 to 8 is laid out, as the conditions after them find it. Assumes nothing.
 use mathlib.Core.Path.{_≡_}
 use mathlib.Core.Bool.{true}
-use mathlib.Core.List.{List}
-use mathlib.Core.Option.{none}
+use mathlib.Core.List.{List, _++_}
+use mathlib.Core.Option.{none, some, Option·none-ne-some}
 use Prim.Native.Nat.{ℕ, zero, suc, _+_, _*_, _<_, _≤_}
 use native.Mathlib.Omega.{arith}
 use native.Mathlib.Decide.{ℕ-discrete}
-use lib.Seq.{take-take}
-use Rattle.blocks.specs.Block.{blockAt, kindOf, firstCount, secondCount, entriesOf, firstEntries, Fitting}
+use lib.Seq.{take-at, drop-at}
+use borrow.Author.Tests.{eq-eqb, ne-eqb}
+use Rattle.blocks.specs.Block.{blockAt, kindOf, firstCount, secondCount, firstEntries, secondEntries, Fitting}
 use Rattle.blocks.specs.Layout.{CountsRight, atoms, term, rule}
 use Rattle.blocks.proofs.Layouts.{layout-fits}
+use Rattle.blocks.proofs.Parts.{first-length}
+use Rattle.terms.specs.Term.{Term, Variable}
+use Rattle.terms.specs.Entry.{termOf}
 use Rattle.terms.specs.TermEntry.{EntryRight}
-use Rattle.terms.specs.Each.{Each, each-of, each-take}
+use Rattle.terms.specs.Each.{Each, each-of, each-take, each-drop}
 use Rattle.terms.specs.TermLaws.{TermRight, one-begins, one-whole, right-term, secret-message}
-use Rattle.judge.specs.File.{blockCount, patternOf}
+use Rattle.judge.specs.File.{blockCount, patternOf, ruleOf}
 use Rattle.judge.specs.Laid.{TermBlock, RuleBlock, SecretBlock, GoodBlock, Laid}
 use Rattle.judge.specs.Verdict.{lengthRight, lengthFault, blockFault, layoutFrom, layoutFault}
 use Rattle.judge.specs.File.{fileAtoms, usedEntries}
 use Rattle.judge.specs.Meaning.{LengthRight, KindRight, first, later, BlockRight}
 use Rattle.judge.proofs.Exact.{first-block}
-use Rattle.judge.proofs.Judged.{length-judged, used-length, block-judged}
+use Rattle.judge.proofs.Judged.{length-judged, used-both, used-length, block-judged}
 
 -- ---- a block that has passed
 
@@ -47,20 +51,41 @@ module _ (file : List ℕ) (i : ℕ) (right : BlockRight file i) where
       go (term k a c d e) = absurd (omega arith)
       go (rule k a c d) = d
 
-  -- Each entry of the first part is right.
-  each : 2 ≤ kindOf b → Each (EntryRight (fileAtoms file) (kindOf b)) (firstEntries b)
-  unfolding usedEntries firstEntries
-  each l =
+  -- Each entry is right, of the first part and of the second.
+  used : 2 ≤ kindOf b → Each (EntryRight (fileAtoms file) (kindOf b)) (firstEntries b ++ secondEntries b)
+  used l =
       let size = used-length b fits in
       let all : Each (EntryRight (fileAtoms file) (kindOf b)) (usedEntries b) =
       each-of (usedEntries b) (omega arith) (λ n h. right .entries l n (omega arith)) in
-      let less : 4 * firstCount b ≤ 4 * (firstCount b + secondCount b) = omega arith in
-      rw (take-take (4 * firstCount b) (4 * (firstCount b + secondCount b)) (entriesOf b) less) at (each-take (firstCount b) all)
+      rw (used-both b) at all
+
+  each : 2 ≤ kindOf b → Each (EntryRight (fileAtoms file) (kindOf b)) (firstEntries b)
+  each l = rw (take-at (firstEntries b) (secondEntries b) (4 * firstCount b) (first-length b fits)) at (each-take (firstCount b) (used l))
+
+  each-second : 2 ≤ kindOf b → Each (EntryRight (fileAtoms file) (kindOf b)) (secondEntries b)
+  each-second l =
+      rw (drop-at (firstEntries b) (secondEntries b) (4 * firstCount b) (first-length b fits)) at (each-drop (firstCount b) (used l))
 
   -- The term of a block of kind 2 to 4.
   pub pattern-right : 2 ≤ kindOf b → kindOf b ≤ 4 → TermRight (fileAtoms file) (kindOf b) (patternOf b)
   unfolding patternOf
   pattern-right l h = right-term (each l) (right .pattern l h .one)
+
+  -- The terms of a rule.
+  pub premise-right : kindOf b ≡ 5 → (t : Term Variable) → ruleOf b .premise ≡ some t → TermRight (fileAtoms file) (kindOf b) t
+  unfolding ruleOf
+  premise-right k t e = go (ℕ-discrete (firstCount b) 0)
+    where
+      go : Dec (firstCount b ≡ 0) → TermRight (fileAtoms file) (kindOf b) t
+      go (yes z) = absurd (Option·none-ne-some t (rw (eq-eqb (firstCount b) 0 z) at e))
+      go (no n) =
+          let given : some (termOf (firstEntries b)) ≡ some t = rw (ne-eqb (firstCount b) 0 n) at e in
+          let same : termOf (firstEntries b) ≡ t = cc in
+          rw same at (right-term (each (omega arith)) (right .premise k n))
+
+  pub conclusion-right : kindOf b ≡ 5 → TermRight (fileAtoms file) (kindOf b) (ruleOf b .conclusion)
+  unfolding ruleOf
+  conclusion-right k = right-term (each-second (omega arith)) (right .conclusion k)
 
   term-block : 2 ≤ kindOf b → kindOf b ≤ 4 → TermBlock b
   term-block l h = record { fitting = fits; term = one-begins (right .pattern l h .one); short = short l }

@@ -1,7 +1,7 @@
 -- Laws of specs/Verdict.antt, numbers 1 to 8, and of the counts, shaped like the branches of the code. Assumes nothing.
 use mathlib.Core.Path.{_≡_, refl, sym, ap, _∙_}
 use mathlib.Core.Bool.{Bool, true, false, _&&_}
-use mathlib.Core.List.{List, _++_}
+use mathlib.Core.List.{List}
 use mathlib.Core.Option.{Option, none, some}
 use Prim.Native.Nat.{ℕ, zero, suc, _+_, _-_, _*_, _/_, _%_, _≤_, _<_}
 use native.Mathlib.Numerals.{add-one}
@@ -14,7 +14,7 @@ use Rattle.blocks.specs.Block.{blockAt, kindOf, firstCount, secondCount, entrie
 use Rattle.blocks.specs.Check.{checkRight}
 use Rattle.blocks.specs.Layout.{layoutRight}
 use Rattle.blocks.proofs.Layouts.{layout-right, layout-fits}
-use Rattle.blocks.proofs.Parts.{first-length, entries-used}
+use Rattle.blocks.proofs.Parts.{first-length}
 use Rattle.terms.specs.declared.valid.Found.{Found}
 use Rattle.terms.specs.declared.valid.Found.the-variants.{At, Nothing}
 use Rattle.terms.specs.Entry.{Begins, termOf}
@@ -37,7 +37,7 @@ use Rattle.judge.specs.File.{fileAtoms, usedEntries}
 use Rattle.judge.specs.Verdict.{conclusionFault, rulePartsFault, termFault, entriesFault, blockFault, firstFault, layoutFrom}
 use Rattle.judge.specs.Verdict.{layoutFault, missingFault}
 use Rattle.judge.specs.File.{kindCount, countsOf}
-use Rattle.judge.proofs.Judged.{used-length}
+use Rattle.judge.proofs.Judged.{used-both, used-length}
 
 -- ---- what the code's answer tells
 
@@ -126,12 +126,6 @@ module _ (i : ℕ) (b : List ℕ) {e : List ℕ} (part : e ≡ firstEntries b) {
   atom-fine h = rw (← part, ← said, h, atomFault)
 
 -- ---- number 7
-
-used-both : (b : List ℕ) → usedEntries b ≡ firstEntries b ++ secondEntries b
-unfolding usedEntries
-used-both b =
-    let sum : 4 * (firstCount b + secondCount b) ≡ 4 * firstCount b + 4 * secondCount b = omega arith in
-    rw sum (entries-used b)
 
 -- The part that the code takes, n and m being the counts.
 pub used-part : (b : List ℕ) → Fitting b → {n m : ℕ} → n ≡ firstCount b → m ≡ secondCount b → take (4 + 4 * (n + m) - 4) (drop 4 b) ≡ usedEntries b

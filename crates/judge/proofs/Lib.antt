@@ -8,7 +8,9 @@ pub mod Exact
 pub mod Judged
 pub mod LaidLaws
 pub mod Members
+pub mod ForeignLaws
 pub mod Verdicts
+pub mod Packed
 pub mod Bytes
 pub mod Spots
 pub mod Cases

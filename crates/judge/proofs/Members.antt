@@ -1,9 +1,9 @@
 -- The blocks of one kind, as a list and by their numbers; the members of any list by theirs.
-use mathlib.Core.Path.{_≡_, refl, sym, ap}
+use mathlib.Core.Path.{_≡_, refl, sym, ap, subst}
 use mathlib.Core.Logic.{_⊎_, inl, inr, ⊎-elim}
 use mathlib.Core.Bool.{Bool, true, false}
 use mathlib.Core.List.{List, [], _∷_, List·Memᴰ, List·Memᴰ·head, List·Memᴰ·tail, List·Memᴰ·not-nil}
-use mathlib.Core.List.{List·Memᴰ·cases-cons}
+use mathlib.Core.List.{List·Memᴰ·cases-cons, map, Memᴰ·of-map}
 use Prim.Native.Nat.{ℕ, zero, suc, _+_, _<_, _≤_}
 use native.Mathlib.Decide.{ℕ-discrete}
 use native.Mathlib.Omega.{arith}
@@ -13,7 +13,7 @@ use Rattle.blocks.specs.Block.{blockAt, kindOf}
 use Rattle.terms.specs.Decisions.{says-eq}
 use Rattle.terms.specs.Solve.{Says}
 use Rattle.judge.specs.File.{blocksFrom, blocksOf, ofKind, blockCount}
-use Rattle.judge.specs.Meaning.{HasKind}
+use Rattle.judge.specs.Meaning.{HasKind, Every}
 use Rattle.judge.specs.File.{kindCount}
 
 -- The block of a kind at a number.
@@ -81,6 +81,14 @@ module _ (kind : ℕ) (file : List ℕ) where
       go : (l : List (List ℕ)) {b : List ℕ} → List·Memᴰ b l → 1 ≤ length l
       go [] m = absurd (List·Memᴰ·not-nil m)
       go (b ∷ l) m = omega arith
+
+-- What holds of the blocks of a kind holds of what they list.
+pub listed : {A : Type 0} (file : List ℕ) (kind : ℕ) (f : List ℕ → A) (P : A → Type 0) → Every kind file (λ b. P (f b))
+    → (a : A) → List·Memᴰ a (map f (ofKind kind (blocksOf file))) → P a
+listed file kind f P every a m =
+    let o = Memᴰ·of-map f (ofKind kind (blocksOf file)) m in
+    let w = listed-block file (o .1) in
+    subst P (o .2) (subst (λ (b : List ℕ). P (f b)) (sym (w .same)) (every (w .number) (w .inside) (w .of-kind)))
 
 -- A member of a list, by its number.
 pub member-number : {A : Type 0} {a : A} (l : List A) (d : A) → List·Memᴰ a l → (k : ℕ) × (k < length l) × (getD l k d ≡ a)

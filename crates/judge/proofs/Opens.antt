@@ -19,7 +19,7 @@ use Rattle.judge.specs.Cover.{NoHat, Open}
 use Rattle.judge.specs.Listed.{MatchesListed, SharesListed}
 use Rattle.judge.specs.Laid.{Laid}
 use Rattle.judge.specs.CoverEntries.{subAt, On, SomeOn, Painted, Flagged, OpenBelow, OpenAmong, OpenFlags, ClosedBelow, Concluded}
-use Rattle.judge.proofs.Flags.{on-small}
+use Rattle.judge.proofs.Flags.{on-small, painted-bits}
 use Rattle.judge.proofs.Marks.{term-reads}
 use Rattle.judge.proofs.Hats.{encryption-tag}
 use Rattle.judge.proofs.ListedLaws.{no-hat-is}
@@ -39,19 +39,20 @@ module _ {c : Certificate} {t : Term Variable} where
 -- Closing below entry h: nothing has to be closed, or all strictly below it.
 module _ {c : Certificate} {e : List ℕ} {h : ℕ} where
   pub closed-none : {old : List ℕ} → length old ≡ 64 → (getD e (4 * h) 0 ≡ 3 → NoHat c (subAt e h)) → ClosedBelow c old old e h
-  closed-none long fine = record { long = long; on = λ k. (λ o. (o, λ tag a b. fine tag), λ w. w .0) }
+  closed-none long fine = record { long = long; bits = λ b. b; on = λ k. (λ o. (o, λ tag a b. fine tag), λ w. w .0) }
 
   -- No flag is on there.
   pub closed-unasked : {old : List ℕ} {end : ℕ} → length old ≡ 64 → end ≡ h + size (subAt e h) → ¬ SomeOn old (h + 1) end → ClosedBelow c old old e h
   closed-unasked long is none = record {
     long = long;
+    bits = λ b. b;
     on = λ k. (λ o. (o, λ tag a b. absurd (none (record { number = k; above = omega arith; below = omega arith; on = o }))), λ w. w .0);
   }
 
   pub closed-below : {old new : List ℕ} {end : ℕ} → getD e (4 * h) 0 ≡ 3 → ¬ NoHat c (subAt e h) → end ≡ h + size (subAt e h)
       → Painted old new (h + 1) end 0 → ClosedBelow c old new e h
   closed-below {old} {new} {end} tag off is p =
-      record { long = p .long; on = λ k. (λ o. to k o (decLt h k) (decLt k end), λ w. back k w (decLt h k) (decLt k end)) }
+      record { long = p .long; bits = painted-bits p (omega arith); on = λ k. (λ o. to k o (decLt h k) (decLt k end), λ w. back k w (decLt h k) (decLt k end)) }
     where
       Fine : ℕ → Type 0
       Fine k = getD e (4 * h) 0 ≡ 3 → h < k → k < h + size (subAt e h) → NoHat c (subAt e h)
@@ -70,12 +71,13 @@ module _ {c : Certificate} {e : List ℕ} {h : ℕ} where
 pub open-none : {c : Certificate} {e flags : List ℕ} → Flagged e flags → 4 * size (termOf e) ≡ length e → OpenAmong c e flags 0 flags
 open-none {c} {e} {flags} f whole = record {
   long = f .long;
+  bits = λ b. b;
   on = λ k. (λ o. (o, record { inside = let l = f .within k o in omega arith; every = λ h l. absurd (omega arith) }), λ w. w .0);
 }
 
 pub open-more : {c : Certificate} {e : List ℕ} {h : ℕ} {first old new : List ℕ} → OpenAmong c e first h old
     → ClosedBelow c old new e h → OpenAmong c e first (h + 1) new
-open-more {c} {e} {h} {first} {old} {new} f s = record { long = s .long; on = λ k. (λ o. to k (s .on k .0 o), λ w. s .on k .1 (back k w)) }
+open-more {c} {e} {h} {first} {old} {new} f s = record { long = s .long; bits = λ b. s .bits (f .bits b); on = λ k. (λ o. to k (s .on k .0 o), λ w. s .on k .1 (back k w)) }
   where
     Fine : ℕ → ℕ → Type 0
     Fine k h = getD e (4 * h) 0 ≡ 3 → h < k → k < h + size (subAt e h) → NoHat c (subAt e h)
@@ -99,6 +101,7 @@ pub open-asked : {c : Certificate} {e wanted flags : List ℕ} → Flagged e wan
     → OpenFlags c e wanted flags
 open-asked {c} {e} {wanted} w f = record {
   long = f .long;
+  bits = f .bits;
   on = λ k. (
     λ o. (let v = f .on k .0 o in (v .0, record { some-entry = λ z. (let l = w .within k (v .0) in omega arith); isOpen = v .1 })),
     λ v. f .on k .1 (v .0, v .1 .isOpen),
@@ -108,6 +111,7 @@ open-asked {c} {e} {wanted} w f = record {
 pub open-unasked : {c : Certificate} {e wanted : List ℕ} → Flagged e wanted → ¬ SomeOn wanted 0 64 → OpenFlags c e wanted wanted
 open-unasked {c} {e} {wanted} w none = record {
   long = w .long;
+  bits = λ b. b;
   on = λ k. (λ o. absurd (none (record { number = k; above = omega arith; below = on-small wanted (w .long) k o; on = o })), λ v. v .0);
 }
 

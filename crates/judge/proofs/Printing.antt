@@ -13,11 +13,10 @@ use Rattle.blocks.specs.declared.Writing.the-variants.{Wrote, ShortBuffer}
 use Rattle.blocks.specs.Check.{valuesOf}
 use Rattle.judge.specs.declared.verdict.Counts.{Counts}
 use Rattle.judge.specs.declared.verdict.Fault.{Fault}
-use Rattle.judge.specs.declared.verdict.Fault.the-variants.{Uncovered}
 use Rattle.judge.specs.declared.verdict.Verdict.{Verdict}
 use Rattle.judge.specs.declared.verdict.Verdict.the-variants.{Accepted, Refused}
 use Rattle.judge.specs.Answer.{numberOf, blockOf, placeOf}
-use Rattle.judge.specs.Line.{textOf, digitsOf, fieldOf, newline, threeFields, acceptedLine, refusedLine, lineOf}
+use Rattle.judge.specs.Line.{digitsOf, fieldOf, newline, threeFields, acceptedLine, refusedLine, lineOf}
 use Rattle.judge.specs.Line.{pasted, Room, Put, printing, printingValues, afterPrinting}
 use Rattle.judge.proofs.Digits.{digits-one, digits-more}
 
@@ -157,16 +156,6 @@ pub line-refused : {v : Verdict} {f : Fault} {x y z : ℕ} → v ≡ Refused f �
     → lineOf v ≡ refusedLine x y z
 unfolding lineOf
 line-refused e n b p = rw (e, n, b, p)
-
--- The two lines that document 01 writes out.
-pub line-of-case-a : lineOf (Accepted (record { blocks = 5; secrets = 2; goods = 1; bads = 0; rules = 1 }))
-    ≡ textOf "accepted blocks=5 secrets=2 good=1 bad=0 rules=1\n"
-unfolding lineOf acceptedLine threeFields fieldOf newline digitsOf
-line-of-case-a = refl
-
-pub line-of-case-b : lineOf (Refused (Uncovered 4 1)) ≡ textOf "refused 12 block=4 place=1\n"
-unfolding lineOf refusedLine threeFields fieldOf newline digitsOf
-line-of-case-b = refl
 
 -- ---- the answers of the code
 

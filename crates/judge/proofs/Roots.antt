@@ -7,7 +7,7 @@ use Prim.Native.Nat.{ℕ, zero, suc, _+_, _%_, _<_, _≤_}
 use native.Mathlib.Omega.{arith}
 use native.Mathlib.Decide.{ℕ-discrete}
 use lib.Dec.{eqb}
-use borrow.Author.Tests.{eqb-true, not-false}
+use borrow.Author.Tests.{eq-eqb, eqb-true, not-false}
 use borrow.Rule.Slice.PartAt.{part-to-end}
 use lib.ListN.{length, getD, set, drop}
 use lib.Seq.{getD-set-same, getD-set-other, getD-drop}
@@ -22,12 +22,12 @@ use Rattle.terms.specs.WalkLaws.{from, pair-first}
 use Rattle.terms.specs.FrontLaws.{from-length}
 use Rattle.terms.specs.Roots.{tags-apart, values-apart}
 use Rattle.judge.specs.File.{blockCount, patternOf, certificateOf}
-use mathlib.Core.Logic.{_↔_}
+use mathlib.Core.Logic.{_⊎_, inl, inr, ⊎-elim, _↔_}
 use Rattle.judge.specs.Laid.{Laid, SecretBlock}
 use Rattle.terms.specs.Solve.{Says, says-same}
 use Rattle.terms.specs.Decide.{answer}
 use Rattle.judge.proofs.ListedLaws.{answer-says}
-use Rattle.judge.specs.Listed.{HoldsAt, TermPart, SharesListed, IsSecret, slotBy, slotAt, FlaggedAt, FlaggedMore, RootsOf, NoRoot}
+use Rattle.judge.specs.Listed.{HoldsAt, TermPart, SharesListed, IsSecret, slotBy, slotAt, FlaggedAt, FlaggedMore, SecretSlot, RootsOf, NoRoot}
 use Rattle.judge.proofs.Listing.{none-found, term-block}
 use Rattle.judge.proofs.Numbers.{pair-message}
 
@@ -128,8 +128,8 @@ slot-same b d same = slot-term b ∙ ap termSlot same ∙ sym (slot-term d)
 pub pair-room : {e : List ℕ} → Begins e → tagAt e ≡ 2 → 8 ≤ length e
 pair-room {e} b two = let half = begins (pair-first b two .below) .room in omega (arith, from-length 4 e)
 
-pub left-tag : (e : List ℕ) → getD e 4 0 ≤ 3 → tagAt (drop 4 e) ≤ 3
-left-tag e low = omega (arith, getD-drop 4 e 0 0)
+pub left-tag : (e : List ℕ) → tagAt (drop 4 e) ≡ getD e 4 0
+left-tag e = getD-drop 4 e 0 0
 
 -- ---- flagging
 
@@ -144,6 +144,9 @@ module _ (roots : List ℕ) {n : ℕ} (inside : n < length roots) where
   pub flag-here : {m : ℕ} → n ≡ m → getD (set roots n 1) m 0 ≡ 1
   flag-here e = rw (← e) (getD-set-same roots n 1 0 inside)
 
+  pub flag-only : (k : ℕ) → getD (set roots n 1) k 0 ≡ 1 → (getD roots k 0 ≡ 1) ⊎ (n ≡ k)
+  flag-only k on = elim (ℕ-discrete k n) [ yes e ↦ inr (sym e) | no off ↦ inl (sym (getD-set-other roots n k 1 0 off) ∙ on) ]
+
 -- One more block whose root is flagged if it is a secret's.
 pub flags-more : {file old new : List ℕ} {i : ℕ} → FlaggedMore file i old new
     → ((j : ℕ) → j < i → kindOf (blockAt file j) ≡ 2 → FlaggedAt old (firstEntries (blockAt file j)))
@@ -153,9 +156,22 @@ flags-more {file} {old} {new} {i} more all j below kind = elim (ℕ-discrete j i
   | no off ↦ more .kept _ (all j (omega arith) kind)
 ]
 
+pub slots-before : {file : List ℕ} {i n slot : ℕ} → i ≤ n → SecretSlot file i slot → SecretSlot file n slot
+slots-before l w = record { number = w .number; before = let b = w .before in omega arith; of-kind = w .of-kind; same = w .same }
+
+pub only-more : {file old new : List ℕ} {i : ℕ} → FlaggedMore file i old new
+    → ((k : ℕ) → getD old k 0 ≡ 1 → SecretSlot file i k) → (k : ℕ) → getD new k 0 ≡ 1 → SecretSlot file (i + 1) k
+only-more {file} {old} {new} {i} more all k on = ⊎-elim
+    (λ o. slots-before (omega arith) (all k o))
+    (λ w. record { number = i; before = omega arith; of-kind = w .0; same = w .1 })
+    (more .only k on)
+
 -- A flag that the code found to be 0.
 pub absent-told : {x : ℕ} → not (eqb x 0) ≡ false → x ≡ 0
 absent-told {x} e = eqb-true x 0 (not-false (eqb x 0) e)
+
+pub told-absent : (x : ℕ) → x ≡ 0 → not (eqb x 0) ≡ false
+told-absent x e = rw (eq-eqb x 0 e)
 
 -- ---- what the flags say
 

@@ -56,6 +56,14 @@ unfoldable pub partOf : List ℕ → Verdict → List ℕ
 partOf file (Accepted c) = []
 partOf file (Refused f) = cond (eqb (numberOf f) 1) [] (cond (eqb (numberOf f) 4) [] (blockOrNone file (blockOf f)))
 
+-- Where it stands in the file: at the start of its block; an empty part at the start of the file.
+unfoldable pub blockStart : List ℕ → ℕ → ℕ
+blockStart file i = cond (hasBlock file i) (512 * i) 0
+
+unfoldable pub partStart : List ℕ → Verdict → ℕ
+partStart file (Accepted c) = 0
+partStart file (Refused f) = cond (eqb (numberOf f) 1) 0 (cond (eqb (numberOf f) 4) 0 (blockStart file (blockOf f)))
+
 -- ---- the tally
 
 -- The largest number of 32 bits.

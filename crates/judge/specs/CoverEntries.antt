@@ -28,6 +28,10 @@ subAt e k = termOf (from (4 * k) e)
 abbrev pub On : List ℕ → ℕ → Type 0
 On flags k = getD flags k 0 ≡ 1
 
+-- Every flag is 0 or 1: what says which are on then says them all.
+abbrev pub Bits : List ℕ → Type 0
+Bits flags = (k : ℕ) → getD flags k 0 ≤ 1
+
 -- The flag of an answer; and a flag, put off or as it is.
 unfoldable pub flagOf : Bool → ℕ
 flagOf true = 1
@@ -42,7 +46,8 @@ unfoldable pub toldOf : Bool → ℕ
 toldOf true = 1
 toldOf false = 2
 
--- What is remembered of a claim about the subterms at e's entries is so.
+-- What is remembered of a claim about the subterms at e's entries is so. (Which answers are remembered is left open: one
+-- that is missing is asked for.)
 pub record Remembered (P : Term Variable → Type 0) (e memo : List ℕ) : Type 0 where
   pub long : length memo ≡ 64
   pub holds : (k : ℕ) → getD memo k 0 ≡ 1 → P (subAt e k)
@@ -66,11 +71,13 @@ pub record Painted (old new : List ℕ) (low high value : ℕ) : Type 0 where
 -- The flags that were on, and those of which P holds, are on.
 pub record Raised (old new : List ℕ) (P : ℕ → Type 0) : Type 0 where
   pub long : length new ≡ 64
+  pub bits : Bits old → Bits new
   pub on : (k : ℕ) → On new k ↔ (On old k ⊎ P k)
 
 -- Of the flags that were on, those of which P does not hold are on.
 pub record Cleared (old new : List ℕ) (P : ℕ → Type 0) : Type 0 where
   pub long : length new ≡ 64
+  pub bits : Bits old → Bits new
   pub kept : (k : ℕ) → On new k → On old k × ¬ P k
   pub gone : (k : ℕ) → On old k → ¬ On new k → P k
 
@@ -124,6 +131,7 @@ pub record HatBelow (certificate : Certificate) (e : List ℕ) (n k : ℕ) : Typ
 -- The flags are on where P holds.
 pub record Flags (flags : List ℕ) (P : ℕ → Type 0) : Type 0 where
   pub long : length flags ≡ 64
+  pub bits : Bits flags
   pub on : (k : ℕ) → On flags k ↔ P k
 
 -- The entries of a term, or none: a rule's premise.
@@ -141,6 +149,7 @@ pub record OpenBelow (certificate : Certificate) (e : List ℕ) (n k : ℕ) : Ty
 -- The entries strictly below entry h are closed, if it is an encryption that no open place may have above it.
 pub record ClosedBelow (certificate : Certificate) (old new e : List ℕ) (h : ℕ) : Type 0 where
   pub long : length new ≡ 64
+  pub bits : Bits old → Bits new
   pub on : (k : ℕ) → On new k ↔ (On old k × (getD e (4 * h) 0 ≡ 3 → h < k → k < h + size (subAt e h) → NoHat certificate (subAt e h)))
 
 -- Entry k is an open place of the term, if there is one.
@@ -157,10 +166,12 @@ pub record OpenHolds (certificate : Certificate) (e : List ℕ) (P : Term Variab
 -- The flags are on at the wanted entries that are open as far as the first n entries go; at those that are open.
 pub record OpenAmong (certificate : Certificate) (e wanted : List ℕ) (n : ℕ) (flags : List ℕ) : Type 0 where
   pub long : length flags ≡ 64
+  pub bits : Bits wanted → Bits flags
   pub on : (k : ℕ) → On flags k ↔ (On wanted k × OpenBelow certificate e n k)
 
 pub record OpenFlags (certificate : Certificate) (e wanted flags : List ℕ) : Type 0 where
   pub long : length flags ≡ 64
+  pub bits : Bits wanted → Bits flags
   pub on : (k : ℕ) → On flags k ↔ (On wanted k × OpenEntry certificate e k)
 
 -- What a search through flagged entries asks for.
@@ -179,7 +190,8 @@ pub record SomeFlagged (e flags : List ℕ) (P : Term Variable → Type 0) : Typ
   pub is : FlaggedWith e flags P number
 
 -- A table of the flagged entries by the slots of their roots: a slot has the number of a flagged entry, counted from 1, and
--- the slot of each flagged entry has one. (Of those below n: as far as it is filled in.)
+-- the slot of each flagged entry has one; which of several with one slot it has is left open. (Of those below n: as far as
+-- it is filled in.)
 pub record IndexedBelow (e flags : List ℕ) (n : ℕ) (index : List ℕ) : Type 0 where
   pub long : length index ≡ 400
   pub points : (s : ℕ) → ¬ (getD index s 0 ≡ 0) → On flags (getD index s 0 - 1)

@@ -6,11 +6,13 @@ pub mod Run
 pub mod Hat
 pub mod Cover
 pub mod Conditions
+pub mod Foreign
 pub mod Decisions
 pub mod Verdict
 pub mod Meaning
 -- What is made of a verdict: number, block and place, the refused part, the tally, the line.
 pub mod Answer
+pub mod Values
 pub mod Checked
 pub mod Line
 -- What the parts of the code promise to each other.

@@ -2,6 +2,7 @@
 use mathlib.Core.Path.{_≡_}
 use mathlib.Core.Bool.{Bool, true, false}
 use mathlib.Core.List.{List, [], map, List·Memᴰ}
+use mathlib.Core.Logic.{_⊎_}
 use mathlib.Core.Option.{Option, none, some}
 use Prim.Native.Nat.{ℕ, zero, suc, _+_, _%_, _<_, _≤_}
 use lib.ListN.{length, getD, drop}
@@ -103,11 +104,23 @@ pub record FlaggedMore (file : List ℕ) (i : ℕ) (old new : List ℕ) : Type 0
   pub long : length new ≡ 400
   pub kept : (k : ℕ) → getD old k 0 ≡ 1 → getD new k 0 ≡ 1
   pub here : kindOf (blockAt file i) ≡ 2 → FlaggedAt new (firstEntries (blockAt file i))
+  pub bits : ((k : ℕ) → getD old k 0 ≤ 1) → (k : ℕ) → getD new k 0 ≤ 1
+  pub only : (k : ℕ) → getD new k 0 ≡ 1
+      → (getD old k 0 ≡ 1) ⊎ ((kindOf (blockAt file i) ≡ 2) × (slotAt (firstEntries (blockAt file i)) ≡ k))
 
--- The root of every secret is flagged.
+-- The root of a secret among the first n blocks has this slot.
+pub record SecretSlot (file : List ℕ) (n slot : ℕ) : Type 0 where
+  pub number : ℕ
+  pub before : number < n
+  pub of-kind : kindOf (blockAt file number) ≡ 2
+  pub same : slotAt (firstEntries (blockAt file number)) ≡ slot
+
+-- The root of every secret is flagged, and nothing else; a flag is 0 or 1.
 pub record RootsOf (file roots : List ℕ) : Type 0 where
   pub long : length roots ≡ 400
   pub flagged : (i : ℕ) → i < blockCount file → kindOf (blockAt file i) ≡ 2 → FlaggedAt roots (firstEntries (blockAt file i))
+  pub bits : (k : ℕ) → getD roots k 0 ≤ 1
+  pub only : (k : ℕ) → getD roots k 0 ≡ 1 → SecretSlot file (blockCount file) k
 
 -- The term that e begins with has a symbol as its root, and so has the left half of a pair, and no secret has that slot.
 pub record NoRoot (roots e : List ℕ) : Type 0 where

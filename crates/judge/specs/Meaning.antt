@@ -129,8 +129,8 @@ Kept certificate b = KeptKey certificate (patternOf b)
 abbrev pub Passing : Certificate → List ℕ → Type 0
 Passing certificate b = Passes certificate (ruleOf b)
 
--- The first uncovered place of a rule that is not dead: place k of the conclusion, in the order of the entries. (It is
--- where entry k stands: `spot-entry` of proofs/Spots.antt.)
+-- The first uncovered place of a rule that is not dead: place k of the conclusion, in the order of the entries. (Entry k
+-- stands at that place and begins the subterm there: `spot-entry` of proofs/Spots.antt.)
 pub record FirstUncovered (certificate : Certificate) (rule : Rule) (k : ℕ) : Type 0 where
   pub alive : ¬ Dead certificate rule
   pub inside : k < size (rule .conclusion)

@@ -1,7 +1,10 @@
 // What is made of a verdict: its number, block and place, the packed answer, the refused part and the tally.
 ghost use mathlib.Core.Path.{_≡_};
 ghost use Prim.Native.Nat.{_≤_};
-ghost use Rattle.judge.specs.Answer.{rowOf, numberOf, blockOf, placeOf, packedOf, blockOrNone, partOf, raisedOf, talliedOf};
+ghost use denote.Ref.{ptr};
+ghost use Rattle.blocks.specs.Block.{behind};
+ghost use Rattle.judge.specs.Answer.{rowOf, numberOf, blockOf, placeOf, packedOf, raisedOf, talliedOf};
+ghost use Rattle.judge.specs.Answer.{blockOrNone, blockStart, partOf, partStart};
 use crate::verdict::Fault;
 use crate::verdict::Verdict;
 
@@ -82,7 +85,8 @@ pub fn packed(v: Verdict) -> u32
 
 // Block i of the file, empty if the file lacks it.
 fn block_or_none<'a>(file: &'a [u8], i: usize) -> &'a [u8]
-    ensures { λ r. ⌜ now r ≡ blockOrNone (now (file .entry)) i ⌝ }
+    ensures part { λ r. ⌜ now r ≡ blockOrNone (now (file .entry)) i ⌝ }
+    ensures place { λ r. ⌜ ptr r ≡ behind (blockStart (now (file .entry)) i) (ptr (file .entry)) ⌝ }
 {
     if blocks::has_block(file, i) {
         return blocks::block(file, i);
@@ -92,7 +96,8 @@ fn block_or_none<'a>(file: &'a [u8], i: usize) -> &'a [u8]
 
 // The refused block, as a part of the file; empty on acceptance, for numbers 1 and 4, and for a block that the file lacks.
 pub fn refused_part<'a>(file: &'a [u8], v: Verdict) -> &'a [u8]
-    ensures { λ r. ⌜ now r ≡ partOf (now (file .entry)) v ⌝ }
+    ensures part { λ r. ⌜ now r ≡ partOf (now (file .entry)) v ⌝ }
+    ensures place { λ r. ⌜ ptr r ≡ behind (partStart (now (file .entry)) v) (ptr (file .entry)) ⌝ }
 {
     match v {
         Verdict::Accepted(_) => &file[0..0],

@@ -2,6 +2,7 @@
 ghost use mathlib.Core.Path.{_≡_};
 ghost use Rattle.judge.specs.Verdict.{verdictOf};
 ghost use Rattle.judge.specs.Answer.{packedOf};
+ghost use Rattle.judge.specs.Values.{verdictValues, judgingValues};
 ghost use Rattle.judge.specs.Checked.{checkedOf, version};
 use crate::answer::Tally;
 use crate::answer::packed;
@@ -20,7 +21,8 @@ pub struct Checked {
 
 // Judges a file and counts its verdict.
 pub fn check(file: &[u8], t: Tally) -> Checked
-    ensures { λ r. ⌜ r ≡ checkedOf (now (file .entry)) t ⌝ }
+    ensures checked { λ r. ⌜ r ≡ checkedOf (now (file .entry)) t ⌝ }
+    ensures values { λ r. ⌜ verdictValues (r .verdict) ≡ judgingValues (now (file .entry)) ⌝ }
 {
     let v = judge(file);
     Checked {

@@ -1,4 +1,6 @@
 // Number 12, on the entries of a rule: entry k stands at the k-th place, and the subterm there is the part from it on.
+// Flags are 0 or 1, and contracts say which are on. What is remembered is so (`Remembered`); which answers are remembered is
+// left open, since one that is missing is asked for.
 ghost use mathlib.Core.Path.{_≡_};
 ghost use mathlib.Core.Bool.{true};
 ghost use Prim.Native.Nat.{_+_, _*_, _<_, _≤_};
@@ -311,7 +313,8 @@ fn note(e: &[u8], flags: &[u8; 64], k: usize, index: &mut [u8; 400])
     }
 }
 
-// The flagged entries by the slots of their roots, counted from 1.
+// The flagged entries by the slots of their roots, counted from 1. Which of several with one slot is noted is left open: any
+// serves, as `stands_at` asks all entries where it is another.
 fn index_of(e: &[u8], flags: &[u8; 64]) -> [u8; 400]
     requires { ⌜ Flagged (now e) (now flags) ⌝ }
     ensures { λ r. ⌜ Indexed (now (e .entry)) (now (flags .entry)) r ⌝ }
@@ -385,7 +388,7 @@ fn risky_places(file: &[u8], roots: &[u8; 400], e: &[u8]) -> [u8; 64]
 // Has neither table anything for the slot of the term's root?
 fn is_absent(roots: &[u8; 400], index: &[u8; 400], t: &[u8]) -> bool
     requires { ⌜ (length (now roots) ≡ 400) × (length (now index) ≡ 400) × Begins (now t) ⌝ }
-    ensures { λ r. ⌜ (r ≡ true → (getD (now (roots .entry)) (slotAt (now (t .entry))) 0 ≡ 0) × (getD (now (index .entry)) (slotAt (now (t .entry))) 0 ≡ 0)) ⌝ }
+    ensures { λ r. ⌜ Says r ((getD (now (roots .entry)) (slotAt (now (t .entry))) 0 ≡ 0) × (getD (now (index .entry)) (slotAt (now (t .entry))) 0 ≡ 0)) ⌝ }
 {
     let n = listed::root_slot(t);
     if roots[n] == 0 { index[n] == 0 } else { false }

@@ -11,6 +11,7 @@ ghost use Rattle.judge.specs.Listed.{RootsOf, SharesBad};
 ghost use Rattle.judge.specs.CoverEntries.{AfterRule, Before, Repeats};
 ghost use Rattle.judge.specs.Verdict as verdicts;
 ghost use Rattle.judge.specs.Verdict.{onKind, uncoveredRule, ruleFault, certificateFault, faultOf, verdictOf};
+ghost use Rattle.judge.specs.Values.{verdictValues, judgingValues};
 use crate::cover;
 use crate::flag;
 use crate::layout;
@@ -196,7 +197,8 @@ fn first_fault(file: &[u8]) -> Judged
 
 // The verdict: refused with the first fault, or accepted with the file's own counts.
 pub fn judge(file: &[u8]) -> Verdict
-    ensures { λ r. ⌜ r ≡ verdictOf (now (file .entry)) ⌝ }
+    ensures verdict { λ r. ⌜ r ≡ verdictOf (now (file .entry)) ⌝ }
+    ensures values { λ r. ⌜ verdictValues r ≡ judgingValues (now (file .entry)) ⌝ }
 {
     match first_fault(file) {
         Judged::Faulty(f) => Verdict::Refused(f),

@@ -52,7 +52,7 @@ fn line_length(v: Verdict) -> usize
 }
 
 // Writes a text from `at` on, and answers the place after it.
-pub fn put(buffer: &mut [u8], at: usize, text: &[u8]) -> usize
+fn put(buffer: &mut [u8], at: usize, text: &[u8]) -> usize
     requires { ⌜ Room (now buffer) at (now text) ⌝ }
     ensures { λ r. ⌜ Put (now (buffer .entry)) at (now (text .entry)) (now (buffer .exit)) r ⌝ }
 {

@@ -1,6 +1,7 @@
 // Searches through the blocks of one kind, each a part of the file, and numbers 9, 10 and 11.
 ghost use mathlib.Core.Path.{_≡_};
 ghost use mathlib.Core.Bool.{false};
+ghost use mathlib.Core.Logic.{_↔_};
 ghost use Prim.Native.Nat.{_*_, _<_, _≤_};
 ghost use lib.ListN.{length};
 ghost use Rattle.blocks.specs.Block.{blockAt, kindOf, firstEntries};
@@ -205,7 +206,7 @@ fn flag_root(file: &[u8], i: usize, roots: &mut [u8; 400])
     }
 }
 
-// The roots of all secrets, flagged.
+// The roots of all secrets, flagged, and no others.
 pub fn secret_roots(file: &[u8]) -> [u8; 400]
     requires { ⌜ Laid (now file) ⌝ }
     ensures { λ r. ⌜ RootsOf (now (file .entry)) r ⌝ }
@@ -224,7 +225,7 @@ pub fn secret_roots(file: &[u8]) -> [u8; 400]
 // half is one; any other term if a secret's root has its slot.
 pub fn may_be_secret(roots: &[u8; 400], e: &[u8]) -> bool
     requires { ⌜ (length (now roots) ≡ 400) × Begins (now e) ⌝ }
-    ensures { λ r. ⌜ (r ≡ false → NoRoot (now (roots .entry)) (now (e .entry))) ⌝ }
+    ensures { λ r. ⌜ (r ≡ false) ↔ NoRoot (now (roots .entry)) (now (e .entry)) ⌝ }
 {
     let tag = e[0];
     if 3 < tag {

@@ -1,5 +1,5 @@
 -- `blocks::block` meets its contract. Assumes nothing.
-use mathlib.Core.Path.{ap, _∙_}
+use mathlib.Core.Path.{refl, ap, _∙_}
 use lib.ListN.{length}
 use Rattle.blocks.proofs.Parts.{block-part, block-length}
 use borrow.Author.Needs.{needs}
@@ -14,5 +14,5 @@ block-spec = tie.close (tie.spec
     (λ c. search needs)  -- sub-result
     (λ c. search needs)  -- part-result-start
     (λ c. search needs)  -- part-result-end
-    (λ c. (block-part _ _, ap length (block-part _ _) ∙ block-length _ _ (c .before .pre)))  -- returns
+    (λ c. (block-part _ _, (ap length (block-part _ _) ∙ block-length _ _ (c .before .pre), refl)))  -- returns
     )

@@ -1,5 +1,5 @@
 -- `blocks::first_entries` meets its contract. Assumes nothing.
-use mathlib.Core.Path.{ap, _∙_}
+use mathlib.Core.Path.{refl, ap, _∙_}
 use lib.ListN.{length}
 use Rattle.blocks.proofs.Parts.{first-part, first-length}
 use borrow.Author.Needs.{needs}
@@ -17,5 +17,5 @@ first-entries-spec = tie.close (tie.spec
     (λ c.
     let fits = c .before .before .before .pre in
     let part = first-part _ fits _ (c .before .first-count .ensures .0) in
-    (part, ap length part ∙ first-length _ fits))  -- returns
+    (part, (ap length part ∙ first-length _ fits, refl)))  -- returns
     )

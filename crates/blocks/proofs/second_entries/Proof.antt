@@ -1,5 +1,5 @@
 -- `blocks::second_entries` meets its contract. Assumes nothing.
-use mathlib.Core.Path.{ap, _∙_}
+use mathlib.Core.Path.{refl, ap, _∙_}
 use lib.ListN.{length}
 use Rattle.blocks.proofs.Parts.{second-part, second-length}
 use borrow.Author.Needs.{needs}
@@ -19,6 +19,7 @@ second-entries-spec = tie.close (tie.spec
     (λ c. search needs)  -- part-result-end
     (λ c.
     let fits = c .before .before .before .before .pre in
-    let part = second-part _ fits _ _ (c .before .before .first-count .ensures .0) (c .before .second-count .ensures .0) in
-    (part, ap length part ∙ second-length _ fits))  -- returns
+    let count = c .before .before .first-count .ensures .0 in
+    let part = second-part _ fits _ _ count (c .before .second-count .ensures .0) in
+    (part, (ap length part ∙ second-length _ fits, rw count refl)))  -- returns
     )

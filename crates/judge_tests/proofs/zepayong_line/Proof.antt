@@ -12,5 +12,5 @@ zepayong-line-spec = tie.close (tie.spec
     (λ c. search needs)  -- same-length
     (λ c.
     let line = c .before .before .before .print-line .ensures in
-    printed _ _ (c .before .before .before .before .before .judge .ensures) (line .0) (line .1 .1) (c .writing .ensures))  -- returns
+    printed _ _ (c .before .before .before .before .before .judge .ensures .0) (line .0) (line .1 .1) (c .writing .ensures))  -- returns
     )

@@ -11,5 +11,5 @@ zepayong-tally-spec = tie.close (tie.spec
     (λ c. search needs)  -- mul-result
     (λ c. search needs)  -- cast-result-2
     (λ c. search needs)  -- add-result
-    (λ c. tallied _ _ _ (c .before .before .before .check .ensures))  -- returns
+    (λ c. tallied _ _ _ (c .before .before .before .check .ensures .0))  -- returns
     )

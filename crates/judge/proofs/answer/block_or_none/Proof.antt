@@ -10,9 +10,9 @@ block-or-none-spec = tie.close (tie.spec
     (λ c κs.
     let at = c .before .before .before .args in
     has (at .file .now) (at .i) (c .before .has-block .ensures) (c .if1 .taken))  -- block-requires
-    (λ c. block-there _ _ (c .before .before .has-block .ensures) (c .before .if1 .taken) (c .block .ensures .0))  -- returns
+    (λ c. block-there _ _ _ (c .before .before .has-block .ensures) (c .before .if1 .taken) (c .block .ensures .0) (c .block .ensures .1 .1))  -- returns
     (λ c. search needs)  -- sub-result
     (λ c. search needs)  -- part-result-start
     (λ c. search needs)  -- part-result-end
-    (λ c. block-lacking _ _ (c .before .before .has-block .ensures) (c .before .if1 .left))  -- returns-2
+    (λ c. block-lacking _ _ _ (c .before .before .has-block .ensures) (c .before .if1 .left))  -- returns-2
     )

@@ -9,5 +9,5 @@ pub zepayong-check-spec : {M : Type 1} → statement M
 zepayong-check-spec = tie.close (tie.spec
     (λ c κs. search needs)  -- judge-requires
     (λ c κs. search needs)  -- packed-requires
-    (λ c. c .packed .ensures ∙ ap packedOf (c .before .judge .ensures))  -- returns
+    (λ c. c .packed .ensures ∙ ap packedOf (c .before .judge .ensures .0))  -- returns
     )

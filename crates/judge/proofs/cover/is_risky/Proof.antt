@@ -20,5 +20,5 @@ is-risky-spec = tie.close (tie.spec
     (λ c.
     let pre = c .before .before .before .before .before .before .pre in
     risky-secret _ (pre .0 .term) (c .before .before .if1 .left) false
-    (no-root-shares (pre .0 .laid) (pre .1) (pre .0 .term) (c .before .may-be-secret .ensures (c .if2 .left))))  -- returns-3
+    (no-root-shares (pre .0 .laid) (pre .1) (pre .0 .term) (c .before .may-be-secret .ensures .0 (c .if2 .left))))  -- returns-3
     )

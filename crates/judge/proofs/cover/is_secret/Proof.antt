@@ -11,5 +11,5 @@ is-secret-spec = tie.close (tie.spec
     (λ c κs. (c .before .before .pre .1 .long, c .before .before .pre .0 .term))  -- may-be-secret-requires
     (λ c κs. search needs)  -- is-listed-secret-requires
     (λ c. answer-says (c .is-listed-secret .result) (is-secret? _ _) (c .is-listed-secret .ensures))  -- returns
-    (λ c. let pre = c .before .before .before .before .pre in no-root-secret (pre .0 .laid) (pre .1) (pre .0 .term) (c .before .may-be-secret .ensures (c .if1 .left)))  -- returns-2
+    (λ c. let pre = c .before .before .before .before .pre in no-root-secret (pre .0 .laid) (pre .1) (pre .0 .term) (c .before .may-be-secret .ensures .0 (c .if1 .left)))  -- returns-2
     )

@@ -17,7 +17,7 @@ is-wanted-spec = tie.close (tie.spec
     (λ c. search needs)  -- part-t-start
     (λ c. search needs)  -- part-t-end
     (λ c κs. let pre = c .before .before .before .before .pre in (pre .4 .long, pre .5 .long, standing-entries (pre .0) (pre .1) (pre .2) .term))  -- is-absent-requires
-    (λ c. let pre = c .before .before .before .before .before .before .pre in let absent = c .before .is-absent .ensures (c .if1 .taken) in let begins = standing-entries (pre .0) (pre .1) (pre .2) .term in
+    (λ c. let pre = c .before .before .before .before .before .before .pre in let absent = says-yes (c .before .is-absent .result) (c .before .is-absent .ensures) (c .if1 .taken) in let begins = standing-entries (pre .0) (pre .1) (pre .2) .term in
     wanted-none (no-slot-secret (pre .0) (pre .4) begins (absent .0)) (index-absent (pre .3) (pre .5) begins refl (absent .1)))  -- returns
     (λ c κs. let pre = c .before .before .before .before .before .before .pre in (searching-at (standing-entries (pre .0) (pre .1) (pre .2)) (search needs) (search needs), pre .4))  -- is-secret-requires
     (λ c κs. let pre = c .before .before .before .before .before .before .before .before .pre in (pre .3, pre .5, standing-entries (pre .0) (pre .1) (pre .2) .term))  -- stands-at-requires

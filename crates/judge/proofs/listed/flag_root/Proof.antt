@@ -1,12 +1,14 @@
 -- `judge::listed::flag_root` meets its contract. Assumes nothing.
-use mathlib.Core.Path.{ap, _∙_}
+use mathlib.Core.Path.{sym, ap, _∙_}
+use mathlib.Core.Logic.{inl, inr, ⊎-elim}
 use Prim.Native.Nat.{_<_}
 use native.Mathlib.Omega.{arith}
 use lib.ListN.{length, length-set}
 use Rattle.terms.specs.Decisions.{says-yes, says-no}
 use Rattle.judge.specs.Listed.{slotAt}
 use Rattle.judge.proofs.Listing.{term-block}
-use Rattle.judge.proofs.Roots.{flag-kept, flag-here}
+use Rattle.judge.proofs.Roots.{flag-kept, flag-here, flag-only}
+use Rattle.judge.proofs.Flags.{bits-set}
 use borrow.Author.Needs.{needs}
 use Rattle.judge.proofs.listed.flag_root.Statement.{statement}
 use Rattle.judge.proofs.listed.flag_root.Tie as tie
@@ -24,10 +26,20 @@ flag-root-spec = tie.close (tie.spec
     let old = c .before .before .before .before .before .args .roots .now in
     let same = c .root-slot .ensures .0 ∙ ap slotAt (c .before .term-at .ensures .part) in
     let inside : c .root-slot .result < length old = search needs in
+    let asked = c .before .before .before .is-kind in
+    let kind = says-yes (asked .result) (asked .ensures) (c .before .before .if1 .taken) in
     record {
       long = simp length-set (pre .2);
       kept = flag-kept old inside;
       here = λ kind. flag-here old inside same;
+      bits = bits-set old _ 1 inside (omega arith);
+      only = λ k on. ⊎-elim inl (λ e. inr (kind, sym same ∙ e)) (flag-only old inside k on);
     })  -- returns
-    (λ c. let pre = c .before .before .before .pre in record { long = pre .2; kept = λ k on. on; here = λ kind. absurd (says-no (c .before .is-kind .result) (c .before .is-kind .ensures) (c .if1 .left) kind) })  -- returns-2
+    (λ c. let pre = c .before .before .before .pre in record {
+      long = pre .2;
+      kept = λ k on. on;
+      here = λ kind. absurd (says-no (c .before .is-kind .result) (c .before .is-kind .ensures) (c .if1 .left) kind);
+      bits = λ b. b;
+      only = λ k on. inl on;
+    })  -- returns-2
     )

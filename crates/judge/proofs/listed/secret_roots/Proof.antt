@@ -2,11 +2,12 @@
 use mathlib.Core.Path.{_≡_, refl}
 use Prim.Native.Nat.{ℕ, _-_, _<_, _≤_}
 use native.Mathlib.Omega.{arith}
-use lib.ListN.{length}
+use lib.ListN.{length, getD}
 use Rattle.blocks.specs.Block.{blockAt, kindOf, firstEntries}
 use Rattle.judge.specs.File.{blockCount}
-use Rattle.judge.specs.Listed.{FlaggedAt}
-use Rattle.judge.proofs.Roots.{flags-more}
+use Rattle.judge.specs.Listed.{FlaggedAt, SecretSlot}
+use Rattle.judge.proofs.Roots.{flags-more, only-more, slots-before}
+use Rattle.judge.proofs.Flags.{zero-at}
 use borrow.Author.Needs.{needs}
 use Rattle.judge.proofs.listed.secret_roots.Statement.{statement}
 use Rattle.judge.proofs.listed.secret_roots.Tie as tie
@@ -16,18 +17,32 @@ Inv-loop file roots₀ count i₀ roots i =
     (i ≤ blockCount file)
     × (length roots ≡ 400)
     × ((j : ℕ) → j < i → kindOf (blockAt file j) ≡ 2 → FlaggedAt roots (firstEntries (blockAt file j)))
+    × ((k : ℕ) → getD roots k 0 ≤ 1)
+    × ((k : ℕ) → getD roots k 0 ≡ 1 → SecretSlot file i k)
 
 abbrev μ-loop : tie.MeasureT-loop
 μ-loop file roots₀ count i₀ roots i = blockCount file - i
 
 pub secret-roots-spec : {M : Type 1} → statement M
 secret-roots-spec = tie.close (tie.spec Inv-loop μ-loop
-    (λ c. (search needs, refl, λ j below kind. absurd (omega arith)))  -- loop-holds
+    (λ c. (
+      search needs,
+      refl,
+      λ j below kind. absurd (omega arith),
+      λ k. omega (arith, zero-at 400 k),
+      λ k on. absurd (omega (arith, zero-at 400 k)),
+    ))  -- loop-holds
     (λ c κs. (c .before .before .before .before .pre, c .before .loop-test .taken, c .before .before .loop .inv .1))  -- flag-root-requires
     (λ c. search needs)  -- add-i
     (λ c. search needs)  -- loop-less
     (λ c.
     let flagged = c .flag-root .ensures in
-    (search needs, flagged .long, flags-more flagged (c .before .before .before .loop .inv .2)))  -- loop-again
-    (λ c. let inv = c .before .loop .inv in record { long = inv .1; flagged = λ j inside. inv .2 j (omega arith) })  -- returns
+    let inv = c .before .before .before .loop .inv in
+    (search needs, flagged .long, flags-more flagged (inv .2), flagged .bits (inv .3), only-more flagged (inv .4)))  -- loop-again
+    (λ c. let inv = c .before .loop .inv in record {
+      long = inv .1;
+      flagged = λ j inside. inv .2 j (omega arith);
+      bits = inv .3;
+      only = λ k on. slots-before (inv .0) (inv .4 k on);
+    })  -- returns
     )

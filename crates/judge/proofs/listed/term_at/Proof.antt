@@ -14,5 +14,5 @@ term-at-spec = tie.close (tie.spec
     (λ c κs. rw (c .block .ensures .0) (c .before .before .pre .1 .fitting))  -- first-entries-requires
     (λ c. let block = c .before .block .ensures .0 in
     term-part (c .before .before .before .pre .1) (c .first-entries .ensures .0 ∙ ap firstEntries block)
-    (c .first-entries .ensures .1 ∙ ap (λ (b : List ℕ). 4 * firstCount b) block))  -- returns
+    (c .first-entries .ensures .1 .0 ∙ ap (λ (b : List ℕ). 4 * firstCount b) block))  -- returns
     )
