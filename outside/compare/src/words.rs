@@ -4,11 +4,10 @@
 use crate::outside;
 use literal::block::BLOCK;
 use literal::Term;
-
-const NAMES: [&str; 8] = ["A", "I", "KA", "KAi", "KI", "KIi", "N", "T"];
+use text::document;
 
 pub fn name(number: u16) -> String {
-    match NAMES.get(number as usize) {
+    match document::name(number as usize) {
         Some(name) => name.to_string(),
         None => format!("a{number}"),
     }

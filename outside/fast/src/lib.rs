@@ -7,7 +7,6 @@
 //! `read` numbers 2 to 8, `rule` number 12, `judge` the order of the rest.
 #![forbid(unsafe_code)]
 
-pub mod against;
 mod alphabet;
 mod block;
 mod family;

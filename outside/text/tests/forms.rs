@@ -1,18 +1,8 @@
 //! The text form: the document's cases as text, round trips, errors, notes.
 
 use literal::{Refusal, Verdict};
+use text::document::{ATOMS, GOOD, SECRETS};
 use text::{assemble, print};
-
-const ATOMS: &str = "\
-atom A principal known
-atom I principal known
-atom KA public known partner KAi
-atom KAi private unknown partner KA
-atom KI public known partner KIi
-atom KIi private known partner KI
-atom N nonce unknown
-atom T nonce known
-";
 
 fn line_of(rest: &str) -> String {
     let bytes = assemble(&format!("{ATOMS}{rest}")).unwrap();
@@ -20,9 +10,9 @@ fn line_of(rest: &str) -> String {
     String::from_utf8(line).unwrap().trim_end().to_string()
 }
 
-/// Secrets N and KAi, good {*s}KA, and these lines.
+/// The usual secrets and good pattern, and these lines.
 fn usual(rest: &str) -> String {
-    line_of(&format!("secret N\nsecret KAi\ngood {{*s}}KA\n{rest}"))
+    line_of(&format!("{SECRETS}{GOOD}{rest}"))
 }
 
 #[test]
@@ -32,8 +22,8 @@ fn the_documents_cases() {
     assert_eq!(usual("rule -> {N}KI"), "refused 12 block=4 place=1");
     assert_eq!(usual("rule {?x}KA -> {?x}KI"), "refused 12 block=4 place=3");
     assert_eq!(usual("rule {?x}KI -> ?x"), accepted);
-    let e = "secret N\nsecret KAi\ngood {(T, *s)}KA\nrule {(I, ?x)}KA -> {?x}KI";
-    assert_eq!(line_of(e), accepted);
+    let e = format!("{SECRETS}good {{(T, *s)}}KA\nrule {{(I, ?x)}}KA -> {{?x}}KI");
+    assert_eq!(line_of(&e), accepted);
     let with_bad = "accepted blocks=6 secrets=2 good=1 bad=1 rules=1";
     assert_eq!(
         usual("bad {(I, ?x)}KA\nrule {(I, ?x)}KA -> {?x}KI"),

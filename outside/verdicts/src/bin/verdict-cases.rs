@@ -8,14 +8,7 @@ use verdicts::lent::Lent;
 use verdicts::{cases, known, proved, Checker, Difference};
 
 fn main() -> ExitCode {
-    match run() {
-        Ok(0) => ExitCode::SUCCESS,
-        Ok(_) => ExitCode::FAILURE,
-        Err(message) => {
-            eprintln!("{message}");
-            ExitCode::FAILURE
-        }
-    }
+    command::run(|_| Ok(run()? == 0))
 }
 
 /// How many answers differ.
