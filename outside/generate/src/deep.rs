@@ -5,10 +5,11 @@ use crate::certificate::{replace, variables_of};
 use crate::pairs::term_pair;
 use crate::random::Random;
 use crate::sketch::Sketch;
+use literal::numbers::atom_kind::{NONCE, PRINCIPAL, PRIVATE, PUBLIC};
+use literal::numbers::MOST_ENTRIES;
 use literal::read::Atom;
 use literal::Term;
 
-const MOST_ENTRIES: usize = 63;
 const KEYS: [u16; 4] = [2, 3, 4, 5];
 const SECRET: u16 = 6;
 
@@ -33,14 +34,14 @@ pub fn sketch(random: &mut Random) -> Sketch {
 /// The document's atoms, but no key is known, so that each may be a root key.
 fn atoms() -> Vec<Atom> {
     let rows = [
-        (1, 1, 0),
-        (1, 1, 0),
-        (3, 0, 3),
-        (4, 0, 2),
-        (3, 0, 5),
-        (4, 0, 4),
-        (2, 0, 0),
-        (2, 1, 0),
+        (PRINCIPAL, 1, 0),
+        (PRINCIPAL, 1, 0),
+        (PUBLIC, 0, 3),
+        (PRIVATE, 0, 2),
+        (PUBLIC, 0, 5),
+        (PRIVATE, 0, 4),
+        (NONCE, 0, 0),
+        (NONCE, 1, 0),
     ];
     rows.map(|(kind, known, partner)| Atom {
         kind,

@@ -3,7 +3,7 @@
 use crate::lent::Lent;
 use crate::{Checker, Difference, Spot};
 use generate::random::Random;
-use literal::block::BLOCK;
+use literal::numbers::{BLOCK, CHECKED};
 use literal::{Counts, Refusal, Tally, Verdict};
 
 /// What differs for this file and the verdict expected of it. Buffers, counts
@@ -203,7 +203,7 @@ fn tally(checker: &Checker, file: &[u8], verdict: &Verdict, before: Tally) -> Op
 /// A block of the file with another check, arbitrary bytes, a wrong length.
 fn seals(checker: &Checker, file: &[u8], random: &mut Random) -> Vec<Difference> {
     let mut own = some_block(file, random);
-    own[508..].fill(random.byte());
+    own[CHECKED..].fill(random.byte());
     let wrong = match random.below(4) {
         0 => 0,
         1 => *random.pick(&[508, 511, 513, 1024]),

@@ -5,7 +5,7 @@ use crate::lent::Lent;
 use crate::{Checker, Difference, Spot};
 use command::files;
 use generate::random::Random;
-use literal::block::BLOCK;
+use literal::numbers::BLOCK;
 use std::path::{Path, PathBuf};
 
 #[derive(Clone)]
