@@ -2,7 +2,7 @@
 
 use crate::compare;
 use crate::lent::Lent;
-use crate::{Checker, Difference, Spot};
+use crate::{failed, Checker, Difference, Spot};
 use command::files;
 use generate::random::Random;
 use literal::numbers::BLOCK;
@@ -83,7 +83,7 @@ impl Known {
         let right = buffer.clone();
         let answer = (checker.line)(&self.file, buffer.bytes());
         let found = format!("{answer}{}", buffer.unlike(&right));
-        Difference::between("line with a byte less", (14 * 65_536).to_string(), found)
+        Difference::between("line with a byte less", failed(14).to_string(), found)
     }
 
     /// The block that is named; empty for acceptance, 1 and 4.
