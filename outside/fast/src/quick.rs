@@ -105,7 +105,7 @@ impl<'a> Quick<'a> {
     }
 
     fn side(&self, node: u8) -> &'a Term {
-        self.sides[(node / PATTERN & 1) as usize]
+        self.sides[((node / PATTERN) & 1) as usize]
     }
 
     #[inline(always)]

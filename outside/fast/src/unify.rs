@@ -121,7 +121,7 @@ impl Classes<'_> {
 
     #[inline(always)]
     fn side(&self, node: usize) -> &Term {
-        self.sides[node / PLACES & 1]
+        self.sides[(node / PLACES) & 1]
     }
 
     /// The head of the class of an entry, or of the variable that it is.
