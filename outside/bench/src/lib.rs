@@ -2,6 +2,7 @@
 //! meant to make them slow.
 
 pub mod clock;
+pub mod files;
 pub mod proved;
 pub mod search;
 pub mod stack;

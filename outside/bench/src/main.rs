@@ -5,11 +5,11 @@
 //! fastest of many rounds. Exits with 1 if the answers differ, or if some ratio
 //! is above R.
 
+use bench::files::{self, Certificate, TYPICAL};
 use bench::{clock, proved, stack};
-use std::path::{Path, PathBuf};
+use std::path::Path;
 use std::process::ExitCode;
 
-const TYPICAL: &str = "1-typical";
 const ROUNDS: usize = 100;
 
 struct Case {
@@ -21,30 +21,18 @@ struct Case {
 }
 
 fn main() -> ExitCode {
-    let words: Vec<String> = std::env::args().skip(1).collect();
-    let at_most = match words.iter().map(String::as_str).collect::<Vec<_>>()[..] {
-        [] => None,
-        ["--at-most", most] if most.parse::<f64>().is_ok() => most.parse().ok(),
-        _ => {
-            eprintln!("bench [--at-most R]");
-            return ExitCode::FAILURE;
-        }
-    };
-    match run(at_most) {
-        Ok(()) => ExitCode::SUCCESS,
-        Err(message) => {
-            println!("{message}");
-            ExitCode::FAILURE
-        }
-    }
+    command::run(run)
 }
 
-fn run(at_most: Option<f64>) -> Result<(), String> {
-    let here = Path::new(env!("CARGO_MANIFEST_DIR"));
-    let files = cases(&here.join("files"))?;
-    let corpus = cases(&here.join("../corpus"))?;
-    let own = files.len();
-    let mut all: Vec<Case> = files.into_iter().chain(corpus).collect();
+fn run(words: &[&str]) -> Result<bool, String> {
+    let at_most = match words {
+        [] => f64::INFINITY,
+        ["--at-most", most] => command::number(most)?,
+        _ => return Err("bench [--at-most R]".to_string()),
+    };
+    let mut all = cases(&files::own())?;
+    let own = all.len();
+    all.extend(cases(&files::corpus())?);
     for case in &mut all {
         case.time();
     }
@@ -55,25 +43,19 @@ fn run(at_most: Option<f64>) -> Result<(), String> {
 
 /// A case for each certificate of the folder, if both answer the same.
 fn cases(folder: &Path) -> Result<Vec<Case>, String> {
-    let mut paths: Vec<PathBuf> = std::fs::read_dir(folder)
-        .map_err(|error| format!("{}: {error}", folder.display()))?
-        .filter_map(|entry| Some(entry.ok()?.path()))
-        .filter(|path| path.extension().is_some_and(|end| end == "cert"))
-        .collect();
-    paths.sort();
-    paths.iter().map(|path| Case::read(path)).collect()
+    let certificates = files::certificates(folder)?;
+    certificates.into_iter().map(Case::of).collect()
 }
 
 impl Case {
-    fn read(path: &Path) -> Result<Case, String> {
-        let file = std::fs::read(path).map_err(|error| format!("{}: {error}", path.display()))?;
-        let name = path.file_stem().unwrap_or_default().to_string_lossy();
+    fn of(certificate: Certificate) -> Result<Case, String> {
+        let Certificate { name, bytes: file } = certificate;
         let (answer, other) = (proved::check(&file), fast::check(&file));
         if answer != other {
             return Err(format!("{name}: proved answers {answer}, fast {other}"));
         }
         Ok(Case {
-            name: name.into_owned(),
+            name,
             file,
             answer,
             proved: f64::INFINITY,
@@ -87,13 +69,6 @@ impl Case {
 
     fn ratio(&self) -> f64 {
         self.proved / self.fast
-    }
-}
-
-fn answer_in_words(answer: u32) -> String {
-    match answer {
-        0 => "accepted".to_string(),
-        _ => format!("{} {} {}", answer >> 16, answer >> 8 & 255, answer & 255),
     }
 }
 
@@ -113,7 +88,7 @@ fn table(all: &[Case]) -> Result<(), String> {
         println!(
             "{:24} {:>10} {:>10.2} {:>10.2} {:>8.2} {:>10.4} {:>10.4}",
             case.name,
-            answer_in_words(case.answer),
+            files::in_words(case.answer),
             case.proved,
             case.fast,
             case.ratio(),
@@ -143,7 +118,8 @@ fn stack_line(files: &[Case]) {
     }
 }
 
-fn largest(all: &[Case], at_most: Option<f64>) -> Result<(), String> {
+/// Prints the largest ratio: is it at most this?
+fn largest(all: &[Case], at_most: f64) -> Result<bool, String> {
     let worst = all
         .iter()
         .max_by(|one, other| one.ratio().total_cmp(&other.ratio()))
@@ -153,8 +129,9 @@ fn largest(all: &[Case], at_most: Option<f64>) -> Result<(), String> {
         worst.ratio(),
         worst.name
     );
-    match at_most {
-        Some(most) if worst.ratio() > most => Err(format!("above {most}")),
-        _ => Ok(()),
+    let above = worst.ratio() > at_most;
+    if above {
+        println!("above {at_most}");
     }
+    Ok(!above)
 }

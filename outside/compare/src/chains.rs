@@ -1,9 +1,9 @@
 //! The chain family at its largest: x1 = (x2, x2), x2 = (x3, x3) and so on,
 //! spread over two terms of 63 entries, and its variants.
 
+use literal::numbers::MOST_ENTRIES;
 use literal::Term;
 
-pub const MOST_ENTRIES: usize = 63;
 const KEY: u16 = 2;
 
 pub struct Chain {

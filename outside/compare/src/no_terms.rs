@@ -1,10 +1,11 @@
 //! Bytes that are no term of at most 63 entries, with what is wrong in words.
 
 use crate::words::entries;
+use literal::numbers::{tag, ENTRY};
 
-const ATOM: [u8; 4] = [1, 0, 0, 0];
-const PAIR: [u8; 4] = [2, 0, 0, 0];
-const ENCRYPTION: [u8; 4] = [3, 0, 2, 0];
+const ATOM: [u8; ENTRY] = [tag::ATOM, 0, 0, 0];
+const PAIR: [u8; ENTRY] = [tag::PAIR, 0, 0, 0];
+const ENCRYPTION: [u8; ENTRY] = [tag::ENCRYPTION, 0, 2, 0];
 
 pub fn all() -> Vec<(&'static str, Vec<u8>)> {
     [lengths(), shapes(), single_entries()].concat()

@@ -1,10 +1,8 @@
 //! The same questions, asked of the outside reference.
 
 use crate::{Answer, Question};
+use literal::numbers::{ENTRY, MOST_ATOMS, MOST_ENTRIES};
 use literal::Term;
-
-const MOST_ENTRIES: usize = 63;
-const ATOMS: u16 = 126;
 
 pub fn ask(question: Question, s: &[u8], t: &[u8]) -> Answer {
     match (read(s), read(t)) {
@@ -23,7 +21,7 @@ fn ask_of_terms(question: Question, s: &Term, t: &Term) -> bool {
 
 /// The term that the bytes are, over 126 atoms that are all keys.
 pub fn read(bytes: &[u8]) -> Option<Term> {
-    if bytes.len() > 4 * MOST_ENTRIES {
+    if bytes.len() > ENTRY * MOST_ENTRIES {
         return None;
     }
     literal::decode(bytes).filter(atoms_listed)
@@ -31,9 +29,13 @@ pub fn read(bytes: &[u8]) -> Option<Term> {
 
 fn atoms_listed(term: &Term) -> bool {
     match term {
-        Term::Atom(number) => *number < ATOMS,
+        Term::Atom(number) => is_listed(*number),
         Term::Pair(left, right) => atoms_listed(left) && atoms_listed(right),
-        Term::Encryption(message, key) => *key < ATOMS && atoms_listed(message),
+        Term::Encryption(message, key) => is_listed(*key) && atoms_listed(message),
         Term::Plain(_) | Term::Marked(_) => true,
     }
+}
+
+fn is_listed(number: u16) -> bool {
+    (number as usize) < MOST_ATOMS
 }

@@ -2,13 +2,13 @@
 //! the others are `a8` to `a125`.
 
 use crate::outside;
-use literal::block::BLOCK;
+use literal::block::{entry_at, first_count};
+use literal::numbers::{BLOCK, HEADER, MOST_ATOMS};
 use literal::Term;
-
-const NAMES: [&str; 8] = ["A", "I", "KA", "KAi", "KI", "KIi", "N", "T"];
+use text::document;
 
 pub fn name(number: u16) -> String {
-    match NAMES.get(number as usize) {
+    match document::name(number as usize) {
         Some(name) => name.to_string(),
         None => format!("a{number}"),
     }
@@ -16,14 +16,13 @@ pub fn name(number: u16) -> String {
 
 /// The entries of the term that the text says.
 pub fn entries(term: &str) -> Result<Vec<u8>, String> {
-    let atoms: String = (0..126)
+    let atoms: String = (0..MOST_ATOMS as u16)
         .map(|n| format!("atom {} symmetric known\n", name(n)))
         .collect();
     let file = text::assemble(&format!("{atoms}good {term}"))
         .map_err(|error| format!("{term}: {}", error.message))?;
     let block = &file[BLOCK..];
-    let end = 4 + 4 * literal::block::first_count(block);
-    Ok(block[4..end].to_vec())
+    Ok(block[HEADER..entry_at(first_count(block))].to_vec())
 }
 
 pub fn text_of(term: &Term) -> String {

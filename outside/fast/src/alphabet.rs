@@ -1,13 +1,16 @@
 //! Which entries may stand where, by tag and value: one table for a file.
 
 use crate::block::Block;
+use crate::numbers::{atom_kind, tag, ENTRY, HEADER, TAGS, VALUES, VALUE_BITS, VARIABLES};
 
 /// Tag x 128 + value. Variables of patterns have 128 added, so that they are
 /// never equal to those of rules.
 pub type Symbol = u16;
-pub const PAIR: Symbol = 2 << 7;
-pub const FIRST_VARIABLE: Symbol = 4 << 7;
-pub const PATTERN_VARIABLE: Symbol = 128;
+pub const PAIR: Symbol = tag::PAIR << VALUE_BITS;
+pub const FIRST_VARIABLE: Symbol = tag::PLAIN << VALUE_BITS;
+pub const PATTERN_VARIABLE: Symbol = VALUES as Symbol;
+pub const FIRST_PATTERN_MARK: Symbol = (tag::MARKED << VALUE_BITS) + PATTERN_VARIABLE;
+const SYMBOLS: usize = TAGS * VALUES;
 
 // Marks of a symbol, by bits: where it is allowed, and what it is.
 pub const IN_SECRET: u32 = 0;
@@ -21,7 +24,7 @@ pub const SECRET_ATOM: u32 = 7;
 const EVERYWHERE: u8 = 1 << IN_SECRET | 1 << IN_GOOD | 1 << IN_OTHERS;
 
 /// Bits of an entry that are set in no right one.
-pub const NEVER: u32 = !0x007F_0007;
+pub const NEVER: u32 = !((VALUES as u32 - 1) << 16 | (TAGS as u32 - 1));
 
 #[derive(Clone, Copy, PartialEq)]
 struct Atom {
@@ -31,8 +34,8 @@ struct Atom {
 }
 
 pub struct Alphabet {
-    marks: [u8; 1024],
-    partners: [u8; 128],
+    marks: [u8; SYMBOLS],
+    partners: [u8; VALUES],
     known: u128,
     /// Atoms that are listed as secrets.
     pub secrets: u128,
@@ -41,7 +44,7 @@ pub struct Alphabet {
 impl Alphabet {
     pub const EMPTY: Alphabet = Alphabet {
         marks: marks_without_atoms(),
-        partners: [0; 128],
+        partners: [0; VALUES],
         known: 0,
         secrets: 0,
     };
@@ -53,9 +56,9 @@ impl Alphabet {
             if !atom.is_right(block, i, count) {
                 return Err(i);
             }
-            self.marks[1 << 7 | i] = EVERYWHERE | 1 << LEAF;
-            if atom.kind >= 3 {
-                self.marks[3 << 7 | i] = EVERYWHERE | 1 << ENCRYPTION;
+            self.marks[index(tag::ATOM, i)] = EVERYWHERE | 1 << LEAF;
+            if atom.kind >= atom_kind::PUBLIC {
+                self.marks[index(tag::ENCRYPTION, i)] = EVERYWHERE | 1 << ENCRYPTION;
             }
             self.partners[i] = atom.partner as u8;
             self.known |= (atom.known as u128) << i;
@@ -66,7 +69,7 @@ impl Alphabet {
     /// The marks of a symbol.
     #[inline(always)]
     pub fn marks(&self, symbol: Symbol) -> u8 {
-        self.marks[symbol as usize & 1023]
+        self.marks[symbol as usize & (SYMBOLS - 1)]
     }
 
     /// The entry is right at this place.
@@ -76,7 +79,7 @@ impl Alphabet {
 
     pub fn add_secret_atom(&mut self, number: usize) {
         self.secrets |= 1 << number;
-        self.marks[1 << 7 | number] |= 1 << SECRET_ATOM;
+        self.marks[index(tag::ATOM, number)] |= 1 << SECRET_ATOM;
     }
 
     pub fn is_known(&self, number: usize) -> bool {
@@ -95,24 +98,36 @@ impl Alphabet {
 /// The symbol of an entry that is right somewhere.
 #[inline(always)]
 pub fn symbol_of(entry: u32) -> Symbol {
-    ((entry & 7) << 7 | (entry >> 16 & 127)) as Symbol
+    let (tag, value) = (entry & (TAGS as u32 - 1), entry >> 16 & (VALUES as u32 - 1));
+    (tag << VALUE_BITS | value) as Symbol
 }
 
-const fn marks_without_atoms() -> [u8; 1024] {
-    let mut marks = [0; 1024];
+/// The number of an atom, a key or a variable.
+#[inline(always)]
+pub fn value_of(symbol: Symbol) -> usize {
+    symbol as usize & (VALUES - 1)
+}
+
+/// The symbol of a tag and a value.
+const fn index(tag: u16, value: usize) -> usize {
+    (tag as usize) << VALUE_BITS | value
+}
+
+const fn marks_without_atoms() -> [u8; SYMBOLS] {
+    let mut marks = [0; SYMBOLS];
     marks[PAIR as usize] = EVERYWHERE | 1 << IS_PAIR;
     let mut i = 0;
-    while i < 8 {
+    while i < VARIABLES {
         let variable = 1 << IN_GOOD | 1 << LEAF | 1 << VARIABLE;
-        marks[4 << 7 | i] = variable | 1 << IN_OTHERS;
-        marks[5 << 7 | i] = variable;
+        marks[index(tag::PLAIN, i)] = variable | 1 << IN_OTHERS;
+        marks[index(tag::MARKED, i)] = variable;
         i += 1;
     }
     marks
 }
 
 fn atom(block: &Block, i: usize) -> Atom {
-    let at = 4 + 4 * i;
+    let at = HEADER + ENTRY * i;
     Atom {
         kind: block[at],
         known: block[at + 1],
@@ -124,16 +139,19 @@ impl Atom {
     fn is_right(&self, block: &Block, i: usize, count: usize) -> bool {
         let partner = self.partner as usize;
         let named = match self.kind {
-            1 | 2 => partner == 0,
-            5 => partner == i,
-            3 | 4 => {
-                partner < count && {
-                    let other = atom(block, partner);
-                    other.kind == 7 - self.kind && other.partner as usize == i
-                }
+            atom_kind::PRINCIPAL | atom_kind::NONCE => partner == 0,
+            atom_kind::SYMMETRIC => partner == i,
+            atom_kind::PUBLIC | atom_kind::PRIVATE => {
+                partner < count && self.is_named_back(&atom(block, partner), i)
             }
             _ => false,
         };
         named && self.known <= 1
+    }
+
+    /// The other one is of the other kind and names atom `i`.
+    fn is_named_back(&self, other: &Atom, i: usize) -> bool {
+        const BOTH: u8 = atom_kind::PUBLIC + atom_kind::PRIVATE;
+        other.kind == BOTH - self.kind && other.partner as usize == i
     }
 }

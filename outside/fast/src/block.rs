@@ -1,9 +1,11 @@
 //! The bytes of a block: check, counts and unused entries.
 
-pub const BLOCK: usize = 512;
-const MODULUS: u32 = 65_521;
-const CHECKED: usize = 508;
+use crate::numbers::{kind, BLOCK, CHECKED, ENTRIES, ENTRY, HEADER, MODULUS};
+use crate::numbers::{MOST_ENTRIES, PLACES};
+
 const COLUMNS: usize = 32;
+/// The columns that the check covers in the last row.
+const LAST_COLUMNS: usize = CHECKED % COLUMNS;
 
 pub type Block = [u8; BLOCK];
 
@@ -34,22 +36,22 @@ pub fn check_is_right(block: &Block) -> bool {
     }
     // Byte i stands in column i modulo 32; its weight 508 - i is 32 for each
     // row below and 28 less the column.
-    let b = 32 * rows_below + 28 * a - columns;
+    let b = COLUMNS as u32 * rows_below + LAST_COLUMNS as u32 * a - columns;
     stored_is(block, a, b)
 }
 
 /// Takes the four last bytes, of weight 0 to -3, off the sums and compares.
 fn stored_is(block: &Block, a: u32, b: u32) -> bool {
-    let [c, d, e, f] = [508, 509, 510, 511].map(|i| block[i] as u32);
+    let [c, d, e, f] = [0, 1, 2, 3].map(|i| block[CHECKED + i] as u32);
     let a = (a - c - d - e - f) % MODULUS;
     let b = (b + d + 2 * e + 3 * f) % MODULUS;
     c | d << 8 | e << 16 | f << 24 == a | b << 16
 }
 
 /// The entries as numbers; two more, so that 64 follow each of the first 64.
-pub fn entries(block: &Block) -> [u32; 128] {
-    let mut entries = [0; 128];
-    for (entry, bytes) in entries.iter_mut().zip(block[4..].chunks_exact(4)) {
+pub fn entries(block: &Block) -> [u32; 2 * PLACES] {
+    let mut entries = [0; 2 * PLACES];
+    for (entry, bytes) in entries.iter_mut().zip(block[HEADER..].chunks_exact(ENTRY)) {
         *entry = u32::from_le_bytes([bytes[0], bytes[1], bytes[2], bytes[3]]);
     }
     entries
@@ -59,14 +61,14 @@ pub fn entries(block: &Block) -> [u32; 128] {
 pub fn counts(block: &Block) -> Option<(usize, usize)> {
     let (first, second) = (block[1] as usize, block[2] as usize);
     let right = match block[0] {
-        1 => (1..=126).contains(&first) && second == 0,
-        2..=4 => (1..=63).contains(&first) && second == 0,
-        _ => first <= 63 && (1..=63).contains(&second),
+        kind::ATOMS => (1..=ENTRIES).contains(&first) && second == 0,
+        kind::RULE => first <= MOST_ENTRIES && (1..=MOST_ENTRIES).contains(&second),
+        _ => (1..=MOST_ENTRIES).contains(&first) && second == 0,
     };
     if !right || block[3] != 0 {
         return None;
     }
-    let unused = &block[4 + 4 * (first + second)..CHECKED];
+    let unused = &block[HEADER + ENTRY * (first + second)..CHECKED];
     let any = unused.iter().fold(0, |any, byte| any | byte);
     (any == 0).then_some((first, second))
 }

@@ -1,36 +1,38 @@
 //! Prepared terms of one kind, sorted, so that equal beginnings are neighbours:
 //! where one clashes, the next ones with the same beginning clash too.
 
-use crate::alphabet::{Symbol, FIRST_VARIABLE, PAIR};
+use crate::alphabet::{value_of, Symbol, FIRST_VARIABLE, PAIR};
+use crate::numbers::{MOST_BLOCKS, SLOTS, VALUES};
 use crate::term::Term;
 use crate::walk::Watched;
 
-const MOST: usize = 64;
+/// A root that no key is.
+const PAIR_ROOT: usize = VALUES - 1;
 
 pub struct Family {
     count: usize,
-    members: [u8; MOST],
+    members: [u8; MOST_BLOCKS],
     /// Entries that a member has in common with the one before.
-    common: [u8; MOST],
-    watched: [Watched; MOST],
+    common: [u8; MOST_BLOCKS],
+    watched: [Watched; MOST_BLOCKS],
     /// The entries of the longest member.
     pub longest: usize,
     /// For a root, the first member and the one after the last.
-    ranges: [(u8, u8); 128],
+    ranges: [(u8, u8); VALUES],
 }
 
 impl Family {
     const EMPTY: Family = Family {
         count: 0,
-        members: [0; MOST],
-        common: [0; MOST],
-        watched: [Watched::NONE; MOST],
+        members: [0; MOST_BLOCKS],
+        common: [0; MOST_BLOCKS],
+        watched: [Watched::NONE; MOST_BLOCKS],
         longest: 0,
-        ranges: [(0, 0); 128],
+        ranges: [(0, 0); VALUES],
     };
 
     /// The terms of these blocks, two slots a block, that are no atoms.
-    pub fn of(terms: &[Term; 128], blocks: std::ops::Range<usize>) -> Family {
+    pub fn of(terms: &[Term; SLOTS], blocks: std::ops::Range<usize>) -> Family {
         let mut family = Family::EMPTY;
         for block in blocks {
             if terms[2 * block].length > 1 {
@@ -43,7 +45,7 @@ impl Family {
         family
     }
 
-    fn insert(&mut self, terms: &[Term; 128], slot: usize) {
+    fn insert(&mut self, terms: &[Term; SLOTS], slot: usize) {
         let mut place = self.count;
         while place > 0 && comes_before(&terms[slot], &terms[self.slot(place - 1)]) {
             self.members[place] = self.members[place - 1];
@@ -53,7 +55,7 @@ impl Family {
         self.count += 1;
     }
 
-    fn prepare(&mut self, terms: &[Term; 128], place: usize) {
+    fn prepare(&mut self, terms: &[Term; SLOTS], place: usize) {
         let term = &terms[self.slot(place)];
         let root = root_of(term.symbol(0));
         if place > 0 {
@@ -92,19 +94,19 @@ impl Family {
 
     #[inline(always)]
     pub fn slot(&self, place: usize) -> usize {
-        self.members[place & 63] as usize & 127
+        self.members[place & (MOST_BLOCKS - 1)] as usize & (SLOTS - 1)
     }
 
     #[inline(always)]
     pub fn watched(&self, place: usize) -> Watched {
-        self.watched[place & 63]
+        self.watched[place & (MOST_BLOCKS - 1)]
     }
 
     /// The next member that has not the same entries up to `clash`.
     #[inline(always)]
     fn after_clash(&self, place: usize, end: usize, clash: usize) -> usize {
         let mut next = place + 1;
-        while next < end && self.common[next & 63] as usize > clash {
+        while next < end && self.common[next & (MOST_BLOCKS - 1)] as usize > clash {
             next += 1;
         }
         next
@@ -122,9 +124,9 @@ fn comes_before(one: &Term, other: &Term) -> bool {
 #[inline(always)]
 fn root_of(symbol: Symbol) -> usize {
     if symbol == PAIR {
-        127
+        PAIR_ROOT
     } else {
-        symbol as usize & 127
+        value_of(symbol)
     }
 }
 

@@ -1,7 +1,9 @@
 //! Numbers 9 to 12, each over all blocks.
 
+use crate::alphabet::value_of;
 use crate::family::Family;
 use crate::fault;
+use crate::numbers::kind;
 use crate::read::Certificate;
 use crate::rule::Judge;
 use crate::term::Term;
@@ -9,18 +11,18 @@ use crate::term::Term;
 pub fn judged(file: &[u8]) -> Result<(), u32> {
     let mut certificate = Certificate::EMPTY;
     certificate.read(file)?;
-    for block in certificate.blocks_of(2) {
+    for block in certificate.blocks_of(kind::SECRET) {
         if is_known_atom(&certificate, block) {
             return Err(fault(9, block, 0));
         }
     }
-    let secrets = Family::of(&certificate.terms, certificate.blocks_of(2));
-    for block in certificate.blocks_of(2) {
+    let secrets = Family::of(&certificate.terms, certificate.blocks_of(kind::SECRET));
+    for block in certificate.blocks_of(kind::SECRET) {
         if !is_closed(&certificate, &secrets, block) {
             return Err(fault(10, block, 0));
         }
     }
-    for block in certificate.blocks_of(3) {
+    for block in certificate.blocks_of(kind::GOOD) {
         let key = number(certificate.term(block), 0);
         let inverse = certificate.alphabet.inverse(key);
         if !certificate.alphabet.is_secret(inverse) {
@@ -32,7 +34,7 @@ pub fn judged(file: &[u8]) -> Result<(), u32> {
 
 fn rules(certificate: &Certificate, secrets: &Family) -> Result<(), u32> {
     let mut judge = Judge::new(certificate, secrets);
-    for block in certificate.blocks_of(5) {
+    for block in certificate.blocks_of(kind::RULE) {
         let premise = certificate.term(block);
         if let Some(place) = judge.first_uncovered(premise, certificate.conclusion(block)) {
             return Err(fault(12, block, premise.length + place));
@@ -43,7 +45,7 @@ fn rules(certificate: &Certificate, secrets: &Family) -> Result<(), u32> {
 
 /// The number of an atom or key.
 fn number(term: &Term, i: usize) -> usize {
-    term.symbol(i) as usize & 127
+    value_of(term.symbol(i))
 }
 
 fn is_known_atom(certificate: &Certificate, block: usize) -> bool {

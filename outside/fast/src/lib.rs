@@ -4,14 +4,15 @@
 //! `block` bytes and check, `alphabet` which entries are allowed, `term` terms
 //! by entries, `family` patterns in an order in which one clash answers for
 //! many, `walk` two terms side by side, `quick` and `unify` repeated variables,
-//! `read` numbers 2 to 8, `rule` number 12, `judge` the order of the rest.
+//! `read` numbers 2 to 8, `rule` number 12, `judge` the order of the rest,
+//! `numbers` limits, kinds and tags.
 #![forbid(unsafe_code)]
 
-pub mod against;
 mod alphabet;
 mod block;
 mod family;
 mod judge;
+mod numbers;
 mod quick;
 mod read;
 mod rule;
@@ -19,9 +20,7 @@ mod term;
 mod unify;
 mod walk;
 
-use block::BLOCK;
-
-const MOST_BYTES: usize = 32_768;
+use numbers::{BLOCK, MOST_BYTES};
 
 /// A refusal, packed.
 pub(crate) fn fault(number: u32, block: usize, place: usize) -> u32 {

@@ -6,9 +6,11 @@
 //! 128.
 
 use crate::alphabet::{Symbol, FIRST_VARIABLE, PAIR};
+use crate::numbers::{PLACES, VARIABLES, VARIABLE_ROOM};
 use crate::term::{span, variable_number, Bits, Occurrences, Term};
 
-const FIRST_OF_VARIABLES: u8 = 128;
+const PATTERN: u8 = PLACES as u8;
+const FIRST_OF_VARIABLES: u8 = 2 * PATTERN;
 const FREE: u8 = u8::MAX;
 const STEPS: usize = 4;
 const ROOM: usize = 16;
@@ -16,7 +18,7 @@ const ROOM: usize = 16;
 pub struct Quick<'a> {
     sides: [&'a Term; 2],
     /// The node that a variable is bound to.
-    bound: [u8; 32],
+    bound: [u8; VARIABLE_ROOM],
     /// The variables that are bound to pairs or encryptions.
     nested: u32,
     occurrences: &'a Occurrences,
@@ -36,7 +38,7 @@ impl<'a> Quick<'a> {
     pub fn new(term: &'a Term, occurrences: &'a Occurrences, pattern: &'a Term) -> Quick<'a> {
         Quick {
             sides: [term, pattern],
-            bound: [FREE; 32],
+            bound: [FREE; VARIABLE_ROOM],
             nested: 0,
             occurrences,
             steps: STEPS,
@@ -46,7 +48,7 @@ impl<'a> Quick<'a> {
     /// The subterm at `i` and the pattern's at `j` are to be equal.
     #[inline(always)]
     pub fn equal(&mut self, i: usize, j: usize) -> Result<(), Stopped> {
-        let (one, other) = (self.resolved(i as u8), self.resolved(j as u8 + 64));
+        let (one, other) = (self.resolved(i as u8), self.resolved(j as u8 + PATTERN));
         if one == other {
             return Ok(());
         }
@@ -103,7 +105,7 @@ impl<'a> Quick<'a> {
     }
 
     fn side(&self, node: u8) -> &'a Term {
-        self.sides[node as usize >> 6 & 1]
+        self.sides[((node / PATTERN) & 1) as usize]
     }
 
     #[inline(always)]
@@ -112,7 +114,7 @@ impl<'a> Quick<'a> {
     }
 
     fn second(&self, node: u8) -> u8 {
-        self.side(node).end(node as usize + 1) as u8 + (node & 64)
+        self.side(node).end(node as usize + 1) as u8 + (node & PATTERN)
     }
 
     /// The entry or the free variable that a node stands for.
@@ -128,7 +130,7 @@ impl<'a> Quick<'a> {
                 }
                 variable_number(symbol) as u8
             };
-            match self.bound[number as usize & 31] {
+            match self.bound[number as usize & (VARIABLE_ROOM - 1)] {
                 FREE => return FIRST_OF_VARIABLES + number,
                 next => node = next,
             }
@@ -138,7 +140,7 @@ impl<'a> Quick<'a> {
     /// Binds a free variable to a node that is none or another one.
     #[inline(always)]
     fn bind(&mut self, variable: u8, node: u8) -> Result<(), Stopped> {
-        let number = (variable - FIRST_OF_VARIABLES) as usize & 31;
+        let number = (variable - FIRST_OF_VARIABLES) as usize & (VARIABLE_ROOM - 1);
         if node < FIRST_OF_VARIABLES && self.symbol(node) >= PAIR {
             if self.stands_in(number, node) {
                 return Err(Stopped::Unequal);
@@ -153,8 +155,8 @@ impl<'a> Quick<'a> {
     #[inline(always)]
     fn stands_in(&self, number: usize, node: u8) -> bool {
         let at = node as usize;
-        number < 8
-            && at < 64
+        number < VARIABLES
+            && at < PLACES
             && self.occurrences.places[number] & span(at, self.sides[0].end(at)) != 0
     }
 
@@ -164,7 +166,7 @@ impl<'a> Quick<'a> {
         if self.nested == 0 {
             return true;
         }
-        let mut below = [0u32; 32];
+        let mut below = [0u32; VARIABLE_ROOM];
         for number in Bits(self.nested as u64) {
             below[number] = self.below(self.bound[number]);
         }
@@ -182,7 +184,7 @@ impl<'a> Quick<'a> {
 
     /// The variables below an entry, each as the last one that it is bound to.
     fn below(&self, node: u8) -> u32 {
-        let (side, at) = (self.side(node), node as usize & 63);
+        let (side, at) = (self.side(node), node as usize & (PLACES - 1));
         let (mut seen, mut below) = (0u32, 0);
         for i in Bits(side.variables & span(at, side.end(at))) {
             let number = variable_number(side.symbol(i));
@@ -195,8 +197,8 @@ impl<'a> Quick<'a> {
     }
 
     fn last_variable(&self, mut number: usize) -> usize {
-        while (FIRST_OF_VARIABLES..FREE).contains(&self.bound[number & 31]) {
-            number = (self.bound[number & 31] - FIRST_OF_VARIABLES) as usize;
+        while (FIRST_OF_VARIABLES..FREE).contains(&self.bound[number & (VARIABLE_ROOM - 1)]) {
+            number = (self.bound[number & (VARIABLE_ROOM - 1)] - FIRST_OF_VARIABLES) as usize;
         }
         number
     }

@@ -1,65 +1,66 @@
 //! Numbers 2 to 8, block by block, and what the blocks say.
 
-use crate::alphabet::{Alphabet, IN_GOOD, IN_OTHERS, IN_SECRET, NEVER};
-use crate::block::{self, Block, BLOCK};
+use crate::alphabet::{value_of, Alphabet, IN_GOOD, IN_OTHERS, IN_SECRET, NEVER};
+use crate::block::{self, Block};
 use crate::fault;
+use crate::numbers::{kind, BLOCK, ENTRIES, PLACES, SLOTS};
 use crate::term::Term;
 use std::ops::Range;
 
 pub struct Certificate {
     pub alphabet: Alphabet,
     /// Two for a block; the first is empty for a rule without a premise.
-    pub terms: [Term; 128],
+    pub terms: [Term; SLOTS],
     /// The first block of each kind, and the number of blocks.
-    starts: [usize; 7],
+    starts: [usize; kind::RULE as usize + 2],
 }
 
 impl Certificate {
     pub const EMPTY: Certificate = Certificate {
         alphabet: Alphabet::EMPTY,
-        terms: [Term::EMPTY; 128],
-        starts: [1; 7],
+        terms: [Term::EMPTY; SLOTS],
+        starts: [1; kind::RULE as usize + 2],
     };
 
-    pub fn blocks_of(&self, kind: usize) -> Range<usize> {
-        self.starts[kind]..self.starts[kind + 1]
+    pub fn blocks_of(&self, kind: u8) -> Range<usize> {
+        self.starts[kind as usize]..self.starts[kind as usize + 1]
     }
 
     pub fn term(&self, block: usize) -> &Term {
-        &self.terms[(2 * block) & 127]
+        &self.terms[slot(block)]
     }
 
     pub fn conclusion(&self, block: usize) -> &Term {
-        &self.terms[(2 * block + 1) & 127]
+        &self.terms[slot(block) + 1]
     }
 
     /// Reads all blocks; the check of block 0 is known to be right.
     pub fn read(&mut self, file: &[u8]) -> Result<(), u32> {
         let blocks = file.len() / BLOCK;
         self.atoms(block::part(file, 0))?;
-        let mut kind_before = 2;
+        let mut kind_before = kind::SECRET;
         for i in 1..blocks {
             let block = block::part(file, i);
             if !block::check_is_right(block) {
                 return Err(fault(2, i, 0));
             }
-            let kind = block[0] as usize;
-            if kind < kind_before || kind > 5 {
+            let kind = block[0];
+            if kind < kind_before || kind > kind::RULE {
                 return Err(fault(3, i, 0));
             }
-            self.starts[kind_before + 1..=kind].fill(i);
+            self.starts[kind_before as usize + 1..=kind as usize].fill(i);
             kind_before = kind;
             self.block(block, i)?;
         }
-        self.starts[kind_before + 1..].fill(blocks);
-        if self.blocks_of(2).is_empty() || self.blocks_of(5).is_empty() {
+        self.starts[kind_before as usize + 1..].fill(blocks);
+        if self.blocks_of(kind::SECRET).is_empty() || self.blocks_of(kind::RULE).is_empty() {
             return Err(fault(4, blocks, 0));
         }
         Ok(())
     }
 
     fn atoms(&mut self, block: &Block) -> Result<(), u32> {
-        if block[0] != 1 {
+        if block[0] != kind::ATOMS {
             return Err(fault(3, 0, 0));
         }
         let (count, _) = block::counts(block).ok_or(fault(5, 0, 0))?;
@@ -71,11 +72,11 @@ impl Certificate {
     fn block(&mut self, block: &Block, i: usize) -> Result<(), u32> {
         let (first, second) = block::counts(block).ok_or(fault(5, i, 0))?;
         let place = place_of(block[0]);
-        let [one, other] = [(2 * i) & 127, (2 * i + 1) & 127];
+        let slot = slot(i);
         let entries = block::entries(block);
-        let before = self.terms[one].read(room(&entries, 0), first, &self.alphabet, place);
-        let after = self.terms[other].read(room(&entries, first), second, &self.alphabet, place);
-        let any = entries[..126].iter().fold(0, |any, entry| any | entry);
+        let before = self.terms[slot].read(room(&entries, 0), first, &self.alphabet, place);
+        let after = self.terms[slot + 1].read(room(&entries, first), second, &self.alphabet, place);
+        let any = entries[..ENTRIES].iter().fold(0, |any, entry| any | entry);
         if any & NEVER != 0 || !before || !after {
             let is_wrong = |entry: &u32| !self.alphabet.allows(*entry, place);
             let entry = entries.iter().position(is_wrong).unwrap_or(0);
@@ -88,34 +89,44 @@ impl Certificate {
     /// Number 8, and what the term is needed for later.
     fn prepare(&mut self, kind: u8, i: usize) -> Result<(), usize> {
         let [term, conclusion] = [self.term(i), self.conclusion(i)];
-        let is_missing = kind == 5 && term.length == 0;
-        let is_no_pattern = matches!(kind, 3 | 4) && term.encryptions & 1 == 0;
+        let is_missing = kind == kind::RULE && term.length == 0;
+        let is_no_pattern = matches!(kind, kind::GOOD | kind::BAD) && term.encryptions & 1 == 0;
         if !(is_missing || term.is_whole()) || is_no_pattern {
             return Err(0);
         }
-        if kind == 5 && !conclusion.is_whole() {
+        if kind == kind::RULE && !conclusion.is_whole() {
             return Err(term.length);
         }
-        let term = &mut self.terms[(2 * i) & 127];
+        let term = &mut self.terms[slot(i)];
         match kind {
-            2 if term.length == 1 => self.alphabet.add_secret_atom(term.symbol(0) as usize & 127),
-            2 => term.put_end(),
-            3 | 4 => term.make_pattern(),
+            kind::SECRET if term.length == 1 => {
+                self.alphabet.add_secret_atom(value_of(term.symbol(0)))
+            }
+            kind::SECRET => term.put_end(),
+            kind::GOOD | kind::BAD => term.make_pattern(),
             _ => {}
         }
         Ok(())
     }
 }
 
+/// The slot of a block's first term; the next one is its second.
+#[inline(always)]
+fn slot(block: usize) -> usize {
+    (2 * block) & (SLOTS - 2)
+}
+
 /// The entries from this one on.
-fn room(entries: &[u32; 128], first: usize) -> &[u32; 64] {
-    entries[first..first + 64].try_into().expect("64 entries")
+fn room(entries: &[u32; 2 * PLACES], first: usize) -> &[u32; PLACES] {
+    entries[first..first + PLACES]
+        .try_into()
+        .expect("64 entries")
 }
 
 fn place_of(kind: u8) -> u32 {
     match kind {
-        2 => IN_SECRET,
-        3 => IN_GOOD,
+        kind::SECRET => IN_SECRET,
+        kind::GOOD => IN_GOOD,
         _ => IN_OTHERS,
     }
 }

@@ -3,6 +3,7 @@
 //! still counts.
 
 use crate::family::Family;
+use crate::numbers::{kind, SLOTS};
 use crate::read::Certificate;
 use crate::term::{variable_bit, Bits, Term};
 use crate::unify::{have_solution, Room};
@@ -10,7 +11,7 @@ use crate::walk::{instance, instance_without_variables, same_term};
 use crate::walk::{side_by_side, Meetings, Parts, Shared};
 
 pub struct Judge<'a> {
-    terms: &'a [Term; 128],
+    terms: &'a [Term; SLOTS],
     /// Secrets that are no atoms.
     secrets: &'a Family,
     goods: Family,
@@ -31,8 +32,8 @@ impl<'a> Judge<'a> {
         Judge {
             terms,
             secrets,
-            goods: Family::of(terms, certificate.blocks_of(3)),
-            bads: Family::of(terms, certificate.blocks_of(4)),
+            goods: Family::of(terms, certificate.blocks_of(kind::GOOD)),
+            bads: Family::of(terms, certificate.blocks_of(kind::BAD)),
             work: Work {
                 parts: Parts::NONE,
                 meetings: Meetings::NONE,
@@ -158,7 +159,7 @@ impl<'a> Judge<'a> {
 
 impl Work {
     /// The subterm at `i` shares an instance with some member.
-    fn shares(&mut self, terms: &[Term; 128], family: &Family, term: &Term, i: usize) -> bool {
+    fn shares(&mut self, terms: &[Term; SLOTS], family: &Family, term: &Term, i: usize) -> bool {
         let mut known = None;
         family.any(term.symbol(i), |member| {
             let pattern = &terms[family.slot(member)];

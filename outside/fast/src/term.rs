@@ -2,14 +2,17 @@
 //! of entries as bits.
 
 use crate::alphabet::*;
+use crate::numbers::{ALL_VARIABLES, PLACES, VALUE_BITS, VARIABLES};
 
-/// Padded, so that four symbols can be read from any entry on.
-const SYMBOLS: usize = 68;
+/// Symbols that are compared at once.
+pub const STRIDE: usize = 4;
+/// So that as many symbols can be read from any entry on.
+const PADDED: usize = PLACES + STRIDE;
 
 #[derive(Clone, Copy)]
 pub struct Term {
-    symbols: [Symbol; SYMBOLS],
-    ends: [u8; 64],
+    symbols: [Symbol; PADDED],
+    ends: [u8; PLACES],
     pub length: usize,
     pub variables: u64,
     pub encryptions: u64,
@@ -39,10 +42,10 @@ impl Iterator for Bits {
     }
 }
 
-const fn leaf_ends() -> [u8; 64] {
-    let mut ends = [0; 64];
+const fn leaf_ends() -> [u8; PLACES] {
+    let mut ends = [0; PLACES];
     let mut i = 0;
-    while i < 64 {
+    while i < PLACES {
         ends[i] = i as u8 + 1;
         i += 1;
     }
@@ -50,11 +53,11 @@ const fn leaf_ends() -> [u8; 64] {
 }
 
 /// What each entry is and where it is allowed, a byte for each, in eights.
-struct Marks([u64; 8]);
+struct Marks([u64; PLACES / 8]);
 
 impl Term {
     pub const EMPTY: Term = Term {
-        symbols: [0; SYMBOLS],
+        symbols: [0; PADDED],
         ends: leaf_ends(),
         length: 0,
         variables: 0,
@@ -68,7 +71,7 @@ impl Term {
     /// looked at.
     pub fn read(
         &mut self,
-        room: &[u32; 64],
+        room: &[u32; PLACES],
         length: usize,
         alphabet: &Alphabet,
         place: u32,
@@ -79,7 +82,7 @@ impl Term {
         for (symbol, entry) in self.symbols.iter_mut().zip(room) {
             *symbol = symbol_of(*entry);
         }
-        let mut marks = Marks([0; 8]);
+        let mut marks = Marks([0; PLACES / 8]);
         for (eight, symbols) in marks.0.iter_mut().zip(self.symbols.chunks_exact(8)) {
             for (i, symbol) in symbols.iter().enumerate() {
                 *eight |= (alphabet.marks(*symbol) as u64) << (8 * i);
@@ -107,7 +110,7 @@ impl Term {
         let mut later = 0u64;
         let mut reached = 1u64 << self.length;
         for from_last in Bits((self.pairs | self.encryptions).reverse_bits()) {
-            let i = 63 - from_last;
+            let i = PLACES - 1 - from_last;
             let bit = 1u64 << i;
             // All entries from here to the one reached are leaves.
             later |= (reached << 1).wrapping_sub(bit << 2);
@@ -132,14 +135,14 @@ impl Term {
 
     #[inline(always)]
     pub fn symbol(&self, i: usize) -> Symbol {
-        self.symbols[i & 63]
+        self.symbols[i & (PLACES - 1)]
     }
 
     /// Four symbols from `i` on.
     #[inline(always)]
     pub fn four(&self, i: usize) -> u64 {
-        let i = i & 63;
-        let four: &[Symbol; 4] = self.symbols[i..i + 4].try_into().expect("four");
+        let i = i & (PLACES - 1);
+        let four: &[Symbol; STRIDE] = self.symbols[i..i + STRIDE].try_into().expect("four");
         let [a, b, c, d] = four.map(u64::from);
         a | b << 16 | c << 32 | d << 48
     }
@@ -147,7 +150,7 @@ impl Term {
     /// Where the subterm that starts at `i` ends.
     #[inline(always)]
     pub fn end(&self, i: usize) -> usize {
-        self.ends[i & 63] as usize
+        self.ends[i & (PLACES - 1)] as usize
     }
 
     /// The entries strictly below `i`.
@@ -175,7 +178,7 @@ impl Term {
     /// Where the variables of the subterm at `i` stand.
     pub fn occurrences(&self, i: usize) -> Occurrences {
         let mut occurrences = Occurrences {
-            places: [0; 24],
+            places: [0; ALL_VARIABLES],
             repeated: 0,
         };
         for at in Bits(self.variables & span(i, self.end(i))) {
@@ -191,16 +194,16 @@ impl Term {
 
 pub struct Occurrences {
     /// The entries of each variable.
-    pub places: [u64; 24],
+    pub places: [u64; ALL_VARIABLES],
     /// The entries with a variable that stands there more than once.
     pub repeated: u64,
 }
 
-/// Rule variables 0 to 7, then plain and marked ones of a pattern.
+/// A rule's variables, then the plain and the marked ones of a pattern.
 #[inline(always)]
 pub fn variable_number(symbol: Symbol) -> usize {
-    let kind = (symbol - FIRST_VARIABLE) >> 7;
-    (8 * kind + (symbol & 7)) as usize
+    let sort = (symbol - FIRST_VARIABLE) >> VALUE_BITS;
+    VARIABLES * sort as usize + value_of(symbol)
 }
 
 #[inline(always)]
@@ -208,8 +211,9 @@ pub fn variable_bit(symbol: Symbol) -> u32 {
     1 << variable_number(symbol)
 }
 
+/// A marked variable of a pattern.
 pub fn is_marked(symbol: Symbol) -> bool {
-    symbol >> 7 == 6
+    symbol >> VALUE_BITS == FIRST_PATTERN_MARK >> VALUE_BITS
 }
 
 impl Marks {

@@ -5,16 +5,18 @@
 //! 128. The head of a class is a variable only if all its nodes are.
 
 use crate::alphabet::{FIRST_VARIABLE, PAIR};
+use crate::numbers::{ALL_VARIABLES, PLACES};
 use crate::term::{span, variable_bit, variable_number, Bits, Term};
 use crate::walk::Meetings;
 
-const FIRST_OF_VARIABLES: usize = 128;
-const VARIABLES: usize = 24;
-const NODES: usize = FIRST_OF_VARIABLES + VARIABLES;
-const ITSELF: [u8; 256] = itself();
+const FIRST_OF_VARIABLES: usize = 2 * PLACES;
+const NODES: usize = FIRST_OF_VARIABLES + ALL_VARIABLES;
+/// Room for nodes.
+const NODE_ROOM: usize = 4 * PLACES;
+const ITSELF: [u8; NODE_ROOM] = itself();
 
-const fn itself() -> [u8; 256] {
-    let mut nodes = [0; 256];
+const fn itself() -> [u8; NODE_ROOM] {
+    let mut nodes = [0; NODE_ROOM];
     let mut i = 0;
     while i < NODES {
         nodes[i] = i as u8;
@@ -25,15 +27,15 @@ const fn itself() -> [u8; 256] {
 
 /// Room for the work; nothing is kept from one use to the next.
 pub struct Room {
-    heads: [u8; 256],
+    heads: [u8; NODE_ROOM],
     /// Nodes to be united; each pair united adds one at most, so there is room.
-    waiting: [(u8, u8); 256],
+    waiting: [(u8, u8); NODE_ROOM],
 }
 
 impl Room {
     pub const EMPTY: Room = Room {
         heads: ITSELF,
-        waiting: [(0, 0); 256],
+        waiting: [(0, 0); NODE_ROOM],
     };
 }
 
@@ -52,7 +54,7 @@ pub fn have_solution(term: &Term, pattern: &Term, meetings: &Meetings, room: &mu
         waiting: 0,
     };
     for (i, j) in &meetings.list[..meetings.count] {
-        if !classes.unite_all(*i as usize, *j as usize + 64) {
+        if !classes.unite_all(*i as usize, *j as usize + PLACES) {
             return false;
         }
     }
@@ -65,7 +67,7 @@ impl Classes<'_> {
         self.wait(one, other);
         while self.waiting > 0 {
             self.waiting -= 1;
-            let (one, other) = self.room.waiting[self.waiting & 255];
+            let (one, other) = self.room.waiting[self.waiting & (NODE_ROOM - 1)];
             if !self.unite(one as usize, other as usize) {
                 return false;
             }
@@ -75,7 +77,7 @@ impl Classes<'_> {
 
     #[inline(always)]
     fn wait(&mut self, one: usize, other: usize) {
-        self.room.waiting[self.waiting & 255] = (one as u8, other as u8);
+        self.room.waiting[self.waiting & (NODE_ROOM - 1)] = (one as u8, other as u8);
         self.waiting += 1;
     }
 
@@ -114,12 +116,12 @@ impl Classes<'_> {
 
     #[inline(always)]
     fn second_child(&self, node: usize) -> usize {
-        self.side(node).end(node + 1) + (node & 64)
+        self.side(node).end(node + 1) + (node & PLACES)
     }
 
     #[inline(always)]
     fn side(&self, node: usize) -> &Term {
-        self.sides[node >> 6 & 1]
+        self.sides[(node / PLACES) & 1]
     }
 
     /// The head of the class of an entry, or of the variable that it is.
@@ -137,12 +139,12 @@ impl Classes<'_> {
     fn head(&mut self, mut node: usize) -> usize {
         let heads = &mut self.room.heads;
         loop {
-            let next = heads[node & 255] as usize;
+            let next = heads[node & (NODE_ROOM - 1)] as usize;
             if next == node {
                 return node;
             }
             // Halves the way for the next time.
-            heads[node & 255] = heads[next];
+            heads[node & (NODE_ROOM - 1)] = heads[next];
             node = heads[next] as usize;
         }
     }
@@ -150,8 +152,8 @@ impl Classes<'_> {
     /// No variable contains itself. Goes down from each variable that was met;
     /// what is bound further down is below one of these.
     fn are_finite(&mut self, met: u32) -> bool {
-        let mut below = [0u32; VARIABLES];
-        let mut path = [0u8; VARIABLES];
+        let mut below = [0u32; ALL_VARIABLES];
+        let mut path = [0u8; ALL_VARIABLES];
         let (mut on_path, mut finite) = (0u32, 0u32);
         for start in Bits(met as u64) {
             let (mut depth, mut next) = (0, 1u32 << start & !finite);
@@ -183,7 +185,7 @@ impl Classes<'_> {
         if head >= FIRST_OF_VARIABLES {
             return 0;
         }
-        let (side, at) = (self.side(head), head & 63);
+        let (side, at) = (self.side(head), head & (PLACES - 1));
         Bits(side.variables & span(at, side.end(at)))
             .fold(0, |found, i| found | variable_bit(side.symbol(i)))
     }

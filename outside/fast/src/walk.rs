@@ -1,12 +1,15 @@
 //! Two terms side by side, up to the first clash.
 
 use crate::alphabet::{Symbol, FIRST_VARIABLE};
+use crate::numbers::{ALL_VARIABLES, PLACES, VARIABLES};
 use crate::quick::{Quick, Stopped};
-use crate::term::{is_marked, span, variable_bit, variable_number, Bits, Occurrences, Term};
+use crate::term::{
+    is_marked, span, variable_bit, variable_number, Bits, Occurrences, Term, STRIDE,
+};
 
 /// Where a variable stands beside something, entry of either side.
 pub struct Meetings {
-    pub list: [(u8, u8); 64],
+    pub list: [(u8, u8); PLACES],
     pub count: usize,
     /// The variables met.
     pub seen: u32,
@@ -16,7 +19,7 @@ pub struct Meetings {
 
 impl Meetings {
     pub const NONE: Meetings = Meetings {
-        list: [(0, 0); 64],
+        list: [(0, 0); PLACES],
         count: 0,
         seen: 0,
         repeated: false,
@@ -35,7 +38,7 @@ impl Meetings {
             false => 0,
         };
         let variables = bit(term.symbol(i)) | bit(pattern.symbol(j));
-        self.list[self.count & 63] = (i as u8, j as u8);
+        self.list[self.count & (PLACES - 1)] = (i as u8, j as u8);
         self.count += 1;
         self.repeated |= self.seen & variables != 0;
         self.seen |= variables;
@@ -56,7 +59,7 @@ fn equal_run(term: &Term, i: usize, pattern: &Term, j: usize) -> usize {
         if other != 0 {
             return run + (other.trailing_zeros() / 16) as usize;
         }
-        run += 4;
+        run += STRIDE;
     }
 }
 
@@ -83,7 +86,7 @@ fn even_run(term: &Term, i: usize, pattern: &Term, j: usize, free: u64) -> usize
                 return run.min(pattern.length - j);
             }
         }
-        run += 4;
+        run += STRIDE;
     }
     pattern.length - j
 }
@@ -118,13 +121,13 @@ impl Watched {
 /// variable meets is one entry long; behind that, such a longer one.
 pub struct Parts {
     /// The first entry of either side, and the pattern's behind the last.
-    list: [(u8, u8, u8); 64],
+    list: [(u8, u8, u8); PLACES],
     count: usize,
 }
 
 impl Parts {
     pub const NONE: Parts = Parts {
-        list: [(0, 0, 0); 64],
+        list: [(0, 0, 0); PLACES],
         count: 0,
     };
 
@@ -145,7 +148,7 @@ impl Parts {
             let free = (pattern.variables >> j) & (leaves >> i)
                 | (term.variables >> i) & (pattern_leaves >> j);
             let run = even_run(term, i, pattern, j, free);
-            self.list[self.count & 63] =
+            self.list[self.count & (PLACES - 1)] =
                 (i as u8, j as u8, (j + run + 1).min(pattern.length) as u8);
             self.count += 1;
             (i, j) = (i + run, j + run);
@@ -266,14 +269,14 @@ pub fn instance(pattern: &Term, watched: Watched, term: &Term, at: usize) -> Res
 
 /// What the variables of a pattern are replaced by.
 struct Replaced {
-    starts: [u8; 24],
+    starts: [u8; ALL_VARIABLES],
     /// The entries at or below a mark.
     marked: u64,
 }
 
 impl Replaced {
     const NONE: Replaced = Replaced {
-        starts: [u8::MAX; 24],
+        starts: [u8::MAX; ALL_VARIABLES],
         marked: 0,
     };
 
@@ -309,7 +312,8 @@ pub fn same_term(term: &Term, at: usize, ground: &Term) -> Result<(), usize> {
 /// entry of the first clash.
 #[inline]
 pub fn instance_without_variables(term: &Term, at: usize, ground: &Term) -> Result<(), usize> {
-    let mut starts = [u8::MAX; 8];
+    const OF_A_RULE: usize = VARIABLES.next_power_of_two();
+    let mut starts = [u8::MAX; OF_A_RULE];
     let (mut i, mut j) = (at, 0);
     loop {
         let run = equal_run(term, i, ground, j);
@@ -321,7 +325,7 @@ pub fn instance_without_variables(term: &Term, at: usize, ground: &Term) -> Resu
         if !is_variable(symbol) {
             return Err(j);
         }
-        let start = &mut starts[variable_number(symbol) & 7];
+        let start = &mut starts[variable_number(symbol) & (OF_A_RULE - 1)];
         if *start == u8::MAX {
             *start = j as u8;
         } else if ground.subterm(*start as usize) != ground.subterm(j) {

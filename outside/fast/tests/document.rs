@@ -1,34 +1,20 @@
 //! The document's certificates to try, and its lengths.
 
-use fast::against::disagreement;
 use fast::check;
-
-const ATOMS: &str = "
-atom A principal known
-atom I principal known
-atom KA public known partner KAi
-atom KAi private unknown partner KA
-atom KI public known partner KIi
-atom KIi private known partner KI
-atom N nonce unknown
-atom T nonce known
-";
-const SECRETS: &str = "secret N\nsecret KAi\n";
+use text::document::{ATOMS, GOOD, SECRETS};
 
 fn file(rest: &str) -> Vec<u8> {
     text::assemble(&format!("{ATOMS}{rest}")).expect("the text is right")
 }
 
-/// The answer to these lines after the atoms, told by `literal` too.
+/// The answer to these lines after the atoms.
 fn answer(rest: &str) -> u32 {
-    let file = file(rest);
-    assert_eq!(disagreement(&file), None);
-    check(&file)
+    check(&file(rest))
 }
 
 /// With the usual secrets and good pattern.
 fn usual(rule: &str) -> u32 {
-    answer(&format!("{SECRETS}good {{*s}}KA\n{rule}"))
+    answer(&format!("{SECRETS}{GOOD}{rule}"))
 }
 
 fn refused(number: u32, block: u32, place: u32) -> u32 {
@@ -57,7 +43,7 @@ fn cases_e_to_g() {
 
 #[test]
 fn cases_h_to_k() {
-    let rest = "good {*s}KA\nrule -> {N}KA";
+    let rest = format!("{GOOD}rule -> {{N}}KA");
     assert_eq!(answer(&format!("secret N\n{rest}")), refused(11, 2, 0));
     let i = format!("secret T\n{SECRETS}{rest}");
     assert_eq!(answer(&i), refused(9, 1, 0));
@@ -83,8 +69,7 @@ fn lengths() {
     assert_eq!(check(&vec![0; 32_768]), refused(3, 0, 0));
     let rules = "rule -> {N}KA\n".repeat(60);
     assert_eq!(usual(&rules), 0);
-    let mut longer = file(&format!("{SECRETS}good {{*s}}KA\n{rules}"));
+    let mut longer = file(&format!("{SECRETS}{GOOD}{rules}"));
     longer.extend_from_within(32_256..);
     assert_eq!(check(&longer), refused(1, 0, 0));
-    assert_eq!(disagreement(&longer), None);
 }

@@ -1,20 +1,13 @@
-//! Writes generated files: `certgen file|certificate|damaged SEED` to standard
-//! output, `certgen many FIRST COUNT DIRECTORY` as SEED.cert files, and
+//! Writes generated files: `certgen file|certificate|damaged|deep SEED` to
+//! standard output, `certgen many FIRST COUNT DIRECTORY` as SEED.cert files, and
 //! `certgen pair SEED` as two lines of hex.
 
+use command::number;
 use std::io::{self, Write};
 use std::process::ExitCode;
 
 fn main() -> ExitCode {
-    let words: Vec<String> = std::env::args().skip(1).collect();
-    let words: Vec<&str> = words.iter().map(String::as_str).collect();
-    match run(&words) {
-        Ok(()) => ExitCode::SUCCESS,
-        Err(message) => {
-            eprintln!("{message}");
-            ExitCode::FAILURE
-        }
-    }
+    command::run(|words| run(words).map(|()| true))
 }
 
 fn run(words: &[&str]) -> Result<(), String> {
@@ -22,17 +15,16 @@ fn run(words: &[&str]) -> Result<(), String> {
         ["file", seed] => out(&generate::file(number(seed)?)),
         ["certificate", seed] => out(&generate::certificate(number(seed)?)),
         ["damaged", seed] => out(&generate::damaged(number(seed)?)),
+        ["deep", seed] => out(&generate::deep(number(seed)?)),
         ["pair", seed] => {
             let pair = generate::pair(number(seed)?);
             out(format!("{}\n{}\n", hex(&pair.pattern), hex(&pair.term)).as_bytes())
         }
         ["many", first, count, directory] => many(number(first)?, number(count)?, directory),
-        _ => Err("certgen file|certificate|damaged|pair SEED, many FIRST COUNT DIRECTORY".into()),
+        _ => Err(
+            "certgen file|certificate|damaged|deep|pair SEED, many FIRST COUNT DIRECTORY".into(),
+        ),
     }
-}
-
-fn number(word: &str) -> Result<u64, String> {
-    word.parse().map_err(|_| format!("`{word}` is no number"))
 }
 
 fn out(bytes: &[u8]) -> Result<(), String> {

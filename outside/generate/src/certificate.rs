@@ -2,10 +2,10 @@
 
 use crate::random::Random;
 use crate::sketch::Sketch;
+use literal::numbers::atom_kind::{NONCE, PRINCIPAL, PRIVATE, PUBLIC, SYMMETRIC};
+use literal::numbers::{MOST_ATOMS, MOST_BLOCKS, MOST_ENTRIES, VARIABLES};
 use literal::read::Atom;
 use literal::{matches, Term};
-
-const MOST_ENTRIES: usize = 63;
 
 /// A certificate of the generator, not yet bytes.
 pub fn sketch(random: &mut Random) -> Sketch {
@@ -114,7 +114,7 @@ impl<'r> Maker<'r> {
             }
         }
         for number in self.numbers(|a| a.known == 0) {
-            let nonce = self.sketch.atoms[number as usize].kind == 2;
+            let nonce = self.sketch.atoms[number as usize].kind == NONCE;
             if self.random.chance(if nonce { 75 } else { 20 }) {
                 secrets.push(Term::Atom(number));
             }
@@ -320,7 +320,7 @@ impl<'r> Maker<'r> {
 
     /// Rules repeated up to the 64th block, in a few files one beyond.
     fn fill_up(&mut self) {
-        let most = if self.random.chance(20) { 65 } else { 64 };
+        let most = MOST_BLOCKS + usize::from(self.random.chance(20));
         while self.sketch.block_count() < most {
             let rule = self.random.pick(&self.sketch.rules).clone();
             self.sketch.rules.push(rule);
@@ -331,7 +331,7 @@ impl<'r> Maker<'r> {
     fn choose_variables(&mut self) {
         self.variables = vec![0, 1];
         if self.random.chance(30) {
-            let mut all: Vec<u8> = (0..8).collect();
+            let mut all: Vec<u8> = (0..VARIABLES).collect();
             self.random.shuffle(&mut all);
             self.variables = all[..3].to_vec();
         }
@@ -498,7 +498,7 @@ fn atoms(random: &mut Random) -> Vec<Atom> {
         let mut wanted = wanted_atoms(random);
         if (8..=12).contains(&wanted.len()) {
             if random.chance(1) {
-                wanted.resize(126, (2, 1, 0));
+                wanted.resize(MOST_ATOMS, (NONCE, 1, 0));
             }
             random.shuffle(&mut wanted);
             return with_partners(&wanted);
@@ -510,20 +510,20 @@ fn atoms(random: &mut Random) -> Vec<Atom> {
 type Wanted = (u8, u8, usize);
 
 fn wanted_atoms(random: &mut Random) -> Vec<Wanted> {
-    let mut wanted = vec![(1, 1, 0)];
+    let mut wanted = vec![(PRINCIPAL, 1, 0)];
     let public_known = u8::from(random.chance(85));
-    wanted.extend([(3, public_known, 1), (4, 0, 1)]);
-    wanted.extend([(5, 0, 0), (2, 0, 0), (2, 1, 0)]);
+    wanted.extend([(PUBLIC, public_known, 1), (PRIVATE, 0, 1)]);
+    wanted.extend([(SYMMETRIC, 0, 0), (NONCE, 0, 0), (NONCE, 1, 0)]);
     if random.chance(60) {
-        wanted.extend([(3, 1, 2), (4, 1, 2)]);
+        wanted.extend([(PUBLIC, 1, 2), (PRIVATE, 1, 2)]);
     }
     let extra: [(usize, Wanted); 6] = [
-        (50, (1, 1, 0)),
-        (50, (5, 1, 0)),
-        (40, (5, 0, 0)),
-        (50, (2, 0, 0)),
-        (40, (2, 1, 0)),
-        (10, (1, 0, 0)),
+        (50, (PRINCIPAL, 1, 0)),
+        (50, (SYMMETRIC, 1, 0)),
+        (40, (SYMMETRIC, 0, 0)),
+        (50, (NONCE, 0, 0)),
+        (40, (NONCE, 1, 0)),
+        (10, (PRINCIPAL, 0, 0)),
     ];
     for (percent, atom) in extra {
         if random.chance(percent) {
@@ -534,10 +534,11 @@ fn wanted_atoms(random: &mut Random) -> Vec<Wanted> {
 }
 
 fn with_partners(wanted: &[Wanted]) -> Vec<Atom> {
+    let key = |kind, pair| wanted.iter().position(|w| w.0 == kind && w.2 == pair);
     let partner_of = |i: usize| match wanted[i] {
-        (3, _, pair) => wanted.iter().position(|w| w.0 == 4 && w.2 == pair).unwrap(),
-        (4, _, pair) => wanted.iter().position(|w| w.0 == 3 && w.2 == pair).unwrap(),
-        (5, _, _) => i,
+        (PUBLIC, _, pair) => key(PRIVATE, pair).unwrap(),
+        (PRIVATE, _, pair) => key(PUBLIC, pair).unwrap(),
+        (SYMMETRIC, _, _) => i,
         _ => 0,
     };
     (0..wanted.len())

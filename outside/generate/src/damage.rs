@@ -3,7 +3,9 @@
 use crate::certificate;
 use crate::random::Random;
 use crate::sketch::Sketch;
-use literal::block::{check_of, BLOCK, ENTRIES};
+use literal::block::{check_of, entry_at};
+use literal::numbers::{atom_kind, kind, tag, BLOCK, CHECKED, ENTRIES, HEADER, MODULUS};
+use literal::numbers::{MOST_BYTES, MOST_ENTRIES};
 use literal::{encode, Term};
 
 /// A certificate with one fault, at times two.
@@ -116,13 +118,22 @@ fn seal(block: &mut [u8]) {
     literal::seal(block).expect("a block has 512 bytes");
 }
 
+fn between(random: &mut Random, first: u8, last: u8) -> u8 {
+    random.between(first as usize, last as usize) as u8
+}
+
 fn set_value(block: &mut [u8], entry: usize, value: u16) {
-    block[6 + 4 * entry..8 + 4 * entry].copy_from_slice(&value.to_le_bytes());
+    block[entry_at(entry) + 2..entry_at(entry + 1)].copy_from_slice(&value.to_le_bytes());
 }
 
 /// How many entries the block uses.
 fn used(block: &[u8]) -> usize {
     block[1] as usize + block[2] as usize
+}
+
+/// The bytes of the header and of the entries that the block uses.
+fn used_bytes(block: &[u8]) -> usize {
+    entry_at(used(block)).min(CHECKED)
 }
 
 fn wrong_length(random: &mut Random, file: Vec<u8>) -> Vec<u8> {
@@ -131,16 +142,16 @@ fn wrong_length(random: &mut Random, file: Vec<u8>) -> Vec<u8> {
         0 => file.clear(),
         1 => file.truncate(random.below(file.len())),
         2 => {
-            let more = random.between(1, 511);
+            let more = random.between(1, BLOCK - 1);
             file.extend((0..more).map(|_| 0));
         }
         3 => {
             let last = file[file.len() - BLOCK..].to_vec();
-            while file.len() <= 32_768 {
+            while file.len() <= MOST_BYTES {
                 file.extend(&last);
             }
         }
-        _ => file.truncate(*random.pick(&[1, 511, 512, 513])),
+        _ => file.truncate(*random.pick(&[1, BLOCK - 1, BLOCK, BLOCK + 1])),
     }
     file
 }
@@ -150,36 +161,36 @@ fn wrong_check(random: &mut Random, blocks: &mut [Vec<u8>]) {
     let at = random.below(blocks.len());
     let block = &mut blocks[at];
     match random.below(6) {
-        0 => block[508 + random.below(4)] ^= 1 << random.below(8),
-        1 => block[random.below(508)] ^= 1 << random.below(8),
+        0 => block[CHECKED + random.below(4)] ^= 1 << random.below(8),
+        1 => block[random.below(CHECKED)] ^= 1 << random.below(8),
         2 => {
-            let end = (4 + 4 * used(block)).min(508);
+            let end = used_bytes(block);
             block[random.below(end)] = random.byte();
         }
         3 => {
-            let end = (4 + 4 * used(block)).min(508);
+            let end = used_bytes(block);
             block.swap(random.below(end), random.below(end));
         }
-        4 => block[508..].fill(0),
+        4 => block[CHECKED..].fill(0),
         _ => not_reduced(random, block),
     }
 }
 
 /// A block whose A is below 15, stored with 65,521 added.
 fn not_reduced(random: &mut Random, block: &mut [u8]) {
-    block[4..508].fill(0);
-    let mut left =
-        65_521 + random.below(15) - block[..4].iter().map(|b| *b as usize).sum::<usize>();
-    for byte in &mut block[4..508] {
+    block[HEADER..CHECKED].fill(0);
+    let header: usize = block[..HEADER].iter().map(|b| *b as usize).sum();
+    let mut left = MODULUS as usize + random.below(15) - header;
+    for byte in &mut block[HEADER..CHECKED] {
         *byte = left.min(255) as u8;
         left -= *byte as usize;
     }
-    let start = 4 + random.below(200);
-    random.shuffle(&mut block[start..508]);
+    let start = HEADER + random.below(200);
+    random.shuffle(&mut block[start..CHECKED]);
     seal(block);
-    let stored = check_of(block).0 + 65_521u16;
+    let stored = check_of(block).0 + MODULUS;
     if random.chance(80) {
-        block[508..510].copy_from_slice(&stored.to_le_bytes());
+        block[CHECKED..CHECKED + 2].copy_from_slice(&stored.to_le_bytes());
     }
 }
 
@@ -188,7 +199,7 @@ fn wrong_kind(random: &mut Random, blocks: &mut Vec<Vec<u8>>) {
     let other = random.below(blocks.len());
     match random.below(6) {
         0 => blocks[at][0] = *random.pick(&[0, 6, 7, 255]),
-        1 => blocks[at][0] = random.between(1, 5) as u8,
+        1 => blocks[at][0] = between(random, kind::ATOMS, kind::RULE),
         2 => blocks.swap(at, other),
         3 => blocks.insert(at, blocks[0].clone()),
         4 => {
@@ -208,12 +219,12 @@ fn wrong_layout(random: &mut Random, blocks: &mut [Vec<u8>]) {
         2 => block[2] = *random.pick(&[0, 1, 63, 64, 127, 255]),
         3 => block[3] = random.byte(),
         4 => {
-            let unused = 4 + 4 * used(block);
-            if unused < 508 {
-                block[unused + random.below(508 - unused)] = 1 << random.below(8);
+            let unused = entry_at(used(block));
+            if unused < CHECKED {
+                block[unused + random.below(CHECKED - unused)] = 1 << random.below(8);
             }
         }
-        5 => block[507] = 1,
+        5 => block[CHECKED - 1] = 1,
         _ => block[1] = block[1].wrapping_sub(1),
     }
     seal(block);
@@ -223,10 +234,10 @@ fn wrong_atom(random: &mut Random, blocks: &mut [Vec<u8>]) {
     let block = &mut blocks[0];
     let count = (block[1] as usize).clamp(1, ENTRIES);
     let entry = random.below(count);
-    let at = 4 + 4 * entry;
+    let at = entry_at(entry);
     match random.below(6) {
         0 => block[at] = *random.pick(&[0, 6, 255]),
-        1 => block[at] = random.between(1, 5) as u8,
+        1 => block[at] = between(random, atom_kind::PRINCIPAL, atom_kind::SYMMETRIC),
         2 => block[at + 1] = *random.pick(&[2, 3, 255]),
         3 => set_value(block, entry, random.below(count + 2) as u16),
         4 => set_value(block, entry, *random.pick(&[255, 256, 1000, 65_535])),
@@ -235,10 +246,14 @@ fn wrong_atom(random: &mut Random, blocks: &mut [Vec<u8>]) {
     seal(block);
 }
 
+fn holds_terms(block: &[u8]) -> bool {
+    (kind::SECRET..=kind::RULE).contains(&block[0])
+}
+
 /// One of the blocks that hold terms, with one of its entries.
 fn some_entry(random: &mut Random, blocks: &[Vec<u8>]) -> Option<(usize, usize)> {
     let terms: Vec<usize> = (0..blocks.len())
-        .filter(|i| (2..=5).contains(&blocks[*i][0]) && (1..=ENTRIES).contains(&used(&blocks[*i])))
+        .filter(|i| holds_terms(&blocks[*i]) && (1..=ENTRIES).contains(&used(&blocks[*i])))
         .collect();
     if terms.is_empty() {
         return None;
@@ -257,15 +272,15 @@ fn wrong_entry(random: &mut Random, blocks: &mut [Vec<u8>]) {
 }
 
 fn spoil_entry(random: &mut Random, block: &mut [u8], entry: usize, atoms: usize) {
-    let at = 4 + 4 * entry;
+    let at = entry_at(entry);
     match random.weighted(&[2, 2, 2, 2, 2, 2, 5, 5, 2]) {
         0 => block[at] = *random.pick(&[0, 6, 7, 8, 9, 10, 255]),
         1 => block[at + 1] = *random.pick(&[1, 2, 255]),
         2 => set_value(block, entry, *random.pick(&[8, 126, 255, 256, 65_535])),
         3 => set_value(block, entry, atoms as u16),
-        4 => set_entry(block, entry, 4, random.below(9) as u16),
-        5 => set_entry(block, entry, 5, random.below(9) as u16),
-        6 => other_value(random, block, 3, atoms),
+        4 => set_entry(block, entry, tag::PLAIN, random.below(9) as u16),
+        5 => set_entry(block, entry, tag::MARKED, random.below(9) as u16),
+        6 => other_value(random, block, tag::ENCRYPTION, atoms),
         7 => mark_a_variable(random, block),
         _ => block[at + 3] = 1,
     }
@@ -274,7 +289,7 @@ fn spoil_entry(random: &mut Random, block: &mut [u8], entry: usize, atoms: usize
 /// The entries of the block with this tag.
 fn entries_with(block: &[u8], tag: u8) -> Vec<usize> {
     let all = 0..used(block).min(ENTRIES);
-    all.filter(|entry| block[4 + 4 * entry] == tag).collect()
+    all.filter(|entry| block[entry_at(*entry)] == tag).collect()
 }
 
 /// Any atom's number in an entry with this tag.
@@ -287,14 +302,14 @@ fn other_value(random: &mut Random, block: &mut [u8], tag: u8, atoms: usize) {
 }
 
 fn mark_a_variable(random: &mut Random, block: &mut [u8]) {
-    let possible = entries_with(block, 4);
+    let possible = entries_with(block, tag::PLAIN);
     if !possible.is_empty() {
-        block[4 + 4 * *random.pick(&possible)] = 5;
+        block[entry_at(*random.pick(&possible))] = tag::MARKED;
     }
 }
 
 fn set_entry(block: &mut [u8], entry: usize, tag: u8, value: u16) {
-    block[4 + 4 * entry] = tag;
+    block[entry_at(entry)] = tag;
     set_value(block, entry, value);
 }
 
@@ -308,17 +323,17 @@ fn wrong_shape(random: &mut Random, blocks: &mut [Vec<u8>]) {
     let block = &mut blocks[number];
     let many = used(block);
     match random.below(6) {
-        0 => set_entry(block, entry, 2, 0),
-        1 => set_entry(block, entry, 1, 0),
-        2 => set_entry(block, 0, 1, 0),
-        3 => set_entry(block, 0, 2, 0),
-        4 if block[0] == 5 => move_border(random, block),
-        _ if many < 63 => {
-            let count = if block[0] == 5 { 2 } else { 1 };
+        0 => set_entry(block, entry, tag::PAIR, 0),
+        1 => set_entry(block, entry, tag::ATOM, 0),
+        2 => set_entry(block, 0, tag::ATOM, 0),
+        3 => set_entry(block, 0, tag::PAIR, 0),
+        4 if block[0] == kind::RULE => move_border(random, block),
+        _ if many < MOST_ENTRIES => {
+            let count = if block[0] == kind::RULE { 2 } else { 1 };
             block[count] += 1;
-            block[4 + 4 * many..8 + 4 * many].copy_from_slice(&encode(&Term::Atom(0)));
+            block[entry_at(many)..entry_at(many + 1)].copy_from_slice(&encode(&Term::Atom(0)));
         }
-        _ => set_entry(block, many - 1, 2, 0),
+        _ => set_entry(block, many - 1, tag::PAIR, 0),
     }
     seal(block);
 }
@@ -326,7 +341,7 @@ fn wrong_shape(random: &mut Random, blocks: &mut [Vec<u8>]) {
 /// A rule whose premise is no whole term, with a wrong entry in its conclusion.
 fn both_terms(random: &mut Random, blocks: &mut [Vec<u8>]) {
     let atoms = blocks[0][1] as usize;
-    let rules = blocks.iter_mut().filter(|block| block[0] == 5);
+    let rules = blocks.iter_mut().filter(|block| block[0] == kind::RULE);
     let mut with_premise: Vec<&mut Vec<u8>> = rules
         .filter(|block| block[1] > 0 && block[2] > 0 && used(block) <= ENTRIES)
         .collect();
@@ -336,7 +351,7 @@ fn both_terms(random: &mut Random, blocks: &mut [Vec<u8>]) {
     let at = random.below(with_premise.len());
     let block = &mut with_premise[at];
     let (premise, all) = (block[1] as usize, used(block));
-    set_entry(block, random.below(premise), 2, 0);
+    set_entry(block, random.below(premise), tag::PAIR, 0);
     let spoilt = random.between(premise, all - 1);
     spoil_entry(random, block, spoilt, atoms);
     seal(block);
@@ -344,7 +359,7 @@ fn both_terms(random: &mut Random, blocks: &mut [Vec<u8>]) {
 
 /// The border between premise and conclusion moved.
 fn move_border(random: &mut Random, block: &mut [u8]) {
-    let many = used(block).min(63);
+    let many = used(block).min(MOST_ENTRIES);
     if used(block) == many {
         let premise = random.below(many);
         block[1] = premise as u8;
@@ -358,7 +373,7 @@ fn poke(random: &mut Random, blocks: &mut [Vec<u8>]) {
         return;
     }
     let at = random.below(blocks.len());
-    let end = (4 + 4 * used(&blocks[at])).min(508);
+    let end = used_bytes(&blocks[at]);
     blocks[at][random.below(end)] = random.byte();
     if random.chance(80) {
         seal(&mut blocks[at]);

@@ -2,6 +2,7 @@
 
 pub mod certificate;
 pub mod damage;
+pub mod deep;
 pub mod pairs;
 pub mod random;
 pub mod sketch;
@@ -28,4 +29,9 @@ pub fn certificate(seed: u64) -> Vec<u8> {
 /// A file damaged on purpose, for the numbers 1 to 11.
 pub fn damaged(seed: u64) -> Vec<u8> {
     damage::damaged_file(&mut Random::new(seed))
+}
+
+/// A well-formed file with long terms and chains of repeated variables.
+pub fn deep(seed: u64) -> Vec<u8> {
+    deep::sketch(&mut Random::new(seed)).bytes()
 }

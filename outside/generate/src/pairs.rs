@@ -3,9 +3,8 @@
 
 use crate::certificate::{replace, replace_at, variables_of};
 use crate::random::Random;
+use literal::numbers::MOST_ENTRIES;
 use literal::{encode, Term};
-
-const MOST_ENTRIES: usize = 63;
 
 /// A pattern, which may hold marked variables, and a rule term.
 #[derive(Clone, Debug)]

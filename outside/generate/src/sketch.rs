@@ -1,6 +1,7 @@
 //! A certificate before it becomes bytes.
 
-use literal::block::BLOCK;
+use literal::block::sealed;
+use literal::numbers::kind;
 use literal::read::Atom;
 use literal::{encode, Term};
 
@@ -25,14 +26,19 @@ impl Sketch {
     /// The sealed blocks.
     pub fn blocks(&self) -> Vec<Vec<u8>> {
         let mut blocks = vec![self.atom_block()];
-        for (kind, terms) in [(2, &self.secrets), (3, &self.goods), (4, &self.bads)] {
+        let lists = [
+            (kind::SECRET, &self.secrets),
+            (kind::GOOD, &self.goods),
+            (kind::BAD, &self.bads),
+        ];
+        for (kind, terms) in lists {
             for term in terms {
-                blocks.push(block(kind, &encode(term), &[]));
+                blocks.push(sealed(kind, &encode(term), &[]));
             }
         }
         for (premise, conclusion) in &self.rules {
             let before = premise.as_ref().map(encode).unwrap_or_default();
-            blocks.push(block(5, &before, &encode(conclusion)));
+            blocks.push(sealed(kind::RULE, &before, &encode(conclusion)));
         }
         blocks
     }
@@ -43,19 +49,6 @@ impl Sketch {
             entries.extend([atom.kind, atom.known]);
             entries.extend(atom.partner.to_le_bytes());
         }
-        block(1, &entries, &[])
+        sealed(kind::ATOMS, &entries, &[])
     }
-}
-
-/// A sealed block of this kind with one or two lists of entries.
-pub fn block(kind: u8, first: &[u8], second: &[u8]) -> Vec<u8> {
-    let mut bytes = vec![0; BLOCK];
-    bytes[0] = kind;
-    bytes[1] = (first.len() / 4) as u8;
-    bytes[2] = (second.len() / 4) as u8;
-    let middle = 4 + first.len();
-    bytes[4..middle].copy_from_slice(first);
-    bytes[middle..middle + second.len()].copy_from_slice(second);
-    literal::seal(&mut bytes).expect("a block has 512 bytes");
-    bytes
 }

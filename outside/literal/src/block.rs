@@ -1,10 +1,10 @@
 //! Blocks of 512 bytes: header, 126 entries, check.
 
-pub const BLOCK: usize = 512;
-pub const ENTRIES: usize = 126;
-/// The bytes that the check covers.
-pub const CHECKED: usize = 508;
-const MODULUS: u64 = 65_521;
+use crate::numbers::{BLOCK, CHECKED, ENTRY, HEADER, MODULUS};
+
+/// Where A and B stand.
+const A: usize = CHECKED;
+const B: usize = CHECKED + 2;
 
 /// A, the sum of bytes 0 to 507, and B, the sum of (508 - i) x byte i.
 pub fn check_of(block: &[u8]) -> (u16, u16) {
@@ -14,12 +14,13 @@ pub fn check_of(block: &[u8]) -> (u16, u16) {
         a += block[i] as u64;
         b += (CHECKED - i) as u64 * block[i] as u64;
     }
-    ((a % MODULUS) as u16, (b % MODULUS) as u16)
+    let reduced = |sum: u64| (sum % MODULUS as u64) as u16;
+    (reduced(a), reduced(b))
 }
 
 /// The check as it stands in bytes 508 to 511.
 pub fn stored_check(block: &[u8]) -> (u16, u16) {
-    (two_bytes(block, 508), two_bytes(block, 510))
+    (two_bytes(block, A), two_bytes(block, B))
 }
 
 /// Writes the four check bytes and answers 4; other than 512 bytes: 13.
@@ -28,9 +29,19 @@ pub fn seal(block: &mut [u8]) -> Result<usize, u32> {
         return Err(13);
     }
     let (a, b) = check_of(block);
-    block[508..510].copy_from_slice(&a.to_le_bytes());
-    block[510..512].copy_from_slice(&b.to_le_bytes());
-    Ok(4)
+    block[A..B].copy_from_slice(&a.to_le_bytes());
+    block[B..BLOCK].copy_from_slice(&b.to_le_bytes());
+    Ok(BLOCK - CHECKED)
+}
+
+/// A sealed block of this kind with one or two lists of entries, as bytes.
+pub fn sealed(kind: u8, first: &[u8], second: &[u8]) -> Vec<u8> {
+    let count = |entries: &[u8]| (entries.len() / ENTRY) as u8;
+    let header = [kind, count(first), count(second), 0];
+    let mut block = [&header, first, second].concat();
+    block.resize(BLOCK, 0);
+    seal(&mut block).expect("a block has 512 bytes");
+    block
 }
 
 /// An entry as its bytes stand: in a term the tag, the zero byte and the
@@ -54,14 +65,25 @@ pub fn second_count(block: &[u8]) -> usize {
     block[2] as usize
 }
 
+impl Entry {
+    pub fn of(bytes: &[u8]) -> Entry {
+        Entry {
+            first: bytes[0],
+            second: bytes[1],
+            value: two_bytes(bytes, 2),
+        }
+    }
+}
+
+/// Where entry number i stands, from 0; for the number of entries used, where
+/// the unused ones begin.
+pub fn entry_at(i: usize) -> usize {
+    HEADER + ENTRY * i
+}
+
 /// Entry number i of the block, from 0.
 pub fn entry(block: &[u8], i: usize) -> Entry {
-    let at = 4 + 4 * i;
-    Entry {
-        first: block[at],
-        second: block[at + 1],
-        value: two_bytes(block, at + 2),
-    }
+    Entry::of(&block[entry_at(i)..])
 }
 
 /// The entries from `from` up to but not including `to`.

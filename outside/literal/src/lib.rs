@@ -4,6 +4,7 @@
 pub mod block;
 pub mod hats;
 pub mod judge;
+pub mod numbers;
 pub mod read;
 pub mod share;
 #[cfg(test)]

@@ -1,7 +1,9 @@
 //! Reading a file into a certificate: the numbers 1 to 8, in the document's
 //! order.
 
-use crate::block::{self, Entry, BLOCK, ENTRIES};
+use crate::block::{self, Entry};
+use crate::numbers::{atom_kind, kind, tag};
+use crate::numbers::{BLOCK, CHECKED, MOST_ATOMS, MOST_BYTES, MOST_ENTRIES, VARIABLES};
 #[cfg(test)]
 use crate::slip::{self, Slip};
 use crate::term::{term_of, Term};
@@ -16,9 +18,11 @@ pub struct Atom {
 }
 
 impl Atom {
-    /// Public, private or symmetric.
     pub fn is_key(&self) -> bool {
-        (3..=5).contains(&self.kind)
+        matches!(
+            self.kind,
+            atom_kind::PUBLIC | atom_kind::PRIVATE | atom_kind::SYMMETRIC
+        )
     }
 }
 
@@ -63,7 +67,7 @@ pub(crate) fn refuse(number: u8, block: usize, place: usize) -> Refusal {
 
 /// The certificate in the file, or the first fault among 1 to 8.
 pub fn read(file: &[u8]) -> Result<Certificate, Refusal> {
-    if file.is_empty() || file.len() % BLOCK != 0 || file.len() > 32_768 {
+    if file.is_empty() || file.len() % BLOCK != 0 || file.len() > MOST_BYTES {
         return Err(refuse(1, 0, 0));
     }
     #[cfg(test)]
@@ -103,16 +107,16 @@ fn read_block(
         return Err(refuse(5, number, 0));
     }
     match block::kind(block) {
-        1 => certificate.atoms = read_atoms(number, block)?,
-        5 => {
+        kind::ATOMS => certificate.atoms = read_atoms(number, block)?,
+        kind::RULE => {
             let rule = read_rule(&certificate.atoms, number, block)?;
             certificate.rules.push(rule);
         }
         kind => {
             let listed = read_listed(&certificate.atoms, number, block)?;
             match kind {
-                2 => certificate.secrets.push(listed),
-                3 => certificate.goods.push(listed),
+                kind::SECRET => certificate.secrets.push(listed),
+                kind::GOOD => certificate.goods.push(listed),
                 _ => certificate.bads.push(listed),
             }
         }
@@ -128,11 +132,11 @@ fn check_right(block: &[u8]) -> bool {
     block::check_of(block) == block::stored_check(block)
 }
 
-/// Atoms first and only once, then 2 to 5 in rising order.
+/// Atoms first and only once, then the other kinds in rising order.
 fn kind_right(before: Option<u8>, kind: u8) -> bool {
     match before {
-        None => kind == 1,
-        Some(before) => (2..=5).contains(&kind) && before <= kind,
+        None => kind == kind::ATOMS,
+        Some(before) => (kind::SECRET..=kind::RULE).contains(&kind) && before <= kind,
     }
 }
 
@@ -145,9 +149,9 @@ fn counts_right(block: &[u8]) -> bool {
     let first = block::first_count(block);
     let second = block::second_count(block);
     match block::kind(block) {
-        1 => (1..=126).contains(&first) && second == 0,
-        5 => first <= 63 && (1..=63).contains(&second),
-        _ => (1..=63).contains(&first) && second == 0,
+        kind::ATOMS => (1..=MOST_ATOMS).contains(&first) && second == 0,
+        kind::RULE => first <= MOST_ENTRIES && (1..=MOST_ENTRIES).contains(&second),
+        _ => (1..=MOST_ENTRIES).contains(&first) && second == 0,
     }
 }
 
@@ -157,7 +161,7 @@ fn unused_entries_zero(block: &[u8]) -> bool {
         return true;
     }
     let used = block::first_count(block) + block::second_count(block);
-    block[4 + 4 * used..4 + 4 * ENTRIES]
+    block[block::entry_at(used)..CHECKED]
         .iter()
         .all(|byte| *byte == 0)
 }
@@ -182,10 +186,10 @@ fn read_atoms(number: usize, block: &[u8]) -> Result<Vec<Atom>, Refusal> {
 fn atom_right(atoms: &[Atom], i: usize) -> bool {
     let atom = &atoms[i];
     let partner_right = match atom.kind {
-        1 | 2 => atom.partner == 0,
-        3 => names_back(atoms, i, 4),
-        4 => names_back(atoms, i, 3),
-        5 => atom.partner as usize == i,
+        atom_kind::PRINCIPAL | atom_kind::NONCE => atom.partner == 0,
+        atom_kind::PUBLIC => names_back(atoms, i, atom_kind::PRIVATE),
+        atom_kind::PRIVATE => names_back(atoms, i, atom_kind::PUBLIC),
+        atom_kind::SYMMETRIC => atom.partner as usize == i,
         _ => false,
     };
     atom.known <= 1 && partner_right
@@ -207,7 +211,7 @@ fn read_listed(atoms: &[Atom], number: usize, block: &[u8]) -> Result<Listed, Re
     let entries = block::entries(block, 0, block::first_count(block));
     entries_right(atoms, number, kind, &entries)?;
     match term_of(&entries) {
-        Some(term) if kind == 2 || term.is_encryption() => Ok(Listed {
+        Some(term) if kind == kind::SECRET || term.is_encryption() => Ok(Listed {
             block: number,
             term,
         }),
@@ -220,10 +224,10 @@ fn read_rule(atoms: &[Atom], number: usize, block: &[u8]) -> Result<Rule, Refusa
     let end = middle + block::second_count(block);
     #[cfg(test)]
     if slip::is(Slip::EightBeforeSeven) && middle > 0 {
-        entries_right(atoms, number, 5, &block::entries(block, 0, middle))?;
+        entries_right(atoms, number, kind::RULE, &block::entries(block, 0, middle))?;
         term_of(&block::entries(block, 0, middle)).ok_or(refuse(8, number, 0))?;
     }
-    entries_right(atoms, number, 5, &block::entries(block, 0, end))?;
+    entries_right(atoms, number, kind::RULE, &block::entries(block, 0, end))?;
     let premise = if middle == 0 {
         None
     } else {
@@ -255,16 +259,19 @@ fn entries_right(
 /// Tag, zero byte and value, and whether a variable may stand here.
 fn entry_right(atoms: &[Atom], kind: u8, entry: &Entry) -> bool {
     let atom = atoms.get(entry.value as usize);
+    let is_variable = entry.value < VARIABLES as u16;
     let tag_and_value_right = match entry.first {
-        1 => atom.is_some(),
+        tag::ATOM => atom.is_some(),
         #[cfg(test)]
-        3 if slip::is(Slip::AnyAtomAsKey) => atom.is_some(),
+        tag::ENCRYPTION if slip::is(Slip::AnyAtomAsKey) => atom.is_some(),
         #[cfg(test)]
-        5 if slip::is(Slip::MarkAllowedInBad) => entry.value <= 7 && (kind == 3 || kind == 4),
-        2 => entry.value == 0,
-        3 => atom.is_some_and(Atom::is_key),
-        4 => entry.value <= 7 && kind != 2,
-        5 => entry.value <= 7 && kind == 3,
+        tag::MARKED if slip::is(Slip::MarkAllowedInBad) => {
+            is_variable && (kind == kind::GOOD || kind == kind::BAD)
+        }
+        tag::PAIR => entry.value == 0,
+        tag::ENCRYPTION => atom.is_some_and(Atom::is_key),
+        tag::PLAIN => is_variable && kind != kind::SECRET,
+        tag::MARKED => is_variable && kind == kind::GOOD,
         _ => false,
     };
     entry.second == 0 && tag_and_value_right

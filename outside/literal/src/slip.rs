@@ -2,6 +2,7 @@
 //! time, to see that the generated files tell each from the right reading.
 
 use crate::hats::{marks_below, SureHat};
+use crate::numbers::MODULUS;
 use crate::read::{Certificate, Rule};
 use crate::term::{joined, strictly_above, Path, Place, Term};
 use std::borrow::Cow;
@@ -143,11 +144,7 @@ pub fn drop_places(places: &mut Vec<Place<'_>>) {
 }
 
 pub fn same_remainders(right: (u16, u16), stored: (u16, u16)) -> bool {
-    right
-        == (
-            (stored.0 as u32 % 65_521) as u16,
-            (stored.1 as u32 % 65_521) as u16,
-        )
+    right == (stored.0 % MODULUS, stored.1 % MODULUS)
 }
 
 /// The entry counted from the conclusion's first.

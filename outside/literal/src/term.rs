@@ -1,6 +1,7 @@
 //! Terms, their entries, their places, and matching.
 
 use crate::block::Entry;
+use crate::numbers::{tag, ENTRY, VARIABLES};
 #[cfg(test)]
 use crate::slip::{self, Slip};
 
@@ -44,11 +45,15 @@ impl Term {
 /// The term's entries as bytes: parents before children, left before right.
 pub fn encode(term: &Term) -> Vec<u8> {
     match term {
-        Term::Atom(number) => entry_bytes(1, *number),
-        Term::Pair(left, right) => [entry_bytes(2, 0), encode(left), encode(right)].concat(),
-        Term::Encryption(message, key) => [entry_bytes(3, *key), encode(message)].concat(),
-        Term::Plain(number) => entry_bytes(4, *number as u16),
-        Term::Marked(number) => entry_bytes(5, *number as u16),
+        Term::Atom(number) => entry_bytes(tag::ATOM, *number),
+        Term::Pair(left, right) => {
+            [entry_bytes(tag::PAIR, 0), encode(left), encode(right)].concat()
+        }
+        Term::Encryption(message, key) => {
+            [entry_bytes(tag::ENCRYPTION, *key), encode(message)].concat()
+        }
+        Term::Plain(number) => entry_bytes(tag::PLAIN, *number as u16),
+        Term::Marked(number) => entry_bytes(tag::MARKED, *number as u16),
     }
 }
 
@@ -60,17 +65,10 @@ fn entry_bytes(tag: u8, value: u16) -> Vec<u8> {
 /// The term that the bytes hold, if they are exactly one term. Any atom and
 /// key numbers; an atom list is not asked.
 pub fn decode(bytes: &[u8]) -> Option<Term> {
-    if bytes.len() % 4 != 0 {
+    if bytes.len() % ENTRY != 0 {
         return None;
     }
-    let entries: Vec<Entry> = bytes
-        .chunks(4)
-        .map(|b| Entry {
-            first: b[0],
-            second: b[1],
-            value: u16::from_le_bytes([b[2], b[3]]),
-        })
-        .collect();
+    let entries: Vec<Entry> = bytes.chunks(ENTRY).map(Entry::of).collect();
     if entries.iter().any(|e| !readable(e)) {
         return None;
     }
@@ -80,9 +78,9 @@ pub fn decode(bytes: &[u8]) -> Option<Term> {
 fn readable(entry: &Entry) -> bool {
     entry.second == 0
         && match entry.first {
-            1 | 3 => true,
-            2 => entry.value == 0,
-            4 | 5 => entry.value <= 7,
+            tag::ATOM | tag::ENCRYPTION => true,
+            tag::PAIR => entry.value == 0,
+            tag::PLAIN | tag::MARKED => entry.value < VARIABLES as u16,
             _ => false,
         }
 }
@@ -97,18 +95,18 @@ pub fn term_of(entries: &[Entry]) -> Option<Term> {
 fn first_term(entries: &[Entry]) -> Option<(Term, &[Entry])> {
     let (entry, rest) = entries.split_first()?;
     match entry.first {
-        1 => Some((Term::Atom(entry.value), rest)),
-        2 => {
+        tag::ATOM => Some((Term::Atom(entry.value), rest)),
+        tag::PAIR => {
             let (left, rest) = first_term(rest)?;
             let (right, rest) = first_term(rest)?;
             Some((Term::pair(left, right), rest))
         }
-        3 => {
+        tag::ENCRYPTION => {
             let (message, rest) = first_term(rest)?;
             Some((Term::encryption(message, entry.value), rest))
         }
-        4 => Some((Term::Plain(entry.value as u8), rest)),
-        5 => Some((Term::Marked(entry.value as u8), rest)),
+        tag::PLAIN => Some((Term::Plain(entry.value as u8), rest)),
+        tag::MARKED => Some((Term::Marked(entry.value as u8), rest)),
         _ => None,
     }
 }

@@ -1,6 +1,6 @@
 //! What the checker answers, and the forms in which it is handed on.
 
-use crate::block::BLOCK;
+use crate::numbers::BLOCK;
 
 #[derive(Clone, Copy, Debug, PartialEq, Eq)]
 pub struct Counts {

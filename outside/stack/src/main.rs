@@ -2,6 +2,7 @@
 //! a call of the function takes at most, its return address included, and the
 //! way to the deepest. With a header, exits with 1 if its macro is smaller.
 
+use command::files::text;
 use stack::bound::{Bound, Bounds, Frames};
 use stack::{code, depths, frame};
 use std::process::{Command, ExitCode};
@@ -9,18 +10,10 @@ use std::process::{Command, ExitCode};
 const USAGE: &str = "stack-bound ARCHIVE FUNCTION TABLE [HEADER MACRO]";
 
 fn main() -> ExitCode {
-    let words: Vec<String> = std::env::args().skip(1).collect();
-    let words: Vec<&str> = words.iter().map(String::as_str).collect();
-    match run(&words) {
-        Ok(()) => ExitCode::SUCCESS,
-        Err(message) => {
-            println!("{message}");
-            ExitCode::FAILURE
-        }
-    }
+    command::run(run)
 }
 
-fn run(words: &[&str]) -> Result<(), String> {
+fn run(words: &[&str]) -> Result<bool, String> {
     let (archive, function, table, stated) = match words {
         [archive, function, table] => (archive, function, table, None),
         [archive, function, table, header, name] => {
@@ -35,18 +28,12 @@ fn run(words: &[&str]) -> Result<(), String> {
     }
     println!("{function}: at most {bytes} bytes of stack, the return address included");
     let Some((header, name)) = stated else {
-        return Ok(());
+        return Ok(true);
     };
-    let stated = macro_in(&read(header)?, name).ok_or(format!("no {name} in {header}"))?;
-    if stated < bytes {
-        return Err(format!("{name} in {header} is {stated}: too small"));
-    }
-    println!("{name} in {header} is {stated}");
-    Ok(())
-}
-
-fn read(path: &str) -> Result<String, String> {
-    std::fs::read_to_string(path).map_err(|error| format!("{path}: {error}"))
+    let stated = macro_in(&text(header.as_ref())?, name).ok_or(format!("no {name} in {header}"))?;
+    let fault = if stated < bytes { ": too small" } else { "" };
+    println!("{name} in {header} is {stated}{fault}");
+    Ok(stated >= bytes)
 }
 
 fn bound(archive: &str, function: &str, table: &str) -> Result<Bound, String> {
@@ -57,7 +44,7 @@ fn bound(archive: &str, function: &str, table: &str) -> Result<Bound, String> {
         let own = code::jump_tables_are_own(&tables, name);
         frames.insert(name.clone(), frame::frame(name, function, own)?);
     }
-    let depths = depths::read(&read(table)?)?;
+    let depths = depths::read(&text(table.as_ref())?)?;
     Bounds::new(&frames, &depths).of(function)
 }
 

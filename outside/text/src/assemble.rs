@@ -3,8 +3,9 @@
 
 use crate::names::BlockVariables;
 use crate::tokens::{tokens, Token};
-use literal::block::BLOCK;
-use literal::{encode, seal, Term};
+use literal::block::sealed;
+use literal::numbers::{atom_kind, kind, BLOCK, MOST_ATOMS, MOST_BLOCKS, MOST_ENTRIES};
+use literal::{encode, Term};
 use std::fmt;
 
 /// What is wrong with a text, and in which line, counted from 1.
@@ -31,8 +32,8 @@ pub fn assemble(text: &str) -> Result<Vec<u8>, Error> {
         file.extend(atom_block(&atoms, &names)?);
     }
     for line in others {
-        if file.len() / BLOCK == 64 {
-            return Err(line.error("a 65th block"));
+        if file.len() / BLOCK == MOST_BLOCKS {
+            return Err(line.error(&format!("a {}th block", MOST_BLOCKS + 1)));
         }
         let block = term_block(&line.tokens, &names).map_err(|m| line.error(&m))?;
         file.extend(block);
@@ -96,8 +97,8 @@ fn atom_names(atoms: &[&Line]) -> Result<Vec<String>, Error> {
         if names.contains(name) {
             return Err(line.error(&format!("a second atom `{name}`")));
         }
-        if names.len() == 126 {
-            return Err(line.error("a 127th atom"));
+        if names.len() == MOST_ATOMS {
+            return Err(line.error(&format!("a {}th atom", MOST_ATOMS + 1)));
         }
         names.push(name.clone());
     }
@@ -110,7 +111,7 @@ fn atom_block(atoms: &[&Line], names: &[String]) -> Result<Vec<u8>, Error> {
         let entry = atom_entry(number, &line.tokens, names).map_err(|m| line.error(&m))?;
         entries.extend(entry);
     }
-    Ok(block(1, &entries, &[]))
+    Ok(sealed(kind::ATOMS, &entries, &[]))
 }
 
 const ATOM_LINE: &str = "an atom line is `atom NAME principal|nonce|public|private|symmetric \
@@ -134,8 +135,10 @@ fn atom_entry(number: usize, tokens: &[Token], names: &[String]) -> Result<Vec<u
     };
     let partner = match (kind, partner) {
         (_, Some(partner)) => partner,
-        (5, None) => number as u16,
-        (3 | 4, None) => return Err("a public or private key needs `partner NAME`".to_string()),
+        (atom_kind::SYMMETRIC, None) => number as u16,
+        (atom_kind::PUBLIC | atom_kind::PRIVATE, None) => {
+            return Err("a public or private key needs `partner NAME`".to_string())
+        }
         _ => 0,
     };
     let [low, high] = partner.to_le_bytes();
@@ -144,11 +147,11 @@ fn atom_entry(number: usize, tokens: &[Token], names: &[String]) -> Result<Vec<u
 
 fn kind_number(word: &str) -> Result<u8, String> {
     match word {
-        "principal" => Ok(1),
-        "nonce" => Ok(2),
-        "public" => Ok(3),
-        "private" => Ok(4),
-        "symmetric" => Ok(5),
+        "principal" => Ok(atom_kind::PRINCIPAL),
+        "nonce" => Ok(atom_kind::NONCE),
+        "public" => Ok(atom_kind::PUBLIC),
+        "private" => Ok(atom_kind::PRIVATE),
+        "symmetric" => Ok(atom_kind::SYMMETRIC),
         _ => Err(format!("`{word}` is no kind of atom")),
     }
 }
@@ -180,15 +183,15 @@ fn term_block(tokens: &[Token], names: &[String]) -> Result<Vec<u8>, String> {
         variables: BlockVariables::of(tokens),
     };
     let kind = match word.as_str() {
-        "secret" => 2,
-        "good" => 3,
-        "bad" => 4,
+        "secret" => kind::SECRET,
+        "good" => kind::GOOD,
+        "bad" => kind::BAD,
         "rule" => return rule_block(terms),
         _ => return Err(format!("a line cannot begin with `{word}`")),
     };
     let entries = terms.entries()?;
     terms.end()?;
-    Ok(block(kind, &entries, &[]))
+    Ok(sealed(kind, &entries, &[]))
 }
 
 fn rule_block(mut terms: Terms) -> Result<Vec<u8>, String> {
@@ -199,16 +202,7 @@ fn rule_block(mut terms: Terms) -> Result<Vec<u8>, String> {
     terms.expect(Token::Arrow)?;
     let conclusion = terms.entries()?;
     terms.end()?;
-    Ok(block(5, &premise, &conclusion))
-}
-
-/// A sealed block of this kind with one or two lists of entries.
-fn block(kind: u8, first: &[u8], second: &[u8]) -> Vec<u8> {
-    let header = [kind, (first.len() / 4) as u8, (second.len() / 4) as u8, 0];
-    let mut block = [&header[..], first, second].concat();
-    block.resize(BLOCK, 0);
-    seal(&mut block).expect("a block has 512 bytes");
-    block
+    Ok(sealed(kind::RULE, &premise, &conclusion))
 }
 
 /// The tokens left, from which terms are read.
@@ -222,15 +216,18 @@ impl Terms<'_> {
     /// The entries of the next term.
     fn entries(&mut self) -> Result<Vec<u8>, String> {
         let term = self.term(1)?;
-        if term.size() > 63 {
-            return Err(format!("a term of {} entries; 63 is the most", term.size()));
+        let size = term.size();
+        if size > MOST_ENTRIES {
+            return Err(format!(
+                "a term of {size} entries; {MOST_ENTRIES} is the most"
+            ));
         }
         Ok(encode(&term))
     }
 
     fn term(&mut self, depth: usize) -> Result<Term, String> {
-        if depth > 63 {
-            return Err("a term nested more than 63 deep".to_string());
+        if depth > MOST_ENTRIES {
+            return Err(format!("a term nested more than {MOST_ENTRIES} deep"));
         }
         match self.next("a term")? {
             Token::Name(name) => Ok(Term::Atom(number_of(&name, self.names)?)),

@@ -4,19 +4,11 @@ use std::io::{self, Read, Write};
 use std::process::ExitCode;
 
 fn main() -> ExitCode {
-    match run() {
-        Ok(()) => ExitCode::SUCCESS,
-        Err(message) => {
-            eprintln!("{message}");
-            ExitCode::FAILURE
-        }
-    }
+    command::run(|words| run(words).map(|()| true))
 }
 
-fn run() -> Result<(), String> {
-    let words: Vec<String> = std::env::args().skip(1).collect();
-    let words: Vec<&str> = words.iter().map(String::as_str).collect();
-    let out = match words.as_slice() {
+fn run(words: &[&str]) -> Result<(), String> {
+    let out = match words {
         ["assemble"] => assembled(&input()?)?,
         ["print"] => text::print(&input()?).into_bytes(),
         _ => return Err("certtext assemble < in.txt > out.cert, or print < in.cert".to_string()),

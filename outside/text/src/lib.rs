@@ -1,6 +1,7 @@
 //! Certificates as text: assembling into sealed blocks, and printing.
 
 mod assemble;
+pub mod document;
 mod names;
 mod print;
 mod tokens;

@@ -1,13 +1,14 @@
 //! Which number a variable's name stands for.
 
 use crate::tokens::Token;
+use literal::numbers::VARIABLES;
 
 /// The names of the variables 0 to 7 of one sort in one block. A digit stands
 /// for its own number; any other name takes the lowest free number when it is
 /// first met.
 #[derive(Default)]
 pub struct Variables {
-    names: [Option<String>; 8],
+    names: [Option<String>; VARIABLES as usize],
 }
 
 impl Variables {
@@ -43,7 +44,7 @@ impl Variables {
 
 fn digit(name: &str) -> Option<u8> {
     match name.as_bytes() {
-        [byte @ b'0'..=b'7'] => Some(byte - b'0'),
+        [byte @ b'0'..=b'9'] => Some(byte - b'0').filter(|number| *number < VARIABLES),
         _ => None,
     }
 }

@@ -1,7 +1,9 @@
 //! Bytes to text, as far as they can be read. What cannot be read is told in
 //! notes, which are comments.
 
-use literal::block::{self, Entry, BLOCK, ENTRIES};
+use literal::block::{self, Entry};
+use literal::numbers::{atom_kind, kind, tag, BLOCK, ENTRIES, ENTRY, VARIABLES};
+use literal::numbers::{MOST_ATOMS, MOST_BLOCKS, MOST_BYTES, MOST_ENTRIES};
 use literal::term::term_of;
 use literal::Term;
 
@@ -23,7 +25,7 @@ pub fn print(file: &[u8]) -> String {
 /// The entries of the first block, if that is an atom block.
 fn atom_list(file: &[u8]) -> Vec<Entry> {
     match file.get(..BLOCK) {
-        Some(first) if block::kind(first) == 1 => {
+        Some(first) if block::kind(first) == kind::ATOMS => {
             block::entries(first, 0, block::first_count(first).min(ENTRIES))
         }
         _ => Vec::new(),
@@ -54,23 +56,25 @@ impl Printer {
             let left = length % BLOCK;
             self.line(&format!("# the last {left} bytes are no whole block"));
         }
-        if length > 32_768 {
-            self.line(&format!("# {length} bytes are more than 64 blocks"));
+        if length > MOST_BYTES {
+            self.line(&format!(
+                "# {length} bytes are more than {MOST_BLOCKS} blocks"
+            ));
         }
     }
 
     fn block(&mut self, number: usize, block: &[u8]) {
         self.check(number, block);
         let kind = block::kind(block);
-        if !(1..=5).contains(&kind) {
+        if !(kind::ATOMS..=kind::RULE).contains(&kind) {
             self.note(number, &format!("kind {kind} is none of 1 to 5, not read"));
             return;
         }
         self.order(number, kind);
         self.header(number, block);
         match (kind, number) {
-            (1, 0) => self.atoms(block),
-            (1, _) => self.second_atoms(number, block),
+            (kind::ATOMS, 0) => self.atoms(block),
+            (kind::ATOMS, _) => self.second_atoms(number, block),
             _ => self.terms(number, block),
         }
     }
@@ -86,8 +90,8 @@ impl Printer {
 
     fn order(&mut self, number: usize, kind: u8) {
         match self.kind_before {
-            None if kind != 1 => self.note(number, "the first block holds no atoms"),
-            Some(_) if kind == 1 => self.note(number, "atoms after the first block"),
+            None if kind != kind::ATOMS => self.note(number, "the first block holds no atoms"),
+            Some(_) if kind == kind::ATOMS => self.note(number, "atoms after the first block"),
             Some(before) if before > kind => {
                 self.note(number, &format!("kind {kind} after kind {before}"))
             }
@@ -100,12 +104,12 @@ impl Printer {
         let first = block::first_count(block);
         let second = block::second_count(block);
         let first_right = match kind {
-            1 => (1..=126).contains(&first),
-            5 => first <= 63,
-            _ => (1..=63).contains(&first),
+            kind::ATOMS => (1..=MOST_ATOMS).contains(&first),
+            kind::RULE => first <= MOST_ENTRIES,
+            _ => (1..=MOST_ENTRIES).contains(&first),
         };
-        let second_right = if kind == 5 {
-            (1..=63).contains(&second)
+        let second_right = if kind == kind::RULE {
+            (1..=MOST_ENTRIES).contains(&second)
         } else {
             second == 0
         };
@@ -119,7 +123,7 @@ impl Printer {
             self.note(number, &format!("byte 3 is {}", block[3]));
         }
         for i in entries_used(block)..ENTRIES {
-            if block[4 + 4 * i..8 + 4 * i] != [0; 4] {
+            if block[block::entry_at(i)..block::entry_at(i + 1)] != [0; ENTRY] {
                 self.note(number, &format!("unused entry {i} is not zero"));
             }
         }
@@ -150,11 +154,11 @@ impl Printer {
 
     fn atom_line(&self, i: usize, entry: &Entry) -> Result<String, String> {
         let kind = match entry.first {
-            1 => "principal",
-            2 => "nonce",
-            3 => "public",
-            4 => "private",
-            5 => "symmetric",
+            atom_kind::PRINCIPAL => "principal",
+            atom_kind::NONCE => "nonce",
+            atom_kind::PUBLIC => "public",
+            atom_kind::PRIVATE => "private",
+            atom_kind::SYMMETRIC => "symmetric",
             other => return Err(format!("{other} is no kind of atom")),
         };
         let known = match entry.second {
@@ -164,8 +168,8 @@ impl Printer {
         };
         let partner = entry.value as usize;
         let unsaid = match entry.first {
-            1 | 2 => partner == 0,
-            5 => partner == i,
+            atom_kind::PRINCIPAL | atom_kind::NONCE => partner == 0,
+            atom_kind::SYMMETRIC => partner == i,
             _ => false,
         };
         let line = format!("atom {} {kind} {known}", self.name(i));
@@ -183,9 +187,9 @@ impl Printer {
     /// A name for a listed atom, by its kind and number.
     fn name(&self, number: usize) -> String {
         let letter = match self.atoms[number].first {
-            1 => 'a',
-            2 => 'n',
-            3..=5 => 'k',
+            atom_kind::PRINCIPAL => 'a',
+            atom_kind::NONCE => 'n',
+            atom_kind::PUBLIC..=atom_kind::SYMMETRIC => 'k',
             _ => 'e',
         };
         format!("{letter}{number}")
@@ -216,7 +220,7 @@ impl Printer {
     fn term_line(&self, block: &[u8]) -> Result<String, String> {
         let first = block::first_count(block);
         let second = block::second_count(block);
-        if block::kind(block) != 5 {
+        if block::kind(block) != kind::RULE {
             let term = self.shown_term(block, 0, first, "the term")?;
             return Ok(format!("{} {term}", word(block)));
         }
@@ -235,7 +239,7 @@ impl Printer {
         to: usize,
         what: &str,
     ) -> Result<String, String> {
-        if !(1..=63).contains(&(to - from)) || to > ENTRIES {
+        if !(1..=MOST_ENTRIES).contains(&(to - from)) || to > ENTRIES {
             return Err(format!("{what} has {} entries", to - from));
         }
         for i in from..to {
@@ -267,14 +271,18 @@ impl Printer {
         }
         let value = entry.value;
         match (entry.first, self.listed_name(value)) {
-            (1, Some(name)) => Ok(format!("atom {name}")),
-            (3, Some(name)) => Ok(format!("encryption under {name}")),
-            (1 | 3, None) => Err(format!("atom number {value} is not listed")),
-            (2, _) if value == 0 => Ok("pair".to_string()),
-            (2, _) => Err(format!("a pair with value {value}")),
-            (4, _) if value <= 7 => Ok(format!("plain variable {value}")),
-            (5, _) if value <= 7 => Ok(format!("marked variable {value}")),
-            (4 | 5, _) => Err(format!("a variable with number {value}")),
+            (tag::ATOM, Some(name)) => Ok(format!("atom {name}")),
+            (tag::ENCRYPTION, Some(name)) => Ok(format!("encryption under {name}")),
+            (tag::ATOM | tag::ENCRYPTION, None) => {
+                Err(format!("atom number {value} is not listed"))
+            }
+            (tag::PAIR, _) if value == 0 => Ok("pair".to_string()),
+            (tag::PAIR, _) => Err(format!("a pair with value {value}")),
+            (tag::PLAIN | tag::MARKED, _) if value >= VARIABLES as u16 => {
+                Err(format!("a variable with number {value}"))
+            }
+            (tag::PLAIN, _) => Ok(format!("plain variable {value}")),
+            (tag::MARKED, _) => Ok(format!("marked variable {value}")),
             (tag, _) => Err(format!("tag {tag} is none of 1 to 5")),
         }
     }
@@ -295,36 +303,37 @@ impl Printer {
         for i in 0..entries_used(block) {
             let entry = block::entry(block, i);
             let words = match entry.first {
-                3 if !self.is_key(entry.value) => "is no key",
-                4 | 5 if kind == 2 => "a variable in a secret",
-                5 if kind != 3 => "a marked variable outside a good pattern",
+                tag::ENCRYPTION if !self.is_key(entry.value) => "is no key",
+                tag::PLAIN | tag::MARKED if kind == kind::SECRET => "a variable in a secret",
+                tag::MARKED if kind != kind::GOOD => "a marked variable outside a good pattern",
                 _ => continue,
             };
             self.note(number, &format!("entry {i}: {words}"));
         }
-        if (kind == 3 || kind == 4) && block::entry(block, 0).first != 3 {
+        let is_pattern = kind == kind::GOOD || kind == kind::BAD;
+        if is_pattern && block::entry(block, 0).first != tag::ENCRYPTION {
             self.note(number, "the root of the pattern is no encryption");
         }
     }
 
     fn is_key(&self, number: u16) -> bool {
-        (3..=5).contains(&self.atoms[number as usize].first)
+        (atom_kind::PUBLIC..=atom_kind::SYMMETRIC).contains(&self.atoms[number as usize].first)
     }
 }
 
-/// The line's first word for a block of kind 2 to 5.
+/// The line's first word for a block of terms.
 fn word(block: &[u8]) -> &'static str {
     match block::kind(block) {
-        2 => "secret",
-        3 => "good",
-        4 => "bad",
+        kind::SECRET => "secret",
+        kind::GOOD => "good",
+        kind::BAD => "bad",
         _ => "rule",
     }
 }
 
 /// The entries that the counts speak of, at most all.
 fn entries_used(block: &[u8]) -> usize {
-    let second = if block::kind(block) == 5 {
+    let second = if block::kind(block) == kind::RULE {
         block::second_count(block)
     } else {
         0

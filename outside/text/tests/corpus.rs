@@ -1,26 +1,18 @@
 //! Certificates of published protocols: the line from their bytes and from
 //! their text.
 
-use std::fs;
-use std::path::PathBuf;
-
-fn corpus() -> PathBuf {
-    PathBuf::from(env!("CARGO_MANIFEST_DIR")).join("../corpus")
-}
+use command::files;
+use std::path::{Path, PathBuf};
 
 /// Name, text and bytes of every certificate.
 fn certificates() -> Vec<(String, String, Vec<u8>)> {
-    let mut found = Vec::new();
-    for item in fs::read_dir(corpus()).unwrap() {
-        let path = item.unwrap().path();
-        if path.extension().is_some_and(|e| e == "txt") {
-            let name = path.file_stem().unwrap().to_string_lossy().into_owned();
-            let text = fs::read_to_string(&path).unwrap();
-            found.push((name, text, fs::read(path.with_extension("cert")).unwrap()));
-        }
-    }
-    found.sort();
-    found
+    let folder = Path::new(env!("CARGO_MANIFEST_DIR")).join("../corpus");
+    let paths = files::ending_in("txt", &folder).unwrap();
+    let read = |path: &PathBuf| {
+        let bytes = files::bytes(&path.with_extension("cert")).unwrap();
+        (files::name(path), files::text(path).unwrap(), bytes)
+    };
+    paths.iter().map(read).collect()
 }
 
 /// The line expected in the base.

@@ -1,18 +1,8 @@
 //! The text form: the document's cases as text, round trips, errors, notes.
 
 use literal::{Refusal, Verdict};
+use text::document::{ATOMS, GOOD, SECRETS};
 use text::{assemble, print};
-
-const ATOMS: &str = "\
-atom A principal known
-atom I principal known
-atom KA public known partner KAi
-atom KAi private unknown partner KA
-atom KI public known partner KIi
-atom KIi private known partner KI
-atom N nonce unknown
-atom T nonce known
-";
 
 fn line_of(rest: &str) -> String {
     let bytes = assemble(&format!("{ATOMS}{rest}")).unwrap();
@@ -20,9 +10,9 @@ fn line_of(rest: &str) -> String {
     String::from_utf8(line).unwrap().trim_end().to_string()
 }
 
-/// Secrets N and KAi, good {*s}KA, and these lines.
+/// The usual secrets and good pattern, and these lines.
 fn usual(rest: &str) -> String {
-    line_of(&format!("secret N\nsecret KAi\ngood {{*s}}KA\n{rest}"))
+    line_of(&format!("{SECRETS}{GOOD}{rest}"))
 }
 
 #[test]
@@ -32,8 +22,8 @@ fn the_documents_cases() {
     assert_eq!(usual("rule -> {N}KI"), "refused 12 block=4 place=1");
     assert_eq!(usual("rule {?x}KA -> {?x}KI"), "refused 12 block=4 place=3");
     assert_eq!(usual("rule {?x}KI -> ?x"), accepted);
-    let e = "secret N\nsecret KAi\ngood {(T, *s)}KA\nrule {(I, ?x)}KA -> {?x}KI";
-    assert_eq!(line_of(e), accepted);
+    let e = format!("{SECRETS}good {{(T, *s)}}KA\nrule {{(I, ?x)}}KA -> {{?x}}KI");
+    assert_eq!(line_of(&e), accepted);
     let with_bad = "accepted blocks=6 secrets=2 good=1 bad=1 rules=1";
     assert_eq!(
         usual("bad {(I, ?x)}KA\nrule {(I, ?x)}KA -> {?x}KI"),
@@ -70,70 +60,60 @@ fn error_of(text: &str) -> String {
     assemble(text).unwrap_err().to_string()
 }
 
+/// Lines that cannot be read, and what is said of them after the line's number.
+const WRONG_LINES: [(&str, &str); 12] = [
+    ("secret (N, T", "the line ends where `)` must stand"),
+    ("secret (N T)", "`,` must stand for `T`"),
+    ("secret N T", "the line must end before `T`"),
+    ("rule N", "the line ends where `->` must stand"),
+    ("rule N ->", "the line ends where a term must stand"),
+    ("good {*s}?x", "a key's name must stand for `?x`"),
+    ("good {*s}%", "`%` has no meaning here"),
+    ("atom N nonce known", "a second atom `N`"),
+    (
+        "atom M nonce maybe",
+        "`known` or `unknown` must stand for `maybe`",
+    ),
+    ("atom M number known", "`number` is no kind of atom"),
+    (
+        "atom K public known",
+        "a public or private key needs `partner NAME`",
+    ),
+    (
+        "rule -> (?a, (?b, (?c, (?d, (?e, (?f, (?g, (?h, ?i))))))))",
+        "`i` would be a ninth variable",
+    ),
+];
+
+/// What is said of this line when it stands after the atoms.
+fn error_after_atoms(line: &str) -> String {
+    error_of(&format!("{ATOMS}{line}"))
+}
+
 #[test]
-fn errors_with_line_numbers() {
-    assert_eq!(
-        error_of("\n# note\nsecret N"),
-        "line 3: there is no atom `N`"
-    );
+fn wrong_lines() {
+    for (line, words) in WRONG_LINES {
+        assert_eq!(error_after_atoms(line), format!("line 9: {words}"));
+    }
+    let no_atom = error_of("\n# note\nsecret N");
+    assert_eq!(no_atom, "line 3: there is no atom `N`");
     assert_eq!(error_of("foo"), "line 1: a line cannot begin with `foo`");
     assert_eq!(error_of("( A"), "line 1: a line cannot begin with `(`");
-    let with_atoms = |line: &str| error_of(&format!("{ATOMS}{line}"));
-    assert_eq!(
-        with_atoms("secret (N, T"),
-        "line 9: the line ends where `)` must stand"
-    );
-    assert_eq!(with_atoms("secret (N T)"), "line 9: `,` must stand for `T`");
-    assert_eq!(
-        with_atoms("secret N T"),
-        "line 9: the line must end before `T`"
-    );
-    assert_eq!(
-        with_atoms("rule N"),
-        "line 9: the line ends where `->` must stand"
-    );
-    assert_eq!(
-        with_atoms("rule N ->"),
-        "line 9: the line ends where a term must stand"
-    );
-    assert_eq!(
-        with_atoms("good {*s}?x"),
-        "line 9: a key's name must stand for `?x`"
-    );
-    assert_eq!(with_atoms("good {*s}%"), "line 9: `%` has no meaning here");
-    assert_eq!(
-        with_atoms("atom N nonce known"),
-        "line 9: a second atom `N`"
-    );
-    assert_eq!(
-        with_atoms("atom M nonce maybe"),
-        "line 9: `known` or `unknown` must stand for `maybe`"
-    );
-    assert_eq!(
-        with_atoms("atom M number known"),
-        "line 9: `number` is no kind of atom"
-    );
-    assert_eq!(
-        with_atoms("atom K public known"),
-        "line 9: a public or private key needs `partner NAME`"
-    );
-    let late = with_atoms("secret N\natom M nonce known");
+    let late = error_after_atoms("secret N\natom M nonce known");
     assert_eq!(late, "line 10: atoms come before all other lines");
-    let nine = "rule -> (?a, (?b, (?c, (?d, (?e, (?f, (?g, (?h, ?i))))))))";
-    assert_eq!(with_atoms(nine), "line 9: `i` would be a ninth variable");
-    let long = format!("secret {}N{}", "(N, ".repeat(32), ")".repeat(32));
-    assert_eq!(
-        with_atoms(&long),
-        "line 9: a term of 65 entries; 63 is the most"
-    );
-    let deep = format!("secret {}", "(".repeat(100_000));
-    assert_eq!(with_atoms(&deep), "line 9: a term nested more than 63 deep");
-    let many = "rule -> ?x\n".repeat(65);
-    assert_eq!(error_of(&many), "line 65: a 65th block");
-    let many: String = (0..127)
-        .map(|i| format!("atom x{i} nonce known\n"))
-        .collect();
-    assert_eq!(error_of(&many), "line 127: a 127th atom");
+}
+
+#[test]
+fn more_than_blocks_hold() {
+    let long = error_after_atoms(&format!("secret {}N{}", "(N, ".repeat(32), ")".repeat(32)));
+    assert_eq!(long, "line 9: a term of 65 entries; 63 is the most");
+    let deep = error_after_atoms(&format!("secret {}", "(".repeat(100_000)));
+    assert_eq!(deep, "line 9: a term nested more than 63 deep");
+    let blocks = "rule -> ?x\n".repeat(65);
+    assert_eq!(error_of(&blocks), "line 65: a 65th block");
+    let atom = |i| format!("atom x{i} nonce known\n");
+    let atoms: String = (0..127).map(atom).collect();
+    assert_eq!(error_of(&atoms), "line 127: a 127th atom");
 }
 
 #[test]

@@ -2,19 +2,8 @@
 //! about two terms and is asked of the term layer.
 
 use crate::known::Known;
+use text::document::{ATOMS, GOOD, SECRETS};
 
-const ATOMS: &str = "\
-atom A principal known
-atom I principal known
-atom KA public known partner KAi
-atom KAi private unknown partner KA
-atom KI public known partner KIi
-atom KIi private known partner KI
-atom N nonce unknown
-atom T nonce known
-";
-const SECRETS: &str = "secret N\nsecret KAi\n";
-const GOOD: &str = "good {*s}KA\n";
 const GOOD_OF_E: &str = "good {(T, *s)}KA\n";
 const BAD: &str = "bad {(I, ?x)}KA\n";
 const RULE_OF_A: &str = "rule -> {N}KA\n";

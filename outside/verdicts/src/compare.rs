@@ -1,9 +1,9 @@
 //! Everything that the archive answers for one file, against `literal`.
 
 use crate::lent::Lent;
-use crate::{Checker, Difference, Spot};
+use crate::{failed, Checker, Difference, Spot};
 use generate::random::Random;
-use literal::block::BLOCK;
+use literal::numbers::{BLOCK, CHECKED};
 use literal::{Counts, Refusal, Tally, Verdict};
 
 /// What differs for this file and the verdict expected of it. Buffers, counts
@@ -61,12 +61,9 @@ fn line(checker: &Checker, file: &[u8], verdict: &Verdict, mut buffer: Lent) -> 
     )
 }
 
-/// Bytes written, or 65,536 x the number.
+/// Bytes written, or how the call fails.
 fn answer(result: Result<usize, u32>) -> u32 {
-    match result {
-        Ok(bytes) => bytes as u32,
-        Err(number) => 65_536 * number,
-    }
+    result.map_or_else(failed, |bytes| bytes as u32)
 }
 
 // The refused part.
@@ -152,7 +149,7 @@ fn part(checker: &Checker, file: &[u8], spot: Spot, mut buffer: Lent) -> Option<
             room.copy_from_slice(part);
             part.len() as u32
         }
-        None => 65_536,
+        None => failed(1),
     };
     let found = (checker.part)(file, spot, buffer.bytes());
     let question = format!("part for {spot:?} in {} bytes", buffer.bytes().len());
@@ -203,7 +200,7 @@ fn tally(checker: &Checker, file: &[u8], verdict: &Verdict, before: Tally) -> Op
 /// A block of the file with another check, arbitrary bytes, a wrong length.
 fn seals(checker: &Checker, file: &[u8], random: &mut Random) -> Vec<Difference> {
     let mut own = some_block(file, random);
-    own[508..].fill(random.byte());
+    own[CHECKED..].fill(random.byte());
     let wrong = match random.below(4) {
         0 => 0,
         1 => *random.pick(&[508, 511, 513, 1024]),

@@ -2,10 +2,10 @@
 
 use crate::compare;
 use crate::lent::Lent;
-use crate::{Checker, Difference, Spot};
+use crate::{failed, Checker, Difference, Spot};
+use command::files;
 use generate::random::Random;
-use literal::block::BLOCK;
-use std::fs;
+use literal::numbers::BLOCK;
 use std::path::{Path, PathBuf};
 
 #[derive(Clone)]
@@ -83,7 +83,7 @@ impl Known {
         let right = buffer.clone();
         let answer = (checker.line)(&self.file, buffer.bytes());
         let found = format!("{answer}{}", buffer.unlike(&right));
-        Difference::between("line with a byte less", (14 * 65_536).to_string(), found)
+        Difference::between("line with a byte less", failed(14).to_string(), found)
     }
 
     /// The block that is named; empty for acceptance, 1 and 4.
@@ -135,53 +135,44 @@ pub fn spot_in(line: &str) -> Option<Spot> {
 
 /// The certificates of published protocols, from their bytes.
 pub fn corpus() -> Result<Vec<Known>, String> {
-    texts_in("../corpus")?
-        .into_iter()
-        .map(|path| {
-            let file = fs::read(path.with_extension("cert")).map_err(|e| e.to_string())?;
-            with_line(&path, file, "#: expect 0 ")
-        })
-        .collect()
+    let of = |path: PathBuf| {
+        let file = files::bytes(&path.with_extension("cert"))?;
+        with_line(&path, file, "#: expect 0 ")
+    };
+    texts_in("../corpus")?.into_iter().map(of).collect()
 }
 
 /// The texts of a folder, each with its own line.
 pub fn texts(folder: &str) -> Result<Vec<Known>, String> {
-    texts_in(folder)?
-        .into_iter()
-        .map(|path| {
-            let text = fs::read_to_string(&path).map_err(|e| e.to_string())?;
-            let file = text::assemble(&text).map_err(|e| format!("{}: {e}", path.display()))?;
-            with_line(&path, file, "# expect: ")
-        })
-        .collect()
+    let of = |path: PathBuf| {
+        let assembled = text::assemble(&files::text(&path)?);
+        let file = assembled.map_err(|error| files::told(&path, error))?;
+        with_line(&path, file, "# expect: ")
+    };
+    texts_in(folder)?.into_iter().map(of).collect()
 }
 
 /// The check program's own test: what it reads and the line it prints.
 pub fn program() -> Result<Vec<Known>, String> {
-    let folder = Path::new(env!("CARGO_MANIFEST_DIR")).join("../../crates/zepayong");
-    let file = fs::read(folder.join("stdin")).map_err(|e| format!("stdin: {e}"))?;
-    let line = fs::read_to_string(folder.join("stdout")).map_err(|e| format!("stdout: {e}"))?;
+    let folder = here("../../crates/zepayong");
+    let file = files::bytes(&folder.join("stdin"))?;
+    let line = files::text(&folder.join("stdout"))?;
     let line = line.strip_suffix('\n').ok_or("stdout: no newline")?;
     Ok(vec![Known::by_line("the program's test", file, line)?])
 }
 
-/// The texts of a folder that is named from this crate's.
+/// A folder that is named from this crate's.
+fn here(folder: &str) -> PathBuf {
+    Path::new(env!("CARGO_MANIFEST_DIR")).join(folder)
+}
+
 fn texts_in(folder: &str) -> Result<Vec<PathBuf>, String> {
-    let folder = Path::new(env!("CARGO_MANIFEST_DIR")).join(folder);
-    let items = fs::read_dir(&folder).map_err(|e| format!("{}: {e}", folder.display()))?;
-    let mut found: Vec<PathBuf> = items.flatten().map(|item| item.path()).collect();
-    found.retain(|path| path.extension().is_some_and(|e| e == "txt"));
-    found.sort();
-    if found.is_empty() {
-        return Err(format!("{}: no texts", folder.display()));
-    }
-    Ok(found)
+    files::ending_in("txt", &here(folder))
 }
 
 /// The line that stands in the text after these words.
 fn with_line(path: &Path, file: Vec<u8>, words: &str) -> Result<Known, String> {
-    let name = path.file_stem().unwrap_or_default().to_string_lossy();
-    let text = fs::read_to_string(path).map_err(|e| e.to_string())?;
+    let (name, text) = (files::name(path), files::text(path)?);
     let line = text.lines().find_map(|line| line.strip_prefix(words));
     Known::by_line(&name, file, line.ok_or(format!("{name}: no `{words}`"))?)
 }

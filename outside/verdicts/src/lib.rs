@@ -36,8 +36,13 @@ pub struct Spot {
 impl Spot {
     /// number x 65,536 + block x 256 + place.
     pub fn packed(&self) -> u32 {
-        self.number * 65_536 + self.block as u32 * 256 + self.place as u32
+        failed(self.number) + self.block as u32 * 256 + self.place as u32
     }
+}
+
+/// The answer of a call that fails with this number.
+pub fn failed(number: u32) -> u32 {
+    number * 65_536
 }
 
 /// An answer that is not as it should be.

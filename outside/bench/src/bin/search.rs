@@ -3,16 +3,18 @@
 //!
 //! Each family, and each file of `bench/files`, gets so many tries. They climb
 //! by the time of the proved check, by its ratio to `fast`, by the time of
-//! `fast`, or by the proved check's stack. A line tells the dearest file that came of each; `--write` keeps
-//! these files. With `--at-most` it exits with 1 if one is above TIME times the
-//! typical file or above RATIO times `fast`, measured again before it is said.
+//! `fast`, or by the proved check's stack. A line tells the dearest file that
+//! came of each; `--write` keeps these files. With `--at-most` it exits with 1
+//! if one is above TIME times the typical file or above RATIO times `fast`,
+//! measured again before it is said.
 
+use bench::files::{self, Certificate, TYPICAL};
 use bench::search::climb::{climb, Found};
 use bench::search::families::{self, Family};
 use bench::search::measure::{By, Scale};
 use bench::{proved, stack};
 use generate::random::Random;
-use std::path::{Path, PathBuf};
+use std::path::PathBuf;
 use std::process::ExitCode;
 
 const USAGE: &str = "search TRIES SEED time|ratio|fast|stack [--family NAME] [--write FOLDER] \
@@ -27,19 +29,14 @@ struct Wanted {
     at_most: Option<(f64, f64)>,
 }
 
-fn main() -> ExitCode {
-    let words: Vec<String> = std::env::args().skip(1).collect();
-    let words: Vec<&str> = words.iter().map(String::as_str).collect();
-    let outcome = wanted(&words)
-        .ok_or(USAGE.to_string())
-        .and_then(|wanted| run(&wanted));
-    match outcome {
-        Ok(()) => ExitCode::SUCCESS,
-        Err(message) => {
-            println!("{message}");
-            ExitCode::FAILURE
-        }
+impl Wanted {
+    fn takes(&self, family: &Family) -> bool {
+        self.family.as_ref().is_none_or(|name| *name == family.name)
     }
+}
+
+fn main() -> ExitCode {
+    command::run(|words| run(&wanted(words).ok_or(USAGE)?))
 }
 
 fn wanted(words: &[&str]) -> Option<Wanted> {
@@ -75,20 +72,16 @@ fn wanted(words: &[&str]) -> Option<Wanted> {
     Some(wanted)
 }
 
-fn run(wanted: &Wanted) -> Result<(), String> {
-    let files = Path::new(env!("CARGO_MANIFEST_DIR")).join("files");
-    let mut scale = Scale::of(&read(&files.join("1-typical.cert"))?);
+fn run(wanted: &Wanted) -> Result<bool, String> {
+    let typical = files::own().join(format!("{TYPICAL}.cert"));
+    let mut scale = Scale::of(&Certificate::read(&typical)?.bytes);
     println!(
         "{:32} {:>9} {:>10} {:>10} {:>10} {:>8}",
         "family", "answer", "to typical", "to fast", "fast rel", "stack"
     );
     let mut too_dear = 0;
-    for (i, family) in all(&files)?.iter().enumerate() {
-        if wanted
-            .family
-            .as_ref()
-            .is_some_and(|name| *name != family.name)
-        {
+    for (i, family) in all()?.iter().enumerate() {
+        if !wanted.takes(family) {
             continue;
         }
         let random = &mut Random::new(wanted.seed.wrapping_add(1_000_003 * i as u64));
@@ -98,28 +91,17 @@ fn run(wanted: &Wanted) -> Result<(), String> {
             keep(wanted, &found)?;
         }
     }
-    match too_dear {
-        0 => Ok(()),
-        _ => Err(format!("{too_dear} above the bounds")),
+    if too_dear > 0 {
+        println!("{too_dear} above the bounds");
     }
+    Ok(too_dear == 0)
 }
 
-fn read(path: &Path) -> Result<Vec<u8>, String> {
-    std::fs::read(path).map_err(|error| format!("{}: {error}", path.display()))
-}
-
-/// The families, then the files of the folder that are judged to the end.
-fn all(folder: &Path) -> Result<Vec<Family>, String> {
+/// The families, then the own files that are judged to the end.
+fn all() -> Result<Vec<Family>, String> {
     let mut all = families::written();
-    let mut paths: Vec<PathBuf> = std::fs::read_dir(folder)
-        .map_err(|error| format!("{}: {error}", folder.display()))?
-        .filter_map(|entry| Some(entry.ok()?.path()))
-        .filter(|path| path.extension().is_some_and(|end| end == "cert"))
-        .collect();
-    paths.sort();
-    for path in paths {
-        let name = path.file_stem().unwrap_or_default().to_string_lossy();
-        all.extend(families::from_file(&name, &read(&path)?));
+    for Certificate { name, bytes } in files::certificates(&files::own())? {
+        all.extend(families::from_file(&name, &bytes));
     }
     Ok(all)
 }
@@ -140,19 +122,12 @@ fn is_too_dear(wanted: &Wanted, scale: &mut Scale, found: &mut Found) -> bool {
     true
 }
 
-fn in_words(answer: u32) -> String {
-    match answer {
-        0 => "accepted".to_string(),
-        _ => format!("{} {} {}", answer >> 16, answer >> 8 & 255, answer & 255),
-    }
-}
-
 fn line(found: &Found, scale: &Scale) {
     let file = found.sketch.bytes();
     println!(
         "{:32} {:>9} {:>10.2} {:>10.2} {:>10.2} {:>8}",
         found.family,
-        in_words(fast::check(&file)),
+        files::in_words(fast::check(&file)),
         scale.time(found.cost),
         scale.ratio(found.cost),
         scale.fast(found.cost),
@@ -165,6 +140,5 @@ fn keep(wanted: &Wanted, found: &Found) -> Result<(), String> {
         return Ok(());
     };
     let path = folder.join(format!("{}.cert", found.family));
-    std::fs::write(&path, found.sketch.bytes())
-        .map_err(|error| format!("{}: {error}", path.display()))
+    std::fs::write(&path, found.sketch.bytes()).map_err(|error| command::files::told(&path, error))
 }

@@ -4,6 +4,7 @@ use super::shapes::*;
 use generate::certificate::{replace, replace_at, variables_of};
 use generate::random::Random;
 use generate::sketch::Sketch;
+use literal::numbers::{MOST_BLOCKS, MOST_ENTRIES};
 use literal::term::places;
 use literal::Term;
 
@@ -67,7 +68,7 @@ fn fitting(list: List, term: Term) -> Option<Term> {
         .collect();
     let term = replace(&term, &by);
     let pattern = matches!(list, List::Goods | List::Bads);
-    (term.size() <= ENTRIES && (!pattern || term.is_encryption())).then_some(term)
+    (term.size() <= MOST_ENTRIES && (!pattern || term.is_encryption())).then_some(term)
 }
 
 fn subterm(term: &Term, entry: usize) -> Term {
@@ -114,14 +115,14 @@ impl Palette {
 fn other(random: &mut Random, here: &Term, palette: &Palette) -> Term {
     let Palette { donor, .. } = palette;
     match random.below(9) {
-        0 => plain(random.below(8)),
-        1 => either(random.below(16)),
+        0 => plain(random.below(PLAIN)),
+        1 => either(random.below(EITHER)),
         2 | 3 => palette.atom(random),
         4 => match palette.key(random) {
             Some(key) => under(key, here.clone()),
             None => Term::pair(here.clone(), here.clone()),
         },
-        5 => Term::pair(here.clone(), plain(random.below(8))),
+        5 => Term::pair(here.clone(), plain(random.below(PLAIN))),
         6 => Term::pair(palette.atom(random), here.clone()),
         7 => match here {
             Term::Pair(left, right) => Term::pair((**right).clone(), (**left).clone()),
@@ -176,7 +177,7 @@ fn change_counts(random: &mut Random, sketch: &mut Sketch) {
         drop_one(random, sketch);
     }
     let list = random.below(4);
-    while sketch.block_count() < BLOCKS {
+    while sketch.block_count() < MOST_BLOCKS {
         add_one(random, sketch, list);
     }
 }

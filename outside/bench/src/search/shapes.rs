@@ -1,11 +1,13 @@
 //! The atoms of the families' files, and terms to build them with.
 
 use generate::sketch::Sketch;
+use literal::numbers::{atom_kind, MOST_BLOCKS, VARIABLES};
 use literal::read::Atom;
 use literal::Term;
 
-pub const BLOCKS: usize = 64;
-pub const ENTRIES: usize = 63;
+/// How many variables are plain, and how many are plain or marked.
+pub const PLAIN: usize = VARIABLES as usize;
+pub const EITHER: usize = 2 * PLAIN;
 
 /// Symmetric keys from 2 to 5, as in the generator's pairs of terms: the first
 /// is a secret, the last is known.
@@ -23,10 +25,11 @@ fn atoms() -> Vec<Atom> {
         known,
         partner,
     };
-    let mut atoms = vec![atom(1, 1, 0), atom(1, 1, 0)];
-    atoms.extend((KEY..=KNOWN_KEY).map(|key| atom(5, (key == KNOWN_KEY) as u8, key)));
-    atoms.push(atom(2, 0, 0));
-    atoms.extend((0..KNOWN).map(|_| atom(2, 1, 0)));
+    let key = |number| atom(atom_kind::SYMMETRIC, (number == KNOWN_KEY) as u8, number);
+    let mut atoms = vec![atom(atom_kind::PRINCIPAL, 1, 0); 2];
+    atoms.extend((KEY..=KNOWN_KEY).map(key));
+    atoms.push(atom(atom_kind::NONCE, 0, 0));
+    atoms.extend((0..KNOWN).map(|_| atom(atom_kind::NONCE, 1, 0)));
     atoms
 }
 
@@ -48,21 +51,22 @@ pub fn leaf(i: usize) -> Term {
     Term::Atom(FIRST_KNOWN + (i % KNOWN as usize) as u16)
 }
 
-/// Pattern variables by number: eight plain ones, then eight marked ones.
+/// Pattern variables by number: the plain ones, then the marked ones.
 pub fn either(i: usize) -> Term {
-    match i % 16 {
-        plain @ 0..8 => Term::Plain(plain as u8),
-        marked => Term::Marked(marked as u8 - 8),
+    let number = (i % PLAIN) as u8;
+    match i % EITHER < PLAIN {
+        true => Term::Plain(number),
+        false => Term::Marked(number),
     }
 }
 
 pub fn plain(i: usize) -> Term {
-    Term::Plain((i % 8) as u8)
+    Term::Plain((i % PLAIN) as u8)
 }
 
 /// All variables moved on by a number.
 pub fn moved(term: &Term, by: usize) -> Term {
-    let on = |number: &u8| (*number + (by % 8) as u8) % 8;
+    let on = |number: &u8| ((*number as usize + by) % PLAIN) as u8;
     match term {
         Term::Plain(number) => Term::Plain(on(number)),
         Term::Marked(number) => Term::Marked(on(number)),
@@ -101,7 +105,7 @@ pub fn links(items: impl DoubleEndedIterator<Item = Term>, key: u16, last: Term)
 /// Rules by their number, up to the last block.
 pub fn fill(mut sketch: Sketch, rule: impl Fn(usize) -> (Option<Term>, Term)) -> Sketch {
     let mut i = 0;
-    while sketch.block_count() < BLOCKS {
+    while sketch.block_count() < MOST_BLOCKS {
         sketch.rules.push(rule(i));
         i += 1;
     }

@@ -2,6 +2,7 @@
 //! and by turns. Only the ratios mean anything.
 
 use compare::{chains, ordinary, proved, Answer};
+use literal::numbers::{tag, MOST_ENTRIES};
 use literal::{encode, Term};
 use std::hint::black_box;
 use std::process::ExitCode;
@@ -58,7 +59,7 @@ fn chain_cases() -> Vec<Case> {
 /// The tests that the bytes are terms, and next to nothing else: sameness of
 /// two terms that differ in their first entry.
 fn tests_alone(ordinary: &Case) -> Case {
-    let mut first = vec![3, 0, 0, 0];
+    let mut first = vec![tag::ENCRYPTION, 0, 0, 0];
     first.extend(&ordinary.first[8..]);
     Case {
         name: "tests alone".to_string(),
@@ -72,7 +73,7 @@ fn tests_alone(ordinary: &Case) -> Case {
 
 impl Case {
     fn new(name: &str, first: &Term, second: &Term, shares: bool) -> Case {
-        assert_eq!((first.size(), second.size()), (63, 63), "{name}");
+        assert_eq!([first.size(), second.size()], [MOST_ENTRIES; 2], "{name}");
         Case {
             name: name.to_string(),
             first: encode(first),

@@ -1,6 +1,7 @@
 //! `term-random N [SEED]`: N random pairs, from this seed on, asked of the
 //! archive and of the outside reference.
 
+use command::Seeds;
 use compare::{disagreement, outside, proved, Answer, Question, QUESTIONS};
 use generate::pairs::{small_term_pair, term_pair};
 use generate::random::Random;
@@ -8,33 +9,16 @@ use literal::{encode, Term};
 use std::process::ExitCode;
 
 fn main() -> ExitCode {
-    let words: Vec<String> = std::env::args().skip(1).collect();
-    match run(&words) {
-        Ok(true) => ExitCode::SUCCESS,
-        Ok(false) => ExitCode::FAILURE,
-        Err(message) => {
-            eprintln!("{message}");
-            ExitCode::FAILURE
-        }
-    }
+    command::run(run)
 }
 
-fn run(words: &[String]) -> Result<bool, String> {
-    let (count, first) = match words {
-        [count] => (number(count)?, 0),
-        [count, seed] => (number(count)?, number(seed)?),
-        _ => return Err("term-random N [SEED]".to_string()),
-    };
+fn run(words: &[&str]) -> Result<bool, String> {
+    let seeds = Seeds::of(words, "term-random")?;
     let mut tally = Tally::default();
-    for seed in (0..count).map(|i| first.wrapping_add(i)) {
-        tally.pair(seed);
-    }
+    seeds.all().for_each(|seed| tally.pair(seed));
+    let Seeds { count, first } = seeds;
     println!("{count} pairs from seed {first}, {}", tally.line());
     Ok(tally.wrong == 0)
-}
-
-fn number(word: &str) -> Result<u64, String> {
-    word.parse().map_err(|_| format!("`{word}` is no number"))
 }
 
 /// Both kinds of pairs; on some the term has marked variables too.

@@ -5,14 +5,7 @@ use compare::{disagreement, no_terms, proved, vectors, words, Answer, Question, 
 use std::process::ExitCode;
 
 fn main() -> ExitCode {
-    match run() {
-        Ok(0) => ExitCode::SUCCESS,
-        Ok(_) => ExitCode::FAILURE,
-        Err(message) => {
-            eprintln!("{message}");
-            ExitCode::FAILURE
-        }
-    }
+    command::run(|_| Ok(run()? == 0))
 }
 
 /// How many answers disagree.

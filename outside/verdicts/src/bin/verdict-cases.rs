@@ -5,17 +5,10 @@ use generate::random::Random;
 use std::process::ExitCode;
 use verdicts::known::Known;
 use verdicts::lent::Lent;
-use verdicts::{cases, known, proved, Checker, Difference};
+use verdicts::{cases, failed, known, proved, Checker, Difference};
 
 fn main() -> ExitCode {
-    match run() {
-        Ok(0) => ExitCode::SUCCESS,
-        Ok(_) => ExitCode::FAILURE,
-        Err(message) => {
-            eprintln!("{message}");
-            ExitCode::FAILURE
-        }
-    }
+    command::run(|_| Ok(run()? == 0))
 }
 
 /// How many answers differ.
@@ -54,7 +47,7 @@ fn seals(checker: &Checker) -> usize {
         let before = [&bytes[..], &[7; 4]].concat();
         (before, [&bytes[..], &check].concat(), 4)
     });
-    let wrong = [0, 1, 508, 511, 513, 1024].map(|n| (vec![7; n], vec![7; n], 13 * 65_536));
+    let wrong = [0, 1, 508, 511, 513, 1024].map(|n| (vec![7; n], vec![7; n], failed(13)));
     let all = right.iter().chain(&wrong);
     let found: Vec<Difference> = all
         .filter_map(|(before, after, answer)| seal(checker, before, after, *answer))

@@ -1,6 +1,7 @@
 //! `verdict-random N [SEED]`: N generated files, from this seed on, asked of
 //! the archive and of the outside reference.
 
+use command::Seeds;
 use generate::random::Random;
 use literal::Verdict;
 use std::process::ExitCode;
@@ -12,26 +13,15 @@ use verdicts::{compare, proved};
 const SHOWN: u64 = 20;
 
 fn main() -> ExitCode {
-    let words: Vec<String> = std::env::args().skip(1).collect();
-    match run(&words) {
-        Ok(true) => ExitCode::SUCCESS,
-        Ok(false) => ExitCode::FAILURE,
-        Err(message) => {
-            eprintln!("{message}");
-            ExitCode::FAILURE
-        }
-    }
+    command::run(run)
 }
 
-fn run(words: &[String]) -> Result<bool, String> {
-    let (count, first) = match words {
-        [count] => (number(count)?, 0),
-        [count, seed] => (number(count)?, number(seed)?),
-        _ => return Err("verdict-random N [SEED]".to_string()),
-    };
+fn run(words: &[&str]) -> Result<bool, String> {
+    let seeds = Seeds::of(words, "verdict-random")?;
     let start = Instant::now();
-    let tally = compared(count, first);
+    let tally = compared(seeds);
     tally.show();
+    let Seeds { count, first } = seeds;
     let rate = count as f64 / start.elapsed().as_secs_f64();
     let wrong = tally.wrong;
     println!("{count} files from seed {first}, {wrong} disagree, {rate:.0} files each second");
@@ -39,13 +29,12 @@ fn run(words: &[String]) -> Result<bool, String> {
 }
 
 /// The files are dealt out to as many threads as the machine runs at once.
-fn compared(count: u64, first: u64) -> Tally {
-    let threads = thread::available_parallelism().map_or(1, |n| n.get() as u64);
-    let dealt = |thread: u64| {
+fn compared(seeds: Seeds) -> Tally {
+    let threads = thread::available_parallelism().map_or(1, |n| n.get());
+    let dealt = |thread: usize| {
         let mut tally = Tally::default();
-        for i in (thread..count).step_by(threads as usize) {
-            tally.file(first.wrapping_add(i));
-        }
+        let own = seeds.all().skip(thread).step_by(threads);
+        own.for_each(|seed| tally.file(seed));
         tally
     };
     thread::scope(|scope| {
@@ -56,10 +45,6 @@ fn compared(count: u64, first: u64) -> Tally {
         let tallies = done.map(|tally| tally.expect("a thread ends by itself"));
         tallies.fold(Tally::default(), Tally::with)
     })
-}
-
-fn number(word: &str) -> Result<u64, String> {
-    word.parse().map_err(|_| format!("`{word}` is no number"))
 }
 
 #[derive(Default)]

@@ -4,6 +4,7 @@ use crate::search::shapes::*;
 use generate::pairs::term_pair;
 use generate::random::Random;
 use generate::sketch::Sketch;
+use literal::numbers::MOST_ENTRIES;
 use literal::Term;
 
 /// Good patterns that differ in the leaf.
@@ -107,7 +108,10 @@ fn long_pair(random: &mut Random) -> (Term, Term) {
     loop {
         let (pattern, term) = term_pair(random.number());
         let sizes = [pattern.size(), term.size()];
-        if sizes.iter().all(|size| (30..ENTRIES - 2).contains(size)) {
+        if sizes
+            .iter()
+            .all(|size| (30..MOST_ENTRIES - 2).contains(size))
+        {
             return (pattern, term);
         }
     }

@@ -7,9 +7,10 @@ mod links;
 mod secrets;
 mod wide;
 
-use crate::search::shapes::{fill, BLOCKS};
+use crate::search::shapes::fill;
 use generate::random::Random;
 use generate::sketch::Sketch;
+use literal::numbers::MOST_BLOCKS;
 use literal::read::Listed;
 use literal::Term;
 
@@ -64,7 +65,7 @@ fn generated(random: &mut Random) -> Sketch {
     loop {
         let sketch = generate::certificate::sketch(random);
         let rules = sketch.rules.clone();
-        if sketch.block_count() <= BLOCKS && !rules.is_empty() {
+        if sketch.block_count() <= MOST_BLOCKS && !rules.is_empty() {
             return fill(sketch, |i| rules[i % rules.len()].clone());
         }
     }

@@ -1,50 +1,21 @@
-//! The comparison with `literal`, and files made for it in which sharing goes
-//! deep: long terms and chains of repeated variables. The check uses none of
-//! this.
+//! Files in which sharing goes deep: long terms and chains of repeated
+//! variables.
 
-use generate::certificate::{replace, variables_of};
-use generate::pairs::term_pair;
-use generate::random::Random;
-use generate::sketch::Sketch;
+use crate::certificate::{replace, variables_of};
+use crate::pairs::term_pair;
+use crate::random::Random;
+use crate::sketch::Sketch;
+use literal::numbers::atom_kind::{NONCE, PRINCIPAL, PRIVATE, PUBLIC};
+use literal::numbers::MOST_ENTRIES;
 use literal::read::Atom;
 use literal::Term;
 
-const MOST_ENTRIES: usize = 63;
 const KEYS: [u16; 4] = [2, 3, 4, 5];
 const SECRET: u16 = 6;
 
-/// What both answer, in words and with the file as text, if they disagree.
-pub fn disagreement(file: &[u8]) -> Option<String> {
-    let verdict = literal::verdict(file);
-    let (expected, found) = (literal::packed(&verdict), crate::check(file));
-    if expected == found {
-        return None;
-    }
-    Some(format!(
-        "literal answers {}, fast answers {}, on this file of {} bytes:\n{}",
-        in_words(expected),
-        in_words(found),
-        file.len(),
-        text::print(file)
-    ))
-}
-
-fn in_words(packed: u32) -> String {
-    match packed {
-        0 => "accepted".to_string(),
-        _ => format!(
-            "number {} block {} place {}",
-            packed >> 16,
-            packed >> 8 & 255,
-            packed & 255
-        ),
-    }
-}
-
 /// A well-formed file whose patterns and rules come from the generator's pairs
 /// of terms: chains, deep pairs, instances.
-pub fn deep_file(seed: u64) -> Vec<u8> {
-    let random = &mut Random::new(seed);
+pub fn sketch(random: &mut Random) -> Sketch {
     let mut sketch = Sketch {
         atoms: atoms(),
         secrets: secrets(random),
@@ -57,20 +28,20 @@ pub fn deep_file(seed: u64) -> Vec<u8> {
         let key = *random.pick(&KEYS);
         sketch.goods.push(Term::encryption(Term::Marked(0), key));
     }
-    sketch.bytes()
+    sketch
 }
 
 /// The document's atoms, but no key is known, so that each may be a root key.
 fn atoms() -> Vec<Atom> {
     let rows = [
-        (1, 1, 0),
-        (1, 1, 0),
-        (3, 0, 3),
-        (4, 0, 2),
-        (3, 0, 5),
-        (4, 0, 4),
-        (2, 0, 0),
-        (2, 1, 0),
+        (PRINCIPAL, 1, 0),
+        (PRINCIPAL, 1, 0),
+        (PUBLIC, 0, 3),
+        (PRIVATE, 0, 2),
+        (PUBLIC, 0, 5),
+        (PRIVATE, 0, 4),
+        (NONCE, 0, 0),
+        (NONCE, 1, 0),
     ];
     rows.map(|(kind, known, partner)| Atom {
         kind,

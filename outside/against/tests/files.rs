@@ -1,7 +1,8 @@
 //! `fast` answers what `literal` answers.
 
-use fast::against::{deep_file, disagreement};
-use std::path::Path;
+use against::disagreement;
+use command::files;
+use std::path::{Path, PathBuf};
 
 fn assert_same(name: &str, file: &[u8]) {
     if let Some(text) = disagreement(file) {
@@ -9,25 +10,24 @@ fn assert_same(name: &str, file: &[u8]) {
     }
 }
 
-/// The certificates of a folder beside this crate's.
-fn certificates(folder: &str) -> usize {
-    let here = Path::new(env!("CARGO_MANIFEST_DIR"));
-    let mut count = 0;
-    for entry in std::fs::read_dir(here.join(folder)).expect("the folder is there") {
-        let path = entry.expect("an entry").path();
-        if path.extension().is_some_and(|end| end == "cert") {
-            let file = std::fs::read(&path).expect("a file");
-            assert_same(&path.display().to_string(), &file);
-            count += 1;
-        }
-    }
-    count
+/// The certificates of a folder, named from this crate's.
+fn certificates(folder: &str) -> Vec<PathBuf> {
+    let folder = Path::new(env!("CARGO_MANIFEST_DIR")).join(folder);
+    files::ending_in("cert", &folder).expect("the folder has certificates")
+}
+
+fn bytes(path: &Path) -> Vec<u8> {
+    files::bytes(path).expect("a file")
 }
 
 #[test]
 fn corpus_and_bench_files() {
-    assert_eq!(certificates("../corpus"), 23);
-    assert!(certificates("../bench/files") >= 10);
+    let [corpus, bench] = ["../corpus", "../bench/files"].map(certificates);
+    assert_eq!(corpus.len(), 23);
+    assert!(bench.len() >= 10);
+    for path in corpus.iter().chain(&bench) {
+        assert_same(&files::name(path), &bytes(path));
+    }
 }
 
 #[test]
@@ -41,17 +41,15 @@ fn generated_files() {
 #[test]
 fn deep_files() {
     for seed in 0..4_000 {
-        assert_same(&format!("deep {seed}"), &deep_file(seed));
+        assert_same(&format!("deep {seed}"), &generate::deep(seed));
     }
 }
 
 /// One byte of a bench file changed, and the block sealed again.
 #[test]
 fn changed_bytes() {
-    let here = Path::new(env!("CARGO_MANIFEST_DIR"));
-    for name in ["1-typical", "2-most-sharing-tests", "3a-chains-occurs"] {
-        let path = here.join(format!("../bench/files/{name}.cert"));
-        let file = std::fs::read(path).expect("a file");
+    for path in &certificates("../bench/files")[..3] {
+        let (name, file) = (files::name(path), bytes(path));
         let mut random = generate::random::Random::new(7);
         for _ in 0..100 {
             let mut changed = file.clone();
@@ -68,7 +66,7 @@ fn changed_bytes() {
 #[test]
 fn deep_files_tell() {
     let answers: Vec<u32> = (0..4_000)
-        .map(|seed| fast::check(&deep_file(seed)))
+        .map(|seed| fast::check(&generate::deep(seed)))
         .collect();
     let share = |number| answers.iter().filter(|a| **a >> 16 == number).count();
     assert_eq!(share(0) + share(12), answers.len());

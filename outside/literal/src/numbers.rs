@@ -1,0 +1,47 @@
+//! The document's limits, kinds and tags, by name.
+
+/// Bytes of a block, of its header and of an entry.
+pub const BLOCK: usize = 512;
+pub const HEADER: usize = 4;
+pub const ENTRY: usize = 4;
+/// Entries of a block.
+pub const ENTRIES: usize = 126;
+/// The bytes that the check covers; A stands after them, and then B.
+pub const CHECKED: usize = HEADER + ENTRY * ENTRIES;
+/// A and B are sums modulo this.
+pub const MODULUS: u16 = 65_521;
+
+pub const MOST_BLOCKS: usize = 64;
+pub const MOST_BYTES: usize = BLOCK * MOST_BLOCKS;
+pub const MOST_ATOMS: usize = ENTRIES;
+/// The most entries of a term.
+pub const MOST_ENTRIES: usize = 63;
+/// Variables of either sort are numbered from 0 up to but not including this.
+pub const VARIABLES: u8 = 8;
+
+/// Kinds of blocks.
+pub mod kind {
+    pub const ATOMS: u8 = 1;
+    pub const SECRET: u8 = 2;
+    pub const GOOD: u8 = 3;
+    pub const BAD: u8 = 4;
+    pub const RULE: u8 = 5;
+}
+
+/// Kinds of atoms.
+pub mod atom_kind {
+    pub const PRINCIPAL: u8 = 1;
+    pub const NONCE: u8 = 2;
+    pub const PUBLIC: u8 = 3;
+    pub const PRIVATE: u8 = 4;
+    pub const SYMMETRIC: u8 = 5;
+}
+
+/// Tags of entries.
+pub mod tag {
+    pub const ATOM: u8 = 1;
+    pub const PAIR: u8 = 2;
+    pub const ENCRYPTION: u8 = 3;
+    pub const PLAIN: u8 = 4;
+    pub const MARKED: u8 = 5;
+}
