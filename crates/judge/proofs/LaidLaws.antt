@@ -88,7 +88,8 @@ module _ (file : List ℕ) (i : ℕ) (right : BlockRight file i) where
   conclusion-right k = right-term (each-second (omega arith)) (right .conclusion k)
 
   term-block : 2 ≤ kindOf b → kindOf b ≤ 4 → TermBlock b
-  term-block l h = record { fitting = fits; term = one-begins (right .pattern l h .one); short = short l }
+  term-block l h =
+      record { fitting = fits; term = one-begins (right .pattern l h .one); whole = one-whole (right .pattern l h .one); short = short l }
 
   rule-block : kindOf b ≡ 5 → RuleBlock b
   rule-block k = record {

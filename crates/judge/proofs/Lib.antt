@@ -23,6 +23,7 @@ pub mod LayoutLaws
 pub mod ListedLaws
 pub mod Listing
 pub mod Roots
+pub mod Tables
 pub mod Numbers
 pub mod Flags
 pub mod Marks

@@ -34,7 +34,7 @@ term-block {i = i} laid low high inside k = laid .terms i inside (omega arith) (
 
 pub term-part : {file : List ℕ} {i : ℕ} → TermBlock (blockAt file i) → {e : List ℕ} → e ≡ firstEntries (blockAt file i)
     → length e ≡ 4 * firstCount (blockAt file i) → TermPart file i e
-term-part w same size = let short = w .short in record { part = same; term = rw same (w .term); short = omega arith }
+term-part w same size = let short = w .short in record { part = same; term = rw same (w .term); whole = rw same (w .whole); short = omega arith }
 
 -- A part of the entries that begins with a term can be searched for as well.
 pub search-part : {file : List ℕ} {kind : ℕ} {e : List ℕ} (n : ℕ) → Searching file kind e → Begins (from n e) → Searching file kind (from n e)

@@ -12,6 +12,7 @@ use Rattle.judge.specs.File.{blockCount, patternOf}
 pub record TermBlock (b : List ℕ) : Type 0 where
   pub fitting : Fitting b
   pub term : Begins (firstEntries b)
+  pub whole : 4 * size (termOf (firstEntries b)) ≡ length (firstEntries b)
   pub short : firstCount b ≤ 63
 
 -- A block of kind 5 holds a premise, or none, and a conclusion, each of at most 63 entries.

@@ -4,12 +4,14 @@ use mathlib.Core.Bool.{Bool, true, false}
 use mathlib.Core.List.{List, [], map, List·Memᴰ}
 use mathlib.Core.Logic.{_⊎_}
 use mathlib.Core.Option.{Option, none, some}
-use Prim.Native.Nat.{ℕ, zero, suc, _+_, _%_, _<_, _≤_}
+use Prim.Native.Nat.{ℕ, zero, suc, _+_, _*_, _%_, _<_, _≤_}
 use lib.ListN.{length, getD, drop}
 use Rattle.blocks.specs.Block.{blockAt, kindOf, firstEntries}
 use Rattle.terms.specs.Term.{Term, Variable, asTerm, replace}
 use Rattle.terms.specs.Instance.{Matches, Share}
-use Rattle.terms.specs.Entry.{Begins, tagAt, valueAt}
+use Rattle.terms.specs.Entry.{Begins, termOf, size, tagAt, valueAt}
+use Rattle.terms.specs.TermGraph.{SizesOf}
+use Rattle.terms.specs.WalkLaws.{from}
 use Rattle.terms.specs.Decisions.{dec-map}
 use Rattle.terms.specs.Search.{any?}
 use Rattle.terms.specs.declared.valid.Found.{Found}
@@ -82,6 +84,11 @@ pub record Searching (file : List ℕ) (kind : ℕ) (e : List ℕ) : Type 0 wher
   pub term : Begins e
   pub short : length e ≤ 252
 
+-- The term that e begins with has n entries.
+pub record SizeOf (e : List ℕ) (n : ℕ) : Type 0 where
+  pub is : n ≡ size (termOf e)
+  pub fits : 4 * n ≤ length e
+
 -- The slot of a root, by its tag, its value and the value of the entry after it. Atoms, pairs and encryptions have 128
 -- slots each, by the root's value; for a pair by that of its left half's root, which is the entry after it. Variables have
 -- 16.
@@ -128,10 +135,25 @@ pub record NoRoot (roots e : List ℕ) : Type 0 where
   pub left-symbol : tagAt e ≡ 2 → tagAt (drop 4 e) ≤ 3
   pub absent : getD roots (slotAt e) 0 ≡ 0
 
+-- Block i lists a term.
+pub record ListsTerm (file : List ℕ) (i : ℕ) : Type 0 where
+  pub low : 2 ≤ kindOf (blockAt file i)
+  pub high : kindOf (blockAt file i) ≤ 4
+
+-- The table has the sizes of the terms that the first n blocks list, those of block i from 64 * i on.
+pub record SizesBelow (file : List ℕ) (n : ℕ) (sizes : List ℕ) : Type 0 where
+  pub long : length sizes ≡ 4096
+  pub at : (i : ℕ) → i < n → ListsTerm file i → SizesOf (firstEntries (blockAt file i)) (from (64 * i) sizes)
+
+-- It has those of all blocks.
+abbrev pub SizesIn : List ℕ → List ℕ → Type 0
+SizesIn file sizes = SizesBelow file (blockCount file) sizes
+
 -- The entries are those of the term of block i.
 pub record TermPart (file : List ℕ) (i : ℕ) (e : List ℕ) : Type 0 where
   pub part : e ≡ firstEntries (blockAt file i)
   pub term : Begins e
+  pub whole : 4 * size (termOf e) ≡ length e
   pub short : length e ≤ 252
 
 -- A fault, if a test tells of one.

@@ -9,12 +9,12 @@ ghost use Rattle.blocks.specs.Block.{firstEntries, secondEntries};
 ghost use Rattle.terms.specs.Entry.{Begins, termOf, size};
 ghost use Rattle.terms.specs.Instance.{Matches};
 ghost use Rattle.terms.specs.Solve.{Says};
-ghost use Rattle.terms.specs.TermGraph.{SizedFrom};
+ghost use Rattle.terms.specs.TermGraph.{SizesOf};
 ghost use Rattle.judge.specs.File.{blockCount, certificateOf, ruleOf};
 ghost use Rattle.judge.specs.Laid.{Laid, RuleBlock};
 ghost use Rattle.judge.specs.Cover.{NoHat, Risky};
 ghost use Rattle.judge.specs.Verdict as verdicts;
-ghost use Rattle.judge.specs.Listed.{HoldsAt, AnyListed, Searching, IsSecret, SharesBad, RootsOf, slotAt};
+ghost use Rattle.judge.specs.Listed.{HoldsAt, AnyListed, Searching, IsSecret, SharesBad, RootsOf, SizesIn, slotAt};
 ghost use Rattle.judge.specs.CoverEntries.{subAt, On, Raised, Cleared, MarkOver, Laying, Standing, HatOver, HatBelow, Flags, Entries, OpenAmong, OpenFlags};
 ghost use Rattle.judge.specs.CoverEntries.{ClosedBelow, Flagged, FlaggedWith, SomeFlagged, IndexedBelow, Indexed, Remembered, RiskyEntry, Wanted, WantedEntry, Concluded};
 use crate::flag;
@@ -88,8 +88,15 @@ fn marked_places(file: &[u8], e: &[u8], h: usize) -> [u8; 64]
 }
 
 // Does the encryption at entry h share an instance with a bad pattern? The answer is remembered.
-fn shares_bad(file: &[u8], e: &[u8], h: usize, shared: &mut [u8; 64]) -> bool
-    requires { ⌜ Standing (now file) (now e) h × Remembered (SharesBad (certificateOf (now file))) (now e) (now shared) ⌝ }
+fn shares_bad(
+    file: &[u8],
+    sizes: &[u8; 4096],
+    e: &[u8],
+    z: &[u8; 64],
+    h: usize,
+    shared: &mut [u8; 64],
+) -> bool
+    requires { ⌜ Standing (now file) (now e) h × Remembered (SharesBad (certificateOf (now file))) (now e) (now shared) × SizesIn (now file) (now sizes) × SizesOf (now e) (now z) ⌝ }
     ensures answer { λ r. ⌜ Says r (SharesBad (certificateOf (now (file .entry))) (subAt (now (e .entry)) h)) ⌝ }
     ensures memo { λ _. ⌜ Remembered (SharesBad (certificateOf (now (file .entry)))) (now (e .entry)) (now (shared .exit)) ⌝ }
 {
@@ -100,18 +107,27 @@ fn shares_bad(file: &[u8], e: &[u8], h: usize, shared: &mut [u8; 64]) -> bool
     if known == 2 {
         return false;
     }
-    let answer = listed::shares_listed(file, 4, &e[4 * h..]);
+    let part = &z[..];
+    let answer = listed::shares_listed(file, sizes, 4, &e[4 * h..], &part[h..]);
     shared[h] = flag::told(answer);
     answer
 }
 
 // Puts the flags off for which the encryption at entry h is a sure hat.
-fn take_hat(file: &[u8], e: &[u8], h: usize, shared: &mut [u8; 64], bare: &mut [u8; 64])
-    requires { ⌜ Standing (now file) (now e) h × Remembered (SharesBad (certificateOf (now file))) (now e) (now shared) × (length (now bare) ≡ 64) ⌝ }
+fn take_hat(
+    file: &[u8],
+    sizes: &[u8; 4096],
+    e: &[u8],
+    z: &[u8; 64],
+    h: usize,
+    shared: &mut [u8; 64],
+    bare: &mut [u8; 64],
+)
+    requires { ⌜ Standing (now file) (now e) h × Remembered (SharesBad (certificateOf (now file))) (now e) (now shared) × (length (now bare) ≡ 64) × SizesIn (now file) (now sizes) × SizesOf (now e) (now z) ⌝ }
     ensures memo { λ _. ⌜ Remembered (SharesBad (certificateOf (now (file .entry)))) (now (e .entry)) (now (shared .exit)) ⌝ }
     ensures flags { λ _. ⌜ Cleared (now (bare .entry)) (now (bare .exit)) (HatOver (certificateOf (now (file .entry))) (subAt (now (e .entry)) h) h) ⌝ }
 {
-    if !shares_bad(file, e, h, shared) {
+    if !shares_bad(file, sizes, e, z, h, shared) {
         let marked = marked_places(file, e, h);
         flag::clear(bare, &marked);
     }
@@ -120,26 +136,27 @@ fn take_hat(file: &[u8], e: &[u8], h: usize, shared: &mut [u8; 64], bare: &mut [
 // The same for any entry h: only an encryption with flags on below it is asked. `z` has the sizes.
 fn take_below(
     file: &[u8],
+    sizes: &[u8; 4096],
     e: &[u8],
-    z: &[u8; 128],
+    z: &[u8; 64],
     h: usize,
     shared: &mut [u8; 64],
     bare: &mut [u8; 64],
 )
-    requires { ⌜ Standing (now file) (now e) h × SizedFrom (now e) (now z) 0 0 × Remembered (SharesBad (certificateOf (now file))) (now e) (now shared) × (length (now bare) ≡ 64) ⌝ }
+    requires { ⌜ Standing (now file) (now e) h × SizesOf (now e) (now z) × Remembered (SharesBad (certificateOf (now file))) (now e) (now shared) × (length (now bare) ≡ 64) × SizesIn (now file) (now sizes) ⌝ }
     ensures memo { λ _. ⌜ Remembered (SharesBad (certificateOf (now (file .entry)))) (now (e .entry)) (now (shared .exit)) ⌝ }
     ensures flags { λ _. ⌜ Cleared (now (bare .entry)) (now (bare .exit)) (HatOver (certificateOf (now (file .entry))) (subAt (now (e .entry)) h) h) ⌝ }
 {
     if e[4 * h] == 3 {
         if flag::some_on(bare, h + 1, entry::end_of(e, z, h)) {
-            take_hat(file, e, h, shared, bare);
+            take_hat(file, sizes, e, z, h, shared, bare);
         }
     }
 }
 
 // Puts the flags off for which there is a sure hat.
-fn take_hats(file: &[u8], e: &[u8], shared: &mut [u8; 64], bare: &mut [u8; 64])
-    requires { ⌜ Concluded (now file) (now e) × Remembered (SharesBad (certificateOf (now file))) (now e) (now shared) × (length (now bare) ≡ 64) ⌝ }
+fn take_hats(file: &[u8], sizes: &[u8; 4096], e: &[u8], shared: &mut [u8; 64], bare: &mut [u8; 64])
+    requires { ⌜ Concluded (now file) (now e) × Remembered (SharesBad (certificateOf (now file))) (now e) (now shared) × (length (now bare) ≡ 64) × SizesIn (now file) (now sizes) ⌝ }
     ensures memo { λ _. ⌜ Remembered (SharesBad (certificateOf (now (file .entry)))) (now (e .entry)) (now (shared .exit)) ⌝ }
     ensures flags { λ _. ⌜ Cleared (now (bare .entry)) (now (bare .exit)) (HatBelow (certificateOf (now (file .entry))) (now (e .entry)) (size (termOf (now (e .entry))))) ⌝ }
 {
@@ -147,17 +164,17 @@ fn take_hats(file: &[u8], e: &[u8], shared: &mut [u8; 64], bare: &mut [u8; 64])
     let count = e.len() / 4;
     let mut h = 0;
     while h < count {
-        take_below(file, e, &z, h, shared, bare);
+        take_below(file, sizes, e, &z, h, shared, bare);
         h += 1;
     }
 }
 
 // Is the term such that an open place may have it above?
-fn no_hat(file: &[u8], t: &[u8]) -> bool
-    requires { ⌜ Searching (now file) 3 (now t) ⌝ }
+fn no_hat(file: &[u8], sizes: &[u8; 4096], t: &[u8], z: &[u8]) -> bool
+    requires { ⌜ Searching (now file) 3 (now t) × SizesIn (now file) (now sizes) × SizesOf (now t) (now z) ⌝ }
     ensures { λ r. ⌜ Says r (NoHat (certificateOf (now (file .entry))) (termOf (now (t .entry)))) ⌝ }
 {
-    if listed::shares_listed(file, 3, t) {
+    if listed::shares_listed(file, sizes, 3, t, z) {
         listed::is_listed_match(file, 4, t)
     } else {
         true
@@ -165,8 +182,15 @@ fn no_hat(file: &[u8], t: &[u8]) -> bool
 }
 
 // The same of the encryption at entry h. The answer is remembered.
-fn no_hat_at(file: &[u8], e: &[u8], h: usize, above: &mut [u8; 64]) -> bool
-    requires { ⌜ Standing (now file) (now e) h × Remembered (NoHat (certificateOf (now file))) (now e) (now above) ⌝ }
+fn no_hat_at(
+    file: &[u8],
+    sizes: &[u8; 4096],
+    e: &[u8],
+    z: &[u8; 64],
+    h: usize,
+    above: &mut [u8; 64],
+) -> bool
+    requires { ⌜ Standing (now file) (now e) h × Remembered (NoHat (certificateOf (now file))) (now e) (now above) × SizesIn (now file) (now sizes) × SizesOf (now e) (now z) ⌝ }
     ensures answer { λ r. ⌜ Says r (NoHat (certificateOf (now (file .entry))) (subAt (now (e .entry)) h)) ⌝ }
     ensures memo { λ _. ⌜ Remembered (NoHat (certificateOf (now (file .entry)))) (now (e .entry)) (now (above .exit)) ⌝ }
 {
@@ -177,7 +201,8 @@ fn no_hat_at(file: &[u8], e: &[u8], h: usize, above: &mut [u8; 64]) -> bool
     if known == 2 {
         return false;
     }
-    let answer = no_hat(file, &e[4 * h..]);
+    let part = &z[..];
+    let answer = no_hat(file, sizes, &e[4 * h..], &part[h..]);
     above[h] = flag::told(answer);
     answer
 }
@@ -185,17 +210,20 @@ fn no_hat_at(file: &[u8], e: &[u8], h: usize, above: &mut [u8; 64]) -> bool
 // Closes the entries strictly below the encryption at entry h, if no open place may have it above, up to the end of its term.
 fn close_under(
     file: &[u8],
+    sizes: &[u8; 4096],
     e: &[u8],
+    z: &[u8; 64],
     h: usize,
     end: usize,
     above: &mut [u8; 64],
     opened: &mut [u8; 64],
 )
-    requires { ⌜ Standing (now file) (now e) h × Remembered (NoHat (certificateOf (now file))) (now e) (now above) × (length (now opened) ≡ 64) × (getD (now e) (4 * h) 0 ≡ 3) × (end ≡ h + size (subAt (now e) h)) ⌝ }
+    requires { ⌜ Standing (now file) (now e) h × Remembered (NoHat (certificateOf (now file))) (now e) (now above) × (length (now opened) ≡ 64) × (getD (now e) (4 * h) 0 ≡ 3) × (end ≡ h + size (subAt (now e) h))
+        × SizesIn (now file) (now sizes) × SizesOf (now e) (now z) ⌝ }
     ensures memo { λ _. ⌜ Remembered (NoHat (certificateOf (now (file .entry)))) (now (e .entry)) (now (above .exit)) ⌝ }
     ensures flags { λ _. ⌜ ClosedBelow (certificateOf (now (file .entry))) (now (opened .entry)) (now (opened .exit)) (now (e .entry)) h ⌝ }
 {
-    if !no_hat_at(file, e, h, above) {
+    if !no_hat_at(file, sizes, e, z, h, above) {
         flag::paint(opened, h + 1, end, 0);
     }
 }
@@ -203,27 +231,34 @@ fn close_under(
 // The same for any entry h: only an encryption with flags on below it is asked. `z` has the sizes.
 fn close_below(
     file: &[u8],
+    sizes: &[u8; 4096],
     e: &[u8],
-    z: &[u8; 128],
+    z: &[u8; 64],
     h: usize,
     above: &mut [u8; 64],
     opened: &mut [u8; 64],
 )
-    requires { ⌜ Standing (now file) (now e) h × SizedFrom (now e) (now z) 0 0 × Remembered (NoHat (certificateOf (now file))) (now e) (now above) × (length (now opened) ≡ 64) ⌝ }
+    requires { ⌜ Standing (now file) (now e) h × SizesOf (now e) (now z) × Remembered (NoHat (certificateOf (now file))) (now e) (now above) × (length (now opened) ≡ 64) × SizesIn (now file) (now sizes) ⌝ }
     ensures memo { λ _. ⌜ Remembered (NoHat (certificateOf (now (file .entry)))) (now (e .entry)) (now (above .exit)) ⌝ }
     ensures flags { λ _. ⌜ ClosedBelow (certificateOf (now (file .entry))) (now (opened .entry)) (now (opened .exit)) (now (e .entry)) h ⌝ }
 {
     if e[4 * h] == 3 {
         let end = entry::end_of(e, z, h);
         if flag::some_on(opened, h + 1, end) {
-            close_under(file, e, h, end, above, opened);
+            close_under(file, sizes, e, z, h, end, above, opened);
         }
     }
 }
 
 // Puts the flags off of the entries that are not open places of e's term.
-fn close_places(file: &[u8], e: &[u8], above: &mut [u8; 64], opened: &mut [u8; 64])
-    requires { ⌜ Concluded (now file) (now e) × Remembered (NoHat (certificateOf (now file))) (now e) (now above) × Flagged (now e) (now opened) ⌝ }
+fn close_places(
+    file: &[u8],
+    sizes: &[u8; 4096],
+    e: &[u8],
+    above: &mut [u8; 64],
+    opened: &mut [u8; 64],
+)
+    requires { ⌜ Concluded (now file) (now e) × Remembered (NoHat (certificateOf (now file))) (now e) (now above) × Flagged (now e) (now opened) × SizesIn (now file) (now sizes) ⌝ }
     ensures memo { λ _. ⌜ Remembered (NoHat (certificateOf (now (file .entry)))) (now (e .entry)) (now (above .exit)) ⌝ }
     ensures flags { λ _. ⌜ OpenAmong (certificateOf (now (file .entry))) (now (e .entry)) (now (opened .entry)) (size (termOf (now (e .entry)))) (now (opened .exit)) ⌝ }
 {
@@ -231,20 +266,26 @@ fn close_places(file: &[u8], e: &[u8], above: &mut [u8; 64], opened: &mut [u8; 6
     let count = e.len() / 4;
     let mut h = 0;
     while h < count {
-        close_below(file, e, &z, h, above, opened);
+        close_below(file, sizes, e, &z, h, above, opened);
         h += 1;
     }
 }
 
 // Of the wanted entries of e's term, those that are open places.
-fn open_places(file: &[u8], e: &[u8], above: &mut [u8; 64], wanted: [u8; 64]) -> [u8; 64]
-    requires { ⌜ Laid (now file) × Flagged (now e) wanted × Remembered (NoHat (certificateOf (now file))) (now e) (now above) ⌝ }
+fn open_places(
+    file: &[u8],
+    sizes: &[u8; 4096],
+    e: &[u8],
+    above: &mut [u8; 64],
+    wanted: [u8; 64],
+) -> [u8; 64]
+    requires { ⌜ Laid (now file) × Flagged (now e) wanted × Remembered (NoHat (certificateOf (now file))) (now e) (now above) × SizesIn (now file) (now sizes) ⌝ }
     ensures memo { λ _. ⌜ Remembered (NoHat (certificateOf (now (file .entry)))) (now (e .entry)) (now (above .exit)) ⌝ }
     ensures flags { λ r. ⌜ OpenFlags (certificateOf (now (file .entry))) (now (e .entry)) wanted r ⌝ }
 {
     let mut opened = wanted;
     if flag::some_on(&opened, 0, 64) {
-        close_places(file, e, above, &mut opened);
+        close_places(file, sizes, e, above, &mut opened);
     }
     opened
 }
@@ -482,18 +523,19 @@ fn bare_places(premise: &[u8], opened: &[u8; 64], conclusion: &[u8], risky: &[u8
 
 // The first place of a rule's conclusion that is risky and not covered; nothing where the rule is dead. Only what matters is
 // asked: whether an entry of the premise is open if a secret or a risky subterm stands there, and whether there is a sure
-// hat for a risky entry that stands at no open place. The roots of the secrets come flagged, and what is known of the
-// encryptions of the premise and the conclusion is handed in and on.
+// hat for a risky entry that stands at no open place. The roots of the secrets come flagged, the sizes of the listed terms
+// filled in, and what is known of the encryptions of the premise and the conclusion is handed in and on.
 pub fn uncovered(
     file: &[u8],
     roots: &[u8; 400],
+    sizes: &[u8; 4096],
     above: &mut [u8; 64],
     shared: &mut [u8; 64],
     block: &[u8],
 ) -> Found
     requires { ⌜ Laid (now file) × RuleBlock (now block) × RootsOf (now file) (now roots)
         × Remembered (NoHat (certificateOf (now file))) (firstEntries (now block)) (now above)
-        × Remembered (SharesBad (certificateOf (now file))) (secondEntries (now block)) (now shared) ⌝ }
+        × Remembered (SharesBad (certificateOf (now file))) (secondEntries (now block)) (now shared) × SizesIn (now file) (now sizes) ⌝ }
     ensures premise { λ _. ⌜ Remembered (NoHat (certificateOf (now (file .entry)))) (firstEntries (now (block .entry))) (now (above .exit)) ⌝ }
     ensures conclusion { λ _. ⌜ Remembered (SharesBad (certificateOf (now (file .entry)))) (secondEntries (now (block .entry))) (now (shared .exit)) ⌝ }
     ensures answer { λ r. ⌜ r ≡ verdicts.uncovered (certificateOf (now (file .entry))) (ruleOf (now (block .entry))) ⌝ }
@@ -502,11 +544,11 @@ pub fn uncovered(
     let conclusion = blocks::second_entries(block);
     let risky = risky_places(file, roots, conclusion);
     let wanted = wanted_places(file, roots, premise, conclusion, &risky);
-    let opened = open_places(file, premise, above, wanted);
+    let opened = open_places(file, sizes, premise, above, wanted);
     if is_dead(file, roots, premise, &opened) {
         return Found::Nothing;
     }
     let mut bare = bare_places(premise, &opened, conclusion, &risky);
-    take_hats(file, conclusion, shared, &mut bare);
+    take_hats(file, sizes, conclusion, shared, &mut bare);
     flag::first_on(&bare, conclusion.len() / 4)
 }

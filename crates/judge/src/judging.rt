@@ -7,7 +7,7 @@ ghost use Rattle.judge.specs.File.{blockCount, certificateOf, ruleOf};
 ghost use Rattle.judge.specs.Laid.{Laid};
 ghost use Rattle.judge.specs.Judgement.{judgedOf, OnlyRulesFrom, Heads};
 ghost use Rattle.judge.specs.Cover.{NoHat};
-ghost use Rattle.judge.specs.Listed.{RootsOf, SharesBad};
+ghost use Rattle.judge.specs.Listed.{RootsOf, SharesBad, SizesIn};
 ghost use Rattle.judge.specs.CoverEntries.{AfterRule, Before, Repeats};
 ghost use Rattle.judge.specs.Verdict as verdicts;
 ghost use Rattle.judge.specs.Verdict.{onKind, uncoveredRule, ruleFault, certificateFault, faultOf, verdictOf};
@@ -96,20 +96,22 @@ fn uncovered_in(
     file: &[u8],
     head: &[u8],
     roots: &[u8; 400],
+    sizes: &[u8; 4096],
     above: &mut [u8; 64],
     shared: &mut [u8; 64],
     i: usize,
 ) -> Found
     requires { ⌜ Laid (now file) × (i < blockCount (now file)) × (kindOf (blockAt (now file) i) ≡ 5) × Laid (now head) × RootsOf (now head) (now roots)
         × Before firstEntries (NoHat (certificateOf (now head))) (now file) i (now above)
-        × Before secondEntries (SharesBad (certificateOf (now head))) (now file) i (now shared) ⌝ }
+        × Before secondEntries (SharesBad (certificateOf (now head))) (now file) i (now shared)
+        × SizesIn (now head) (now sizes) ⌝ }
     ensures answer { λ r. ⌜ r ≡ verdicts.uncovered (certificateOf (now (head .entry))) (ruleOf (blockAt (now (file .entry)) i)) ⌝ }
     ensures premise { λ _. ⌜ Before firstEntries (NoHat (certificateOf (now (head .entry)))) (now (file .entry)) (i + 1) (now (above .exit)) ⌝ }
     ensures conclusion { λ _. ⌜ Before secondEntries (SharesBad (certificateOf (now (head .entry)))) (now (file .entry)) (i + 1) (now (shared .exit)) ⌝ }
 {
     flag::renew(above, repeats_premise(file, i));
     flag::renew(shared, repeats_conclusion(file, i));
-    cover::uncovered(head, roots, above, shared, blocks::block(file, i))
+    cover::uncovered(head, roots, sizes, above, shared, blocks::block(file, i))
 }
 
 // Number 12 at block i, if it is a rule.
@@ -117,13 +119,15 @@ fn uncovered_at(
     file: &[u8],
     head: &[u8],
     roots: &[u8; 400],
+    sizes: &[u8; 4096],
     above: &mut [u8; 64],
     shared: &mut [u8; 64],
     i: usize,
 ) -> Judged
     requires { ⌜ Laid (now file) × (i < blockCount (now file)) × Heads (now head) (now file) × RootsOf (now head) (now roots)
         × Before firstEntries (NoHat (certificateOf (now head))) (now file) i (now above)
-        × Before secondEntries (SharesBad (certificateOf (now head))) (now file) i (now shared) ⌝ }
+        × Before secondEntries (SharesBad (certificateOf (now head))) (now file) i (now shared)
+        × SizesIn (now head) (now sizes) ⌝ }
     ensures answer { λ r. ⌜ r ≡ judgedOf (onKind 5 (uncoveredRule (certificateOf (now (file .entry)))) (now (file .entry)) i) ⌝ }
     ensures premise { λ _. ⌜ Before firstEntries (NoHat (certificateOf (now (head .entry)))) (now (file .entry)) (i + 1) (now (above .exit)) ⌝ }
     ensures conclusion { λ _. ⌜ Before secondEntries (SharesBad (certificateOf (now (head .entry)))) (now (file .entry)) (i + 1) (now (shared .exit)) ⌝ }
@@ -132,7 +136,7 @@ fn uncovered_at(
     if blocks::kind(block) != 5 {
         return Judged::Fine;
     }
-    match uncovered_in(file, head, roots, above, shared, i) {
+    match uncovered_in(file, head, roots, sizes, above, shared, i) {
         Found::At(k) => Judged::Faulty(Fault::Uncovered(
             i as u8,
             (blocks::first_count(block) + k) as u8,
@@ -149,12 +153,13 @@ fn rule_fault(file: &[u8]) -> Judged
     let n = leading(file);
     let head = &file[0..512 * n];
     let roots = listed::secret_roots(head);
+    let sizes = listed::listed_sizes(head);
     let count = file.len() / 512;
     let mut above = [0u8; 64];
     let mut shared = [0u8; 64];
     let mut i = 0;
     while i < count {
-        match uncovered_at(file, head, &roots, &mut above, &mut shared, i) {
+        match uncovered_at(file, head, &roots, &sizes, &mut above, &mut shared, i) {
             Judged::Faulty(f) => return Judged::Faulty(f),
             Judged::Fine => i += 1,
         }

@@ -2,13 +2,14 @@
 ghost use mathlib.Core.Path.{_≡_};
 ghost use mathlib.Core.Bool.{false};
 ghost use mathlib.Core.Logic.{_↔_};
-ghost use Prim.Native.Nat.{_*_, _<_, _≤_};
+ghost use Prim.Native.Nat.{_+_, _*_, _<_, _≤_};
 ghost use lib.ListN.{length};
 ghost use Rattle.blocks.specs.Block.{blockAt, kindOf, firstEntries};
 ghost use Rattle.terms.specs.Term.{Message, atom, asTerm};
 ghost use Rattle.terms.specs.Instance.{Matches, Share};
 ghost use Rattle.terms.specs.Entry.{Begins, termOf};
 ghost use Rattle.terms.specs.OneTerm.{IsEncryption};
+ghost use Rattle.terms.specs.TermGraph.{SizesOf};
 ghost use Rattle.terms.specs.Solve.{Says};
 ghost use Rattle.terms.specs.Decide.{answer};
 ghost use Rattle.judge.specs.Certificate.{Secret, inverse};
@@ -17,7 +18,7 @@ ghost use Rattle.judge.specs.Laid.{Laid, TermBlock};
 ghost use Rattle.judge.specs.Conditions.{KnownAtom, WeaklyClosed, KeptKey};
 ghost use Rattle.judge.specs.Verdict.{onKind, knownSecret, unclosedSecret, unkeptKey, knownFault, closedFault, keyFault};
 ghost use Rattle.judge.specs.Listed.{HoldsAt, Searching, TermPart, matches-listed?, shares-listed?, is-secret?, faultIf, faultFound, Inside};
-ghost use Rattle.judge.specs.Listed.{slotAt, FlaggedMore, RootsOf, NoRoot};
+ghost use Rattle.judge.specs.Listed.{slotAt, FlaggedMore, RootsOf, NoRoot, ListsTerm, SizesBelow, SizesIn, SizeOf};
 ghost use Rattle.judge.specs.declared.verdict.Fault.the-variants.{KnownSecret, NotClosed, KeyNotKept};
 use terms::entry;
 use terms::matching;
@@ -82,27 +83,28 @@ pub fn is_listed_match(file: &[u8], kind: u8, e: &[u8]) -> bool
 }
 
 // Does block i, if it is of this kind, hold a term that shares an instance with e's term?
-fn shares_at(file: &[u8], i: usize, kind: u8, e: &[u8]) -> bool
-    requires { ⌜ Searching (now file) kind (now e) × (i < blockCount (now file)) ⌝ }
+fn shares_at(file: &[u8], sizes: &[u8; 4096], i: usize, kind: u8, e: &[u8], z: &[u8]) -> bool
+    requires { ⌜ Searching (now file) kind (now e) × (i < blockCount (now file)) × SizesIn (now file) (now sizes) × SizesOf (now e) (now z) ⌝ }
     ensures { λ r. ⌜ Says r (HoldsAt (now (file .entry)) kind (λ p. Share p (termOf (now (e .entry)))) i) ⌝ }
 {
     if is_kind(file, i, kind) {
-        sharing::shares(term_at(file, i), e)
+        let all = &sizes[..];
+        sharing::shares(term_at(file, i), e, &all[64 * i..], z)
     } else {
         false
     }
 }
 
 // Does some listed term of this kind share an instance with the term that e begins with? Asked from the last block back to
-// the first of a lower kind.
-pub fn shares_listed(file: &[u8], kind: u8, e: &[u8]) -> bool
-    requires { ⌜ Searching (now file) kind (now e) ⌝ }
+// the first of a lower kind. `sizes` has the sizes of the listed terms, and z those of e's.
+pub fn shares_listed(file: &[u8], sizes: &[u8; 4096], kind: u8, e: &[u8], z: &[u8]) -> bool
+    requires { ⌜ Searching (now file) kind (now e) × SizesIn (now file) (now sizes) × SizesOf (now e) (now z) ⌝ }
     ensures { λ r. ⌜ r ≡ answer (shares-listed? (certificateOf (now (file .entry))) kind (termOf (now (e .entry)))) ⌝ }
 {
     let count = file.len() / 512;
     let mut left = count;
     while 0 < left {
-        if shares_at(file, left - 1, kind, e) {
+        if shares_at(file, sizes, left - 1, kind, e, z) {
             return true;
         }
         if kind_at(file, left - 1) < kind {
@@ -113,13 +115,17 @@ pub fn shares_listed(file: &[u8], kind: u8, e: &[u8]) -> bool
     false
 }
 
-// Is block i a secret's, and its secret e's term, symbol for symbol?
-fn same_at(file: &[u8], i: usize, e: &[u8]) -> bool
-    requires { ⌜ Searching (now file) 2 (now e) × (i < blockCount (now file)) ⌝ }
+// Is block i a secret's, and its secret e's term, which has n entries, symbol for symbol?
+fn same_at(file: &[u8], i: usize, e: &[u8], n: usize) -> bool
+    requires { ⌜ Searching (now file) 2 (now e) × (i < blockCount (now file)) × SizeOf (now e) n ⌝ }
     ensures { λ r. ⌜ Says r (HoldsAt (now (file .entry)) 2 (λ p. p ≡ termOf (now (e .entry))) i) ⌝ }
 {
     if is_kind(file, i, 2) {
-        matching::same(term_at(file, i), e)
+        let secret = term_at(file, i);
+        if secret.len() != 4 * n {
+            return false;
+        }
+        matching::same(secret, e)
     } else {
         false
     }
@@ -131,10 +137,11 @@ pub fn is_listed_secret(file: &[u8], e: &[u8]) -> bool
     requires { ⌜ Searching (now file) 2 (now e) ⌝ }
     ensures { λ r. ⌜ r ≡ answer (is-secret? (certificateOf (now (file .entry))) (termOf (now (e .entry)))) ⌝ }
 {
+    let n = entry::term_size(e);
     let count = file.len() / 512;
     let mut i = 0;
     while i < count {
-        if same_at(file, i, e) {
+        if same_at(file, i, e, n) {
             return true;
         }
         if 2 < kind_at(file, i) {
@@ -145,13 +152,18 @@ pub fn is_listed_secret(file: &[u8], e: &[u8]) -> bool
     false
 }
 
-// Is block i a secret's, and its secret an instance of e's term? A secret has no variables: they then share it.
-fn instance_at(file: &[u8], i: usize, e: &[u8]) -> bool
-    requires { ⌜ Searching (now file) 2 (now e) × (i < blockCount (now file)) ⌝ }
+// Is block i a secret's, and its secret an instance of e's term, which has n entries? A secret has no variables: they then
+// share it. An instance has no fewer entries.
+fn instance_at(file: &[u8], i: usize, e: &[u8], n: usize) -> bool
+    requires { ⌜ Searching (now file) 2 (now e) × (i < blockCount (now file)) × SizeOf (now e) n ⌝ }
     ensures { λ r. ⌜ Says r (HoldsAt (now (file .entry)) 2 (λ p. Share p (termOf (now (e .entry)))) i) ⌝ }
 {
     if is_kind(file, i, 2) {
-        matching::matches(e, term_at(file, i))
+        let secret = term_at(file, i);
+        if secret.len() < 4 * n {
+            return false;
+        }
+        matching::matches(e, secret)
     } else {
         false
     }
@@ -163,10 +175,11 @@ pub fn shares_secret(file: &[u8], e: &[u8]) -> bool
     requires { ⌜ Searching (now file) 2 (now e) ⌝ }
     ensures { λ r. ⌜ r ≡ answer (shares-listed? (certificateOf (now (file .entry))) 2 (termOf (now (e .entry)))) ⌝ }
 {
+    let n = entry::term_size(e);
     let count = file.len() / 512;
     let mut i = 0;
     while i < count {
-        if instance_at(file, i, e) {
+        if instance_at(file, i, e, n) {
             return true;
         }
         if 2 < kind_at(file, i) {
@@ -175,6 +188,46 @@ pub fn shares_secret(file: &[u8], e: &[u8]) -> bool
         i += 1;
     }
     false
+}
+
+// Does block i list a term?
+fn lists_term(file: &[u8], i: usize) -> bool
+    requires { ⌜ i < blockCount (now file) ⌝ }
+    ensures { λ r. ⌜ Says r (ListsTerm (now (file .entry)) i) ⌝ }
+{
+    let kind = kind_at(file, i);
+    if kind < 2 {
+        return false;
+    }
+    if 4 < kind {
+        return false;
+    }
+    true
+}
+
+// Fills in the sizes of block i's terms, if it lists one.
+fn size_block(file: &[u8], i: usize, sizes: &mut [u8; 4096])
+    requires { ⌜ Laid (now file) × (i < blockCount (now file)) × SizesBelow (now file) i (now sizes) ⌝ }
+    ensures { λ _. ⌜ SizesBelow (now (file .entry)) (i + 1) (now (sizes .exit)) ⌝ }
+{
+    if lists_term(file, i) {
+        entry::fill_sizes(term_at(file, i), sizes, 64 * i);
+    }
+}
+
+// The sizes of all listed terms, those of block i from 64 * i on.
+pub fn listed_sizes(file: &[u8]) -> [u8; 4096]
+    requires { ⌜ Laid (now file) ⌝ }
+    ensures { λ r. ⌜ SizesIn (now (file .entry)) r ⌝ }
+{
+    let mut sizes = [0u8; 4096];
+    let count = file.len() / 512;
+    let mut i = 0;
+    while i < count {
+        size_block(file, i, &mut sizes);
+        i += 1;
+    }
+    sizes
 }
 
 // The slot of the root of the term that e begins with. Atoms, pairs and encryptions have 128 slots each, by the root's

@@ -1,4 +1,5 @@
 // The term layer's tests for programs in other languages: any bytes are taken, and what is no term is said to be none.
+use terms::entry::sizes;
 use terms::matching::matches;
 use terms::matching::same;
 use terms::sharing::shares;
@@ -39,7 +40,7 @@ pub extern "C" fn zepayong_shares(s: &[u8], t: &[u8]) -> u32
 {
     if is_term(s) {
         if is_term(t) {
-            return number(shares(s, t));
+            return number(shares(s, t, &sizes(s), &sizes(t)));
         }
     }
     2

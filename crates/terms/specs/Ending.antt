@@ -3,27 +3,30 @@
 use mathlib.Core.Path.{_≡_, refl, sym, ap, _∙_, subst}
 use mathlib.Core.Bool.{Bool, true, false, true≢false, false≢true}
 use mathlib.Core.List.{List, [], _∷_}
-use mathlib.Core.Logic.{_⊎_, inl, inr}
+use mathlib.Core.Logic.{_⊎_, inl, inr, ⊎-elim}
 use Prim.Native.Nat.{ℕ, zero, suc, _+_, _-_, _/_, _<_, _≤_}
 use native.Mathlib.Omega.{arith}
 use native.Mathlib.Decide.{decLt, ℕ-discrete}
-use borrow.Author.Tests.{lt-ltb, le-ltb}
 use lib.ListN.{length, getD, set, length-set}
 use lib.Seq.{getD-set-same, getD-set-other}
 use Rattle.terms.specs.Term.{Message}
-use Rattle.terms.specs.Entry.{size, Begins}
-use Rattle.terms.specs.Graph.{free, Child, Valid, Respects, Classes, Finite, finite}
-use Rattle.terms.specs.GraphLaws.{falls}
-use Rattle.terms.specs.TermGraph.{TwoTerms, tagIn, nodeTag, nodeBy, nodeOf, firstChild, secondChild, nodeValue}
-use Rattle.terms.specs.TermGraphLaws.{pair-there, encryption-there}
+use Rattle.terms.specs.Entry.{size}
+use Rattle.terms.specs.Graph.{IsSymbol, Child, Valid, Respects, Finite, finite}
+use Rattle.terms.specs.GraphLaws.{falls, child-symbol}
+use Rattle.terms.specs.TermGraph.{TwoTerms, Inside, AtHome, HasChild, nodeTag, nodeBy, nodeOf, firstChild, secondChild, nodeValue}
+use Rattle.terms.specs.TermGraphLaws.{past-free, home-symbol, symbol-inside}
 use Rattle.terms.specs.UniteLaws.{node-by}
-use Rattle.terms.specs.Names.{nameOf}
+use Rattle.terms.specs.Names.{nameOf, Linked, name-named, name-home}
 
 -- ---- what the walk keeps
 
 -- Every way down from the children of node a ends.
 pub record ChildrenEnd (s t c : List ℕ) (a : ℕ) : Type 0 where
   pub child : (j : ℕ) → Child j (nodeOf s t a) → Finite (nodeOf s t) (nameOf c) j
+
+-- Every way down from node k ends, if it has children.
+pub record ParentEnds (s t c : List ℕ) (k : ℕ) : Type 0 where
+  pub parent : (j : ℕ) → Child j (nodeOf s t k) → Finite (nodeOf s t) (nameOf c) k
 
 -- From every class with a mark above 1 all ways down end.
 pub record Sound (s t c m : List ℕ) : Type 0 where
@@ -87,11 +90,6 @@ no-more-zeros (x ∷ m) (suc a) = let ih = no-more-zeros m a in omega arith
 
 -- ---- children of nodes
 
--- Nodes past the entries are free.
-past-free : (s t : List ℕ) (i : ℕ) → 128 ≤ i → nodeOf s t i ≡ free
-unfolding nodeOf nodeTag nodeBy
-past-free s t i h = simp (le-ltb i 64 (omega arith), le-ltb i 128 h)
-
 -- A node's children by its tag.
 module _ (s t : List ℕ) (i : ℕ) where
   childless : (nodeTag s t i ≡ 2 → ⊥) → (nodeTag s t i ≡ 3 → ⊥) → (j : ℕ) → Child j (nodeOf s t i) → ⊥
@@ -141,6 +139,10 @@ answer-map f w = record { long = w .long; ends = λ e. (f (w .ends e .0), w .end
 pub past-ends : (s t c : List ℕ) (i : ℕ) {a : ℕ} → a ≡ nameOf c i → 128 ≤ a → Finite (nodeOf s t) (nameOf c) i
 past-ends s t c i is high =
     finite (λ j child. absurd (subst (Child j) (past-free s t (nameOf c i) (subst (λ (n : ℕ). 128 ≤ n) is high)) child))
+
+-- A class whose name is an entry's node: a symbol stands there.
+pub symbol-there : {s t c : List ℕ} (i : ℕ) {a : ℕ} → Linked s t c → AtHome s t i → a ≡ nameOf c i → a < 128 → IsSymbol (nodeOf s t a)
+symbol-there {s} {t} i linked at-home is low = home-symbol (rw is (name-home linked i at-home)) low
 
 -- A class whose children end.
 pub class-ends : {s t c : List ℕ} (i : ℕ) {a : ℕ} → a ≡ nameOf c i → ChildrenEnd s t c a → Finite (nodeOf s t) (nameOf c) i
@@ -246,6 +248,21 @@ module _ {s t c : List ℕ} {a : ℕ} where
 
 -- ---- over all entries
 
+-- An entry with children is at home.
+pub parent-home : {s t : List ℕ} {k : ℕ} → Inside s t k → HasChild s t k → AtHome s t k
+unfolding nodeBy
+parent-home {s} {t} {k} there has = record {
+  small = omega (arith, there .low);
+  is = inr (⊎-elim (λ two. subst IsSymbol (sym (node-by s t k two)) tt) (λ three. subst IsSymbol (sym (node-by s t k three)) tt) has);
+}
+
+-- Every way down from an entry ends; or it has no children.
+pub parent-ends : {s t c : List ℕ} {k : ℕ} → Finite (nodeOf s t) (nameOf c) k → ParentEnds s t c k
+parent-ends f = record { parent = λ j child. f }
+
+pub no-parent : {s t c : List ℕ} {k : ℕ} → (nodeTag s t k ≡ 2 → ⊥) → (nodeTag s t k ≡ 3 → ⊥) → ParentEnds s t c k
+no-parent {s} {t} {k = k} no-pair no-encryption = record { parent = λ j child. absurd (childless s t k no-pair no-encryption j child) }
+
 -- Nothing is marked at the start.
 module _ (s t c m : List ℕ) (none : (a : ℕ) → a < 128 → getD m a 0 ≡ 0) where
   pub start-sound : Sound s t c m
@@ -254,43 +271,33 @@ module _ (s t c m : List ℕ) (none : (a : ℕ) → a < 128 → getD m a 0 ≡ 0
   pub start-below : (i : ℕ) → Below s t c m i
   start-below i = record { smaller = λ v valid respects a h one. let zero-there = none a h in absurd (omega arith) }
 
--- An entry past the last has no children.
-past-last : {e : List ℕ} → Begins e → (k : ℕ) → length e / 4 ≤ k → (tagIn e k ≡ 2 → ⊥) × (tagIn e k ≡ 3 → ⊥)
-past-last b k h =
-    (λ two. let p = pair-there k b two .is in omega (arith, p .left-fits), λ three. let p = encryption-there k b three .is in omega (arith, p .content-fits))
+-- The entries of each side stand at its nodes.
+module _ (s t : List ℕ) (two : TwoTerms s t) where
+  pub left-entries : EachFrom (Inside s t) 0 (length s / 4)
+  left-entries = record {
+    each = λ k h g. record { low = omega (arith, two .left-short); left = λ l. omega arith; right = λ l. absurd (omega (arith, two .left-short)) };
+  }
+
+  pub right-entries : EachFrom (Inside s t) 64 (64 + length t / 4)
+  right-entries = record {
+    each = λ k h g. record { low = omega (arith, two .right-short); left = λ l. absurd (omega arith); right = λ l. omega arith };
+  }
 
 -- A node with children is an entry of one of the terms.
 parent-inside : {s t : List ℕ} → TwoTerms s t → (a j : ℕ) → Child j (nodeOf s t a) → (a < length s / 4) ⊎ ((64 ≤ a) × (a < 64 + length t / 4))
-unfolding nodeTag
-parent-inside {s} {t} two a j child = elim (decLt a (length s / 4)) [
-  | yes l ↦ inl l
-  | no n ↦ elim (decLt a 64) [
-    | yes l ↦
-        let is : nodeTag s t a ≡ tagIn s a = simp (lt-ltb a 64 l) in
-        let none = past-last (two .left) a (omega arith) in
-        absurd (childless s t a (λ e. none .0 (sym is ∙ e)) (λ e. none .1 (sym is ∙ e)) j child)
-    | no m ↦ elim (decLt a (64 + length t / 4)) [
-      | yes l ↦ inr (omega arith, l)
-      | no o ↦ elim (decLt a 128) [
-        | yes l ↦
-            let is : nodeTag s t a ≡ tagIn t (a - 64) = simp (le-ltb a 64 (omega arith), lt-ltb a 128 l) in
-            let none = past-last (two .right) (a - 64) (omega arith) in
-            absurd (childless s t a (λ e. none .0 (sym is ∙ e)) (λ e. none .1 (sym is ∙ e)) j child)
-        | no p ↦ absurd (subst (Child j) (past-free s t a (omega arith)) child)
-      ]
-    ]
-  ]
-]
+parent-inside {s} {t} two a j child =
+    let there : Inside s t a = symbol-inside two {i = a} (child-symbol (nodeOf s t a) j child) in
+    elim (decLt a 64) [ yes l ↦ inl (omega (arith, there .left l)) | no n ↦ inr (omega arith, omega (arith, there .right (omega arith))) ]
 
 -- Where every way down from the entries ends, every way down does.
-pub all-finite : (s t c : List ℕ) → TwoTerms s t → Classes (nodeOf s t) (nameOf c) → EachFrom (Finite (nodeOf s t) (nameOf c)) 0 (length s / 4)
-    → EachFrom (Finite (nodeOf s t) (nameOf c)) 64 (64 + length t / 4) → (i : ℕ) → Finite (nodeOf s t) (nameOf c) i
-all-finite s t c two classes left right i = finite (λ j child. go j child (parent-inside two (nameOf c i) j child))
+pub all-finite : {s t c : List ℕ} → TwoTerms s t → Linked s t c → EachFrom (ParentEnds s t c) 0 (length s / 4)
+    → EachFrom (ParentEnds s t c) 64 (64 + length t / 4) → (i : ℕ) → Finite (nodeOf s t) (nameOf c) i
+all-finite {s} {t} {c} two linked left right i = finite (λ j child. go j child (parent-inside two (nameOf c i) j child))
   where
     of-name : (j : ℕ) → Child j (nodeOf s t (nameOf c i)) → Finite (nodeOf s t) (nameOf c) (nameOf c i) → Finite (nodeOf s t) (nameOf c) j
-    of-name j child (finite f) = f j (subst (λ (n : ℕ). Child j (nodeOf s t n)) (sym (classes .named i)) child)
+    of-name j child (finite f) = f j (subst (λ (n : ℕ). Child j (nodeOf s t n)) (sym (name-named linked i)) child)
 
     go : (j : ℕ) → Child j (nodeOf s t (nameOf c i)) → (nameOf c i < length s / 4) ⊎ ((64 ≤ nameOf c i) × (nameOf c i < 64 + length t / 4))
         → Finite (nodeOf s t) (nameOf c) j
-    go j child (inl l) = of-name j child (left .each (nameOf c i) (omega arith) l)
-    go j child (inr l) = of-name j child (right .each (nameOf c i) (l .0) (l .1))
+    go j child (inl l) = of-name j child (left .each (nameOf c i) (omega arith) l .parent j child)
+    go j child (inr l) = of-name j child (right .each (nameOf c i) (l .0) (l .1) .parent j child)

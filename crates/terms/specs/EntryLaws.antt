@@ -7,7 +7,7 @@ use Prim.Native.Nat.{ℕ, zero, suc, _+_, _*_, _<_, _≤_}
 use native.Mathlib.Omega.{arith}
 use lib.Dec.{ltb}
 use borrow.Author.Tests.{ltb-true}
-use lib.ListN.{length, drop, length-drop}
+use lib.ListN.{getD, length, drop, length-drop}
 use lib.Seq.{drop-drop}
 use Rattle.terms.specs.Term.{Term, Variable, variable, atom, pair, encrypted, plain, marked}
 use Rattle.terms.specs.Entry.{Symbol, atomSymbol, pairSymbol, encryptionSymbol, variableSymbol, childrenOf, symbolOf, numbered, before, beforeAll}
@@ -104,6 +104,23 @@ first {e} {t} {l} r = go e (r .is)
     go (a ∷ b ∷ []) r = absurd (none≢some _ r)
     go (a ∷ b ∷ c ∷ []) r = absurd (none≢some _ r)
     go (a ∷ b ∷ c ∷ d ∷ e) r = fromEntry e (t ∷ l) b a (c + 256 * d) r
+
+-- The second byte of an entry is zero.
+entry-zero : {r : List (Term Variable)} (z : ℕ) (s : Option Symbol) (o : Option (List (Term Variable))) → beforeAll (withZero z s) o ≡ some r → z ≡ 0
+unfolding withZero beforeAll
+entry-zero zero s o r = refl
+entry-zero (suc z) s o r = absurd (none≢some _ r)
+
+pub zero-byte : {e : List ℕ} {t : Term Variable} {l : List (Term Variable)} → Reads e (t ∷ l) → getD e 1 0 ≡ 0
+unfolding termsOf
+zero-byte {e} {t} {l} r = go e (r .is)
+  where
+    go : (e : List ℕ) → termsOf e ≡ some (t ∷ l) → getD e 1 0 ≡ 0
+    go [] r = nothing-read r
+    go (a ∷ []) r = absurd (none≢some _ r)
+    go (a ∷ b ∷ []) r = absurd (none≢some _ r)
+    go (a ∷ b ∷ c ∷ []) r = absurd (none≢some _ r)
+    go (a ∷ b ∷ c ∷ d ∷ e) r = entry-zero b (symbolOf a (c + 256 * d)) (termsOf e) r
 
 -- There is at least one entry.
 pub four : {e : List ℕ} {t : Term Variable} {l : List (Term Variable)} → Reads e (t ∷ l) → 4 ≤ length e

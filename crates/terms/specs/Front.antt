@@ -35,10 +35,13 @@ pub record SameFirst (e f : List ℕ) : Type 0 where
   pub tag : tagAt e ≡ tagAt f
   pub value : valueAt e ≡ valueAt f
 
--- Replacements make the first n terms of both the same.
-pub record Unified (n : ℕ) (e f : List ℕ) : Type 0 where
-  pub by : Variable → Term Variable
-  pub by′ : Variable → Term Variable
+-- The first entry as one number: tag, second byte and value.
+pub record Word (e : List ℕ) (n : ℕ) : Type 0 where
+  pub is : n ≡ tagAt e + 256 * getD e 1 0 + 65536 * valueAt e
+  pub low : tagAt e ≤ 255
+
+-- The replacements, one for each side, make the first n terms of both the same.
+pub record Alike (by by′ : Variable → Term Variable) (n : ℕ) (e f : List ℕ) : Type 0 where
   pub same : map (replace by) (frontOf n e) ≡ map (replace by′) (frontOf n f)
 
 -- With `need` terms to compare, the first `count` entries of both are the same symbols; behind them `left` terms are left.
@@ -48,7 +51,7 @@ pub record Ran (need : ℕ) (e f : List ℕ) (count left : ℕ) : Type 0 where
   pub front : Front left (from (4 * count) e)
   pub other-front : Front left (from (4 * count) f)
   pub takes : (by : Variable → Term Variable) → Takes by need e f ↔ Takes by left (from (4 * count) e) (from (4 * count) f)
-  pub unified : Unified need e f → Unified left (from (4 * count) e) (from (4 * count) f)
+  pub alike : (by by′ : Variable → Term Variable) → Alike by by′ need e f ↔ Alike by by′ left (from (4 * count) e) (from (4 * count) f)
 
 -- It goes on: a term is left, and both go on with the same symbol.
 pub record Goes (e f : List ℕ) (count left : ℕ) : Type 0 where

@@ -11,16 +11,15 @@ use borrow.Author.Tests.{eqb-true, eqb-false}
 use lib.ListN.{length, take, drop, length-drop}
 use lib.Seq.{drop-drop}
 use borrow.Rule.Slice.PartAt.{part-to-end}
-use Rattle.terms.specs.Term.{Term, Variable, variable, atom, pair, encrypted, plain, marked, replace, asTerm}
+use Rattle.terms.specs.Term.{Term, Variable, variable, atom, pair, encrypted, plain, marked, replace}
 use Rattle.terms.specs.Entry.{Symbol, atomSymbol, pairSymbol, encryptionSymbol, variableSymbol, tagOf, valueOf, before, termOf, tagAt, valueAt}
 use Rattle.terms.specs.Entry.{size, childrenOf, Reads, Begins}
 use Rattle.terms.specs.EntryLaws.{First, first-atom, first-pair, first-encrypted, first-plain, first-marked, first, none≢some, termOf-reads}
-use Rattle.terms.specs.EntryLaws.{past, fits, begins, size-positive}
+use Rattle.terms.specs.EntryLaws.{past, fits, begins, size-positive, zero-byte}
 use Rattle.terms.specs.WalkLaws.{from}
-use Rattle.terms.specs.Instance.{Share}
-use Rattle.terms.specs.Occurs.{replace-none, replace-twice}
+use Rattle.terms.specs.Occurs.{replace-none}
 use Rattle.terms.specs.Solve.{Says, says-same}
-use Rattle.terms.specs.Front.{Unified, frontOf, listOf, SameFirst, Front, Takes}
+use Rattle.terms.specs.Front.{Alike, Word, frontOf, listOf, SameFirst, Front, Takes}
 
 -- A part's part is a part.
 pub from-from : (a b : ℕ) (e : List ℕ) → from a (from b e) ≡ from (b + a) e
@@ -227,45 +226,47 @@ module _ (need : ℕ) {e f : List ℕ} (left : Front need e) (right : Front need
       let is : o .symbol ≡ u .symbol = cc (h .same) in
       off (record { tag = cc; value = cc })
 
--- A term against a term, and then the others, with replacements on both sides.
-pub unified-past : (need : ℕ) {e f : List ℕ} → Front need e → Front need f → ¬ (need ≡ 0) → Unified need e f
-    → Unified (need - 1) (from (4 * size (termOf e)) e) (from (4 * size (termOf f)) f)
-unified-past need left right some-left h =
-    let a = parted need left some-left .splits in
-    let b = parted need right some-left .splits in
-    let q = rw (a, b) at (h .same) in
-    record { by = h .by; by′ = h .by′; same = cc }
-
 -- The same for replacements on both sides.
-module _ (need : ℕ) {e f : List ℕ} (left : Front need e) (right : Front need f) (some-left : ¬ (need ≡ 0))
-    (keeps : (by : Variable → Term Variable) → KeepsFirst by e) (keeps′ : (by : Variable → Term Variable) → KeepsFirst by f) where
-  made : (by : Variable → Term Variable) → before (opened need left some-left .symbol) (map (replace by) (frontOf (next need e) (from 4 e)))
-      ≡ some (map (replace by) (frontOf need e))
-  made by = let o = opened need left some-left in before-replaced by (o .symbol) (kept o (parted need left some-left) (keeps by)) _ (o .makes)
+module _ (need : ℕ) {e f : List ℕ} (left : Front need e) (right : Front need f) (some-left : ¬ (need ≡ 0)) (by by′ : Variable → Term Variable) where
+  -- A term against a term, and then the others.
+  pub alike-term : Alike by by′ need e f
+      ↔ ((replace by (termOf e) ≡ replace by′ (termOf f)) × Alike by by′ (need - 1) (from (4 * size (termOf e)) e) (from (4 * size (termOf f)) f))
+  alike-term =
+      let a = parted need left some-left .splits in
+      let b = parted need right some-left .splits in
+      (λ h. (let q = rw (a, b) at (h .same) in (cc, record { same = cc })), λ h. record { same = rw (a, b) (cc (h .1 .same)) })
 
-  made′ : (by : Variable → Term Variable) → before (opened need right some-left .symbol) (map (replace by) (frontOf (next need f) (from 4 f)))
-      ≡ some (map (replace by) (frontOf need f))
-  made′ by = let o = opened need right some-left in before-replaced by (o .symbol) (kept o (parted need right some-left) (keeps′ by)) _ (o .makes)
+  -- Symbols that are no variables stand first.
+  module _ (keeps : KeepsFirst by e) (keeps′ : KeepsFirst by′ f) where
+    made : before (opened need left some-left .symbol) (map (replace by) (frontOf (next need e) (from 4 e))) ≡ some (map (replace by) (frontOf need e))
+    made = let o = opened need left some-left in before-replaced by (o .symbol) (kept o (parted need left some-left) keeps) _ (o .makes)
 
-  pub unified-symbol : SameFirst e f → Unified need e f → Unified (next need e) (from 4 e) (from 4 f)
-  unified-symbol first-same h = record {
-    by = h .by;
-    by′ = h .by′;
-    same = let o = opened need left some-left in let u = opened need right some-left in
-        let a = before-shows (o .symbol) _ (made (h .by)) .1 in
-        let b = before-shows (u .symbol) _ (made′ (h .by′)) .1 in
+    made′ : before (opened need right some-left .symbol) (map (replace by′) (frontOf (next need f) (from 4 f))) ≡ some (map (replace by′) (frontOf need f))
+    made′ = let o = opened need right some-left in before-replaced by′ (o .symbol) (kept o (parted need right some-left) keeps′) _ (o .makes)
+
+    -- The same symbol on both sides, and then its children with the others.
+    pub alike-symbol : SameFirst e f → Alike by by′ need e f ↔ Alike by by′ (next need e) (from 4 e) (from 4 f)
+    alike-symbol first-same =
+        let o = opened need left some-left in
+        let u = opened need right some-left in
         let tags = first-same .tag in
-        rw (tags) (rw tags at (sym a) ∙ ap after (h .same) ∙ b);
-  }
+        let is : o .symbol ≡ u .symbol = same-symbol (o .symbol) (u .symbol) (cc) (cc) in
+        let a = before-shows (o .symbol) _ made .1 in
+        let b = before-shows (u .symbol) _ made′ .1 in
+        let other : before (o .symbol) (map (replace by′) (frontOf (next need e) (from 4 f))) ≡ some (map (replace by′) (frontOf need f)) = rw (is, tags) made′ in (
+          λ h. record { same = rw tags (rw tags at (sym a) ∙ ap after (h .same) ∙ b) },
+          λ h. record { same = cc (h .same, made, other) },
+        )
 
-  pub unified-other : ¬ SameFirst e f → ¬ Unified need e f
-  unified-other off h =
-      let o = opened need left some-left in
-      let u = opened need right some-left in
-      let a = before-shows (o .symbol) _ (made (h .by)) .0 in
-      let b = before-shows (u .symbol) _ (made′ (h .by′)) .0 in
-      let is : o .symbol ≡ u .symbol = cc (h .same) in
-      off (record { tag = cc; value = cc })
+    -- Another symbol.
+    pub alike-other : ¬ SameFirst e f → ¬ Alike by by′ need e f
+    alike-other off h =
+        let o = opened need left some-left in
+        let u = opened need right some-left in
+        let a = before-shows (o .symbol) _ made .0 in
+        let b = before-shows (u .symbol) _ made′ .0 in
+        let is : o .symbol ≡ u .symbol = cc (h .same) in
+        off (record { tag = cc; value = cc })
 
 -- No term is left.
 pub none-left : {need : ℕ} (by : Variable → Term Variable) (e f : List ℕ) → need ≡ 0 → Takes by need e f
@@ -282,22 +283,15 @@ one-term b d by =
     let n = next-term 1 (front-few b (omega arith)) (front-few d (omega arith)) (omega arith) by in
     (λ h. n .0 h .0, λ h. n .1 (h, none-left by _ _ refl))
 
--- Terms that share an instance are made the same.
-one-front : {e : List ℕ} → Begins e → frontOf 1 e ≡ termOf e ∷ []
-one-front b = rw (front-reads (b .reads), termOf-reads (b .reads)) refl
+-- One term against one, with replacements on both sides.
+pub alike-none : (by by′ : Variable → Term Variable) (e f : List ℕ) {need : ℕ} → need ≡ 0 → Alike by by′ need e f
+unfolding frontOf
+alike-none by by′ e f is = record { same = rw is refl }
 
-pub share-unified : {e f : List ℕ} → Begins e → Begins f → Share (termOf e) (termOf f) → Unified 1 e f
-unfolding asTerm
-share-unified {e} {f} b d h =
-    let left : replace (λ x. asTerm (h .left .by x)) (termOf e) ≡ asTerm (h .message) =
-    sym (replace-twice (λ x. absurd x) (h .left .by) (termOf e)) ∙ ap asTerm (h .left .same) in
-    let right : replace (λ x. asTerm (h .right .by x)) (termOf f) ≡ asTerm (h .message) =
-    sym (replace-twice (λ x. absurd x) (h .right .by) (termOf f)) ∙ ap asTerm (h .right .same) in
-    record {
-      by = λ x. asTerm (h .left .by x);
-      by′ = λ x. asTerm (h .right .by x);
-      same = rw (one-front b, one-front d) (ap (λ (t : Term Variable). t ∷ []) (left ∙ sym right));
-    }
+pub alike-one : {e f : List ℕ} → Begins e → Begins f → (by by′ : Variable → Term Variable) → Alike by by′ 1 e f ↔ (replace by (termOf e) ≡ replace by′ (termOf f))
+alike-one b d by by′ =
+    let n = alike-term 1 (front-few b (omega arith)) (front-few d (omega arith)) (omega arith) by by′ in
+    (λ h. n .0 h .0, λ h. n .1 (h, alike-none by by′ _ _ refl))
 
 -- Each variable replaced by itself: the terms are the same.
 pub same-term : {e f : List ℕ} → Begins e → Begins f → Takes variable 1 e f ↔ (termOf e ≡ termOf f)
@@ -305,13 +299,19 @@ same-term {e} b d =
     let n = one-term b d variable in
     (λ h. sym (replace-none (termOf e)) ∙ n .0 h, λ h. n .1 (replace-none (termOf e) ∙ h))
 
--- An answer by tag and value.
-pub same-value : (e f : List ℕ) → tagAt e ≡ tagAt f → (a b : ℕ) → a ≡ valueAt e → b ≡ valueAt f → Says (eqb a b) (SameFirst e f)
-same-value e f tag a b p q = go (eqb a b) refl
+-- Entries of terms are the same if they are the same number: their second bytes are zero.
+pub same-word : {e f : List ℕ} → Begins e → Begins f → (a b : ℕ) → Word e a → Word f b → Says (eqb a b) (SameFirst e f)
+same-word {e} {f} b d m n p q = go (eqb m n) refl
   where
-    go : (c : Bool) → eqb a b ≡ c → Says c (SameFirst e f)
-    go true h = let is = eqb-true a b h in record { tag = tag; value = cc }
-    go false h = λ is. eqb-false a b h (cc (is .value))
+    left : m ≡ tagAt e + 65536 * valueAt e
+    left = omega (arith, p .is, zero-byte (b .reads))
+
+    right : n ≡ tagAt f + 65536 * valueAt f
+    right = omega (arith, q .is, zero-byte (d .reads))
+
+    go : (c : Bool) → eqb m n ≡ c → Says c (SameFirst e f)
+    go true h = let is = eqb-true m n h in record { tag = omega (arith, p .low, q .low, left, right); value = omega (arith, p .low, q .low, left, right) }
+    go false h = λ is. let tag = is .tag in let value = is .value in eqb-false m n h (omega (arith, left, right))
 
 -- What an answer says.
 pub said : {P : Type 0} {b : Bool} → b ≡ true → Says b P → P

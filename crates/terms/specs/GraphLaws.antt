@@ -244,6 +244,13 @@ pub record Valued (node : ℕ → Node) (name : ℕ → ℕ) : Type 0 where
 pub valued : {node : ℕ → Node} {name : ℕ → ℕ} → Classes node name → ((i : ℕ) → Finite node name i) → Valued node name
 valued {node} {name} cs ends = record { v = value node name cs ends; respects = value-respects node name cs ends; valid = value-valid node name cs ends }
 
+-- Only symbols have children.
+pub child-symbol : (n : Node) (j : ℕ) → Child j n → IsSymbol n
+child-symbol free j h = h
+child-symbol (atomNode a) j h = absurd h
+child-symbol (pairNode x y) j h = tt
+child-symbol (encryptionNode k c) j h = tt
+
 -- Where a valid valuation respects the classes, a child's message is smaller than its parent's.
 module _ (node : ℕ → Node) (name : ℕ → ℕ) (v : ℕ → Message) (valid : Valid node v) (r : Respects name v) where
   smaller : (n : Node) (j : ℕ) → Child j n → size (v j) < size (made v n)
@@ -254,15 +261,9 @@ module _ (node : ℕ → Node) (name : ℕ → ℕ) (v : ℕ → Message) (valid
   smaller (pairNode x y) j (inr e) = rw e (omega arith)
   smaller (encryptionNode k c) j h = rw h (omega arith)
 
-  symbol-of-child : (n : Node) (j : ℕ) → Child j n → IsSymbol n
-  symbol-of-child free j h = h
-  symbol-of-child (atomNode a) j h = absurd h
-  symbol-of-child (pairNode x y) j h = tt
-  symbol-of-child (encryptionNode k c) j h = tt
-
   pub falls : (i j : ℕ) → Child j (node (name i)) → size (v j) < size (v i)
   falls i j h =
-      let made-is : v i ≡ made v (node (name i)) = r .same i ∙ valid .makes (name i) (symbol-of-child (node (name i)) j h) in
+      let made-is : v i ≡ made v (node (name i)) = r .same i ∙ valid .makes (name i) (child-symbol (node (name i)) j h) in
       let less = smaller (node (name i)) j h in
       rw made-is less
 

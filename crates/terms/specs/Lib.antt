@@ -41,11 +41,13 @@ pub mod Graph
 pub mod GraphLaws
 pub mod TermGraph
 pub mod TermGraphLaws
+pub mod Sizes
 pub mod Names
 pub mod Meeting
 pub mod UniteLaws
 pub mod UniteAnswers
-pub mod MeetLaws
+pub mod Meetings
+pub mod MeetingLaws
 pub mod Ending
 pub mod ShareGraph
 pub mod Roots

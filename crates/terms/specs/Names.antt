@@ -1,19 +1,37 @@
--- The names of the classes in an array of 256 bytes: entry i is the name of node i's class.
-use mathlib.Core.Path.{_≡_, refl, sym, ap, _∙_, fun-ext}
+-- The classes in an array of 256 bytes: every node leads to a lower node of its class, and the lowest names the class.
+use mathlib.Core.Path.{_≡_, refl, sym, ap, _∙_, subst, fun-ext}
 use mathlib.Core.Bool.{Bool, true, false}
-use mathlib.Core.List.{List, [], _∷_, _++_, map, map-append, append-nil}
-use Prim.Native.Nat.{ℕ, zero, suc, _+_, _<_, _≤_}
+use mathlib.Core.List.{List, [], _∷_}
+use mathlib.Core.Logic.{_⊎_, inl, inr, ⊎-elim}
+use Prim.Native.Nat.{ℕ, zero, suc, _+_, _-_, _<_, _≤_}
 use native.Mathlib.Omega.{arith}
-use lib.Dec.{eqb, ltb}
-use borrow.Author.Tests.{eqb-true, eqb-false, eq-eqb, ne-eqb, ltb-true, ltb-false}
-use lib.ListN.{length, getD, take, drop, set, length-map, List·getD-eq-default, drop-of-length-le}
-use lib.Seq.{drop-cons, take-suc, length-take-le, getD-at, set-at, append-snoc, take-all, getD-set-same, getD-set-other}
-use native.Mathlib.Numerals.{add-one}
+use native.Mathlib.Decide.{ℕ-discrete, decLt}
+use lib.Dec.{eqb}
+use borrow.Author.Tests.{eq-eqb, ne-eqb}
+use lib.ListN.{length, getD, set, length-set, List·getD-eq-default}
+use lib.Seq.{getD-set-same, getD-set-other}
+use Rattle.terms.specs.Graph.{IsSymbol, Classes}
 use Rattle.terms.specs.GraphLaws.{rename, rename-hit, rename-miss, merge}
+use Rattle.terms.specs.TermGraph.{nodeOf, AtHome}
+use Rattle.terms.specs.TermGraphLaws.{symbol-low, home-symbol}
 
--- The name of node i's class; a node past the array is a class by itself.
+-- Where node i leads; a node past the array leads to itself.
+abbrev pub linkOf : List ℕ → ℕ → ℕ
+linkOf c i = getD c i i
+
+-- The node that n links lead to.
+unfoldable pub after : ℕ → List ℕ → ℕ → ℕ
+after zero c i = i
+after (suc n) c i = after n c (linkOf c i)
+
+-- The name of node i's class: no way has 256 links.
 unfoldable pub nameOf : List ℕ → ℕ → ℕ
-nameOf c i = getD c i i
+nameOf c i = after 256 c i
+
+-- Every node leads to itself, or to a lower one that is a variable's node or a symbol's.
+pub record Linked (s t c : List ℕ) : Type 0 where
+  pub long : length c ≡ 256
+  pub falls : (i : ℕ) → (linkOf c i ≡ i) ⊎ ((linkOf c i < i) × AtHome s t (linkOf c i))
 
 -- What stands in the array, whatever is read past its end.
 getD-any : (c : List ℕ) (i d d′ : ℕ) → i < length c → getD c i d ≡ getD c i d′
@@ -21,39 +39,153 @@ getD-any [] i d d′ h = absurd (omega arith)
 getD-any (x ∷ c) zero d d′ h = refl
 getD-any (x ∷ c) (suc i) d d′ h = getD-any c i d d′ (omega arith)
 
-pub name-read : (c : List ℕ) (i : ℕ) → i < length c → getD c i 0 ≡ nameOf c i
+past-link : (c : List ℕ) (i : ℕ) → length c ≤ i → linkOf c i ≡ i
+past-link c i h = List·getD-eq-default c i h
+
+-- ---- following the links
+
+-- From a node that leads to itself no link leads away.
+after-own : (n : ℕ) (c : List ℕ) (i : ℕ) → linkOf c i ≡ i → after n c i ≡ i
+unfolding after
+after-own zero c i e = refl
+after-own (suc n) c i e = ap (after n c) e ∙ after-own n c i e
+
+name-own : (c : List ℕ) (i : ℕ) → linkOf c i ≡ i → nameOf c i ≡ i
 unfolding nameOf
-name-read c i h = getD-any c i 0 i h
+name-own c i e = after-own 256 c i e
 
--- Every node is a class by itself.
-pub names-alone : (c : List ℕ) → ((i : ℕ) → i < length c → getD c i 0 ≡ i) → nameOf c ≡ (λ i. i)
+-- Node k is on the way from node i to its class's name, with n links at most left to follow.
+pub record OnTheWay (c : List ℕ) (i n k : ℕ) : Type 0 where
+  pub leads : after n c k ≡ nameOf c i
+
+pub way-starts : (c : List ℕ) (i : ℕ) → OnTheWay c i 256 i
 unfolding nameOf
-names-alone c own = fun-ext (λ i. go i (ltb i (length c)) refl)
-  where
-    go : (i : ℕ) (b : Bool) → ltb i (length c) ≡ b → getD c i i ≡ i
-    go i true q = let h = ltb-true i (length c) q in getD-any c i i 0 h ∙ own i h
-    go i false q = List·getD-eq-default c i (ltb-false i (length c) q)
+way-starts c i = record { leads = refl }
 
-getD-map-in : (f : ℕ → ℕ) (c : List ℕ) (i d : ℕ) → i < length c → getD (map f c) i d ≡ f (getD c i d)
-getD-map-in f [] i d h = absurd (omega arith)
-getD-map-in f (x ∷ c) zero d h = refl
-getD-map-in f (x ∷ c) (suc i) d h = getD-map-in f c i d (omega arith)
+pub way-ends : {c : List ℕ} {i n k : ℕ} → OnTheWay c i n k → n ≡ 0 → k ≡ nameOf c i
+unfolding after
+way-ends {c} {i} {n} {k} way none = (rw none at (way .leads))
 
--- A name renamed throughout the array is two classes made one.
-pub names-merge : (c : List ℕ) (a b : ℕ) → a < length c → nameOf (map (rename a b) c) ≡ merge a b (nameOf c)
-unfolding nameOf
-names-merge c a b inside = fun-ext (λ i. go i (ltb i (length c)) refl)
-  where
-    go : (i : ℕ) (t : Bool) → ltb i (length c) ≡ t → getD (map (rename a b) c) i i ≡ rename a b (getD c i i)
-    go i true q = getD-map-in (rename a b) c i i (ltb-true i (length c) q)
-    go i false q =
-        let out : length c ≤ i = ltb-false i (length c) q in
-        let gone : getD (map (rename a b) c) i i ≡ i = List·getD-eq-default (map (rename a b) c) i (rw length-map out) in
-        let same : getD c i i ≡ i = List·getD-eq-default c i out in
-        let apart : (i ≡ a → ⊥) = λ e. omega arith in
-        gone ∙ sym (ap (rename a b) same ∙ rename-miss b apart)
+module _ {c : List ℕ} {i n k x : ℕ} (way : OnTheWay c i n k) (inside : k < length c) (read : x ≡ getD c k 0) where
+  link-read : linkOf c k ≡ x
+  link-read = getD-any c k k 0 inside ∙ sym read
 
--- How many nodes from i on name themselves: how many classes there are.
+  pub way-arrives : x ≡ k → k ≡ nameOf c i
+  way-arrives own = sym (after-own n c k (link-read ∙ own)) ∙ way .leads
+
+  pub way-goes-on : 0 < n → OnTheWay c i (n - 1) x
+  unfolding after
+  way-goes-on some = record { leads = go n some (way .leads) }
+    where
+      go : (m : ℕ) → 0 < m → after m c k ≡ nameOf c i → after (m - 1) c x ≡ nameOf c i
+      go zero h e = absurd (omega arith)
+      go (suc m) h e = let down : suc m - 1 ≡ m = omega arith in rw down (ap (after m c) (sym link-read) ∙ e)
+
+-- ---- names
+
+module _ {s t c : List ℕ} (linked : Linked s t c) where
+  after-stays : (n i : ℕ) → i ≤ n → linkOf c (after n c i) ≡ after n c i
+  unfolding after
+  after-stays zero i h = ⊎-elim (λ own. own) (λ low. absurd (omega (arith, low .0))) (linked .falls i)
+  after-stays (suc n) i h = ⊎-elim
+      (λ own. subst (λ (k : ℕ). linkOf c k ≡ k) (sym (after-own (suc n) c i own)) own) (λ low. after-stays n (linkOf c i) (omega (arith, low .0))) (linked .falls i)
+
+  after-low : (n i : ℕ) → after n c i ≤ i
+  unfolding after
+  after-low zero i = omega arith
+  after-low (suc n) i =
+      let rest = after-low n (linkOf c i) in
+      ⊎-elim (λ own. omega arith) (λ low. omega (arith, low .0)) (linked .falls i)
+
+  after-home : (n i : ℕ) → AtHome s t i → AtHome s t (after n c i)
+  unfolding after
+  after-home zero i h = h
+  after-home (suc n) i h = after-home n (linkOf c i) (⊎-elim (λ own. rw own h) (λ low. low .1) (linked .falls i))
+
+  -- A name leads to itself.
+  name-leads : (i : ℕ) → linkOf c (nameOf c i) ≡ nameOf c i
+  unfolding nameOf
+  name-leads i = elim (decLt i 256) [
+    | yes l ↦ after-stays 256 i (omega arith)
+    | no n ↦
+        let own = past-link c i (omega (arith, linked .long)) in
+        subst (λ (k : ℕ). linkOf c k ≡ k) (sym (after-own 256 c i own)) own
+  ]
+
+  own-link : (i : ℕ) → nameOf c i ≡ i → linkOf c i ≡ i
+  own-link i named = subst (λ (k : ℕ). linkOf c k ≡ k) named (name-leads i)
+
+  -- It names itself, is no higher than any node of its class, and is at home where one is.
+  pub name-named : (i : ℕ) → nameOf c (nameOf c i) ≡ nameOf c i
+  name-named i = name-own c (nameOf c i) (name-leads i)
+
+  pub name-low : (i : ℕ) → nameOf c i ≤ i
+  unfolding nameOf
+  name-low i = after-low 256 i
+
+  pub name-home : (i : ℕ) → AtHome s t i → AtHome s t (nameOf c i)
+  unfolding nameOf
+  name-home i h = after-home 256 i h
+
+  pub classes-of : Classes (nodeOf s t) (nameOf c)
+  classes-of = record {
+    named = name-named;
+    kept = λ i is.
+        let low = symbol-low s t {i = i} is in
+        let below = name-low i in
+        home-symbol (name-home i (record { small = omega arith; is = inr is })) (omega arith);
+  }
+
+-- ---- linking one name to another
+
+module _ {s t c : List ℕ} {a b : ℕ} (linked : Linked s t c) (first : AtHome s t a) (second : AtHome s t b) (a-named : nameOf c a ≡ a) (b-named : nameOf c b ≡ b)
+    (above : b < a) where
+  a-inside : a < length c
+  a-inside = omega (arith, first .small, linked .long)
+
+  new-link : linkOf (set c a b) a ≡ b
+  new-link = getD-set-same c a b a a-inside
+
+  old-link : (i : ℕ) → (i ≡ a → ⊥) → linkOf (set c a b) i ≡ linkOf c i
+  old-link i off = getD-set-other c a i b i off
+
+  pub joined-linked : Linked s t (set c a b)
+  joined-linked = record {
+    long = length-set c a b ∙ linked .long;
+    falls = λ i. elim (ℕ-discrete i a) [
+      | yes e ↦ rw e (inr (rw new-link (above, second)))
+      | no off ↦ rw (old-link i off) (linked .falls i)
+    ];
+  }
+
+  b-stays : linkOf (set c a b) b ≡ b
+  b-stays = old-link b (omega arith) ∙ own-link linked b b-named
+
+  after-joined : (n i : ℕ) → i ≤ n → after n (set c a b) i ≡ rename a b (after n c i)
+  unfolding after
+  after-joined zero i h = sym (rename-miss b (omega arith))
+  after-joined (suc n) i h = elim (ℕ-discrete i a) [
+    | yes e ↦
+        rw e (ap (after n (set c a b)) new-link ∙ after-own n (set c a b) b b-stays
+        ∙ sym (rename-hit (after-own (suc n) c a (own-link linked a a-named))))
+    | no off ↦ ⊎-elim
+        (λ own. after-own (suc n) (set c a b) i (old-link i off ∙ own) ∙ sym (ap (rename a b) (after-own (suc n) c i own) ∙ rename-miss b off))
+        (λ low. ap (after n (set c a b)) (old-link i off) ∙ after-joined n (linkOf c i) (omega (arith, low .0))) (linked .falls i)
+  ]
+
+  pub joined-names : merge a b (nameOf c) ≡ nameOf (set c a b)
+  unfolding nameOf
+  joined-names = fun-ext (λ i. elim (decLt i 256) [
+    | yes l ↦ sym (after-joined 256 i (omega arith))
+    | no n ↦
+        let off : (i ≡ a → ⊥) = λ e. omega (arith, first .small) in
+        let own : linkOf c i ≡ i = past-link c i (omega (arith, linked .long)) in
+        ap (rename a b) (after-own 256 c i own) ∙ rename-miss b off ∙ sym (after-own 256 (set c a b) i (old-link i off ∙ own))
+  ])
+
+-- ---- the number of classes
+
+-- How many nodes from i on lead to themselves: how many classes there are.
 abbrev one : Bool → ℕ
 one true = 1
 one false = 0
@@ -65,84 +197,41 @@ countFrom i (x ∷ c) = one (eqb x i) + countFrom (suc i) c
 unfoldable pub classCount : List ℕ → ℕ
 classCount c = countFrom 0 c
 
--- Renaming a to b, where b is a name: no node comes to name itself, and a ceases to.
-module _ (a b : ℕ) (apart : a ≡ b → ⊥) where
-  one-le : (i x : ℕ) → (i ≡ b → x ≡ b) → one (eqb (rename a b x) i) ≤ one (eqb x i)
-  one-le i x own = go (eqb x a) refl
-    where
-      go : (t : Bool) → eqb x a ≡ t → one (eqb (rename a b x) i) ≤ one (eqb x i)
-      go true q =
-          let hit : x ≡ a = eqb-true x a q in
-          let off : (b ≡ i → ⊥) = λ e. apart (sym hit ∙ own (sym e)) in
-          rw (rename-hit {a = a} {b = b} {x = x} hit, ne-eqb b i off) (omega arith)
-      go false q = rw (rename-miss {a = a} {x = x} b (eqb-false x a q)) (omega arith)
-
-  count-le : (i : ℕ) (c : List ℕ) → ((k : ℕ) → k < length c → i + k ≡ b → getD c k 0 ≡ b) → countFrom i (map (rename a b) c) ≤ countFrom i c
-  unfolding countFrom
-  count-le i [] own = omega arith
-  count-le i (x ∷ c) own =
-      let first = one-le i x (λ e. own 0 (omega arith) (omega arith)) in
-      let rest = count-le (suc i) c (λ k h e. own (suc k) (omega arith) (omega arith)) in
-      omega arith
-
-  count-less : (i : ℕ) (c : List ℕ) → ((k : ℕ) → k < length c → i + k ≡ b → getD c k 0 ≡ b)
-      → (k : ℕ) → k < length c → i + k ≡ a → getD c k 0 ≡ a → countFrom i (map (rename a b) c) < countFrom i c
-  unfolding countFrom
-  count-less i [] own k h at is = absurd (omega arith)
-  count-less i (x ∷ c) own zero h at is =
-      let here : i ≡ a = omega arith in
-      let hit : x ≡ a = is in
-      let off : (b ≡ i → ⊥) = λ e. apart (sym here ∙ sym e) in
-      let rest = count-le (suc i) c (λ k h e. own (suc k) (omega arith) (omega arith)) in
-      rw (rename-hit {a = a} {b = b} {x = x} hit, ne-eqb b i off, eq-eqb x i (hit ∙ sym here)) (omega arith)
-  count-less i (x ∷ c) own (suc k) h at is =
-      let first = one-le i x (λ e. own 0 (omega arith) (omega arith)) in
-      let rest = count-less (suc i) c (λ k h e. own (suc k) (omega arith) (omega arith)) k (omega arith) (omega arith) is in
-      omega arith
+count-less : (i : ℕ) (c : List ℕ) (k b : ℕ) → k < length c → getD c k 0 ≡ i + k → b < i + k → countFrom i (set c k b) < countFrom i c
+unfolding countFrom
+count-less i [] k b h is low = absurd (omega arith)
+count-less i (x ∷ c) zero b h is low =
+    let here : x ≡ i = is ∙ omega arith in
+    rw (eq-eqb x i here, ne-eqb b i (omega arith)) (omega arith)
+count-less i (x ∷ c) (suc k) b h is low =
+    let rest = count-less (suc i) c k b (omega arith) (is ∙ omega arith) (omega arith) in
+    omega arith
 
 -- One class less.
-pub fewer : (c : List ℕ) (a b : ℕ) → (a ≡ b → ⊥) → nameOf c a ≡ a → nameOf c b ≡ b → a < length c → b < length c
-    → classCount (map (rename a b) c) < classCount c
-unfolding classCount nameOf
-fewer c a b apart a-named b-named ha hb =
-    count-less a b apart 0 c (λ k h e. let q : k ≡ b = omega arith in rw q (getD-any c b 0 b hb ∙ b-named)) a ha (omega arith) (getD-any c a 0 a ha ∙ a-named)
+pub joined-fewer : {s t c : List ℕ} {a b : ℕ} → Linked s t c → AtHome s t a → nameOf c a ≡ a → b < a → classCount (set c a b) < classCount c
+unfolding classCount
+joined-fewer {c = c} {a = a} {b = b} linked first named above =
+    let inside : a < length c = omega (arith, first .small, linked .long) in
+    count-less 0 c a b inside (getD-any c a 0 a inside ∙ own-link linked a named ∙ omega arith) (omega arith)
 
--- The first k entries renamed, the others as they were.
-abbrev pub renamedUpTo : ℕ → ℕ → ℕ → List ℕ → List ℕ
-renamedUpTo a b k c = map (rename a b) (take k c) ++ drop k c
+-- ---- every node a class by itself
 
-module _ (a b : ℕ) (c : List ℕ) (k : ℕ) (inside : k < length c) where
-  seam : renamedUpTo a b k c ≡ map (rename a b) (take k c) ++ (getD c k 0 ∷ drop (suc k) c)
-  seam = ap (λ (l : List ℕ). map (rename a b) (take k c) ++ l) (drop-cons c k 0 inside)
+module _ (c : List ℕ) (long : length c ≡ 256) (own : (i : ℕ) → i < 256 → getD c i 0 ≡ i) where
+  alone-link : (i : ℕ) → linkOf c i ≡ i
+  alone-link i = elim (decLt i 256) [
+    | yes l ↦ getD-any c i i 0 (omega arith) ∙ own i l
+    | no n ↦ past-link c i (omega arith)
+  ]
 
-  front : length (map (rename a b) (take k c)) ≡ k
-  front = length-map (take k c) (rename a b) ∙ length-take-le k c (omega arith)
+  pub names-alone : nameOf c ≡ (λ i. i)
+  names-alone = fun-ext (λ i. name-own c i (alone-link i))
 
-  pub renamed-read : getD (renamedUpTo a b k c) k 0 ≡ getD c k 0
-  renamed-read = ap (λ (l : List ℕ). getD l k 0) seam ∙ getD-at (map (rename a b) (take k c)) (getD c k 0) (drop (suc k) c) 0 k front
+pub alone-linked : (s t c : List ℕ) → length c ≡ 256 → ((i : ℕ) → i < 256 → getD c i 0 ≡ i) → Linked s t c
+alone-linked s t c long own = record { long = long; falls = λ i. inl (alone-link c long own i) }
 
-  pub renamed-more : set (renamedUpTo a b k c) k (rename a b (getD c k 0)) ≡ renamedUpTo a b (k + 1) c
-  renamed-more =
-      ap (λ (l : List ℕ). set l k (rename a b (getD c k 0))) seam
-      ∙ set-at (map (rename a b) (take k c)) (getD c k 0) (drop (suc k) c) (rename a b (getD c k 0)) k front
-      ∙ sym (append-snoc (map (rename a b) (take k c)) (rename a b (getD c k 0)) (drop (suc k) c))
-      ∙ sym (rw (add-one, take-suc c k 0, map-append))
-
--- One turn of the renaming loop.
-pub renamed-step : (a b : ℕ) (c d : List ℕ) (k : ℕ) {y : ℕ} → k < length c → d ≡ renamedUpTo a b k c → y ≡ rename a b (getD d k 0)
-    → set d k y ≡ renamedUpTo a b (k + 1) c
-renamed-step a b c d k inside is new =
-    let here : getD d k 0 ≡ getD c k 0 = ap (λ (l : List ℕ). getD l k 0) is ∙ renamed-read a b c k inside in
-    ap (λ (n : ℕ). set d k n) (new ∙ ap (rename a b) here) ∙ ap (λ (l : List ℕ). set l k (rename a b (getD c k 0))) is ∙ renamed-more a b c k inside
-
--- All of it renamed.
-pub renamed-all : (a b : ℕ) (c : List ℕ) (k : ℕ) → length c ≤ k → renamedUpTo a b k c ≡ map (rename a b) c
-renamed-all a b c k h = rw (take-all k c h, drop-of-length-le c h, append-nil)
-
--- One turn of the loop that gives every node its own name.
+-- One turn of the loop that makes every node lead to itself.
 pub stored : (c : List ℕ) (k : ℕ) → k < length c → ((i : ℕ) → i < k → getD c i 0 ≡ i) → (i : ℕ) → i < k + 1 → getD (set c k k) i 0 ≡ i
-stored c k inside own i h = go (eqb i k) refl
-  where
-    go : (b : Bool) → eqb i k ≡ b → getD (set c k k) i 0 ≡ i
-    go true q = let e : i ≡ k = eqb-true i k q in rw e (getD-set-same c k k 0 inside)
-    go false q = let off : (i ≡ k → ⊥) = eqb-false i k q in getD-set-other c k i k 0 off ∙ own i (omega arith)
+stored c k inside own i h = elim (ℕ-discrete i k) [
+  | yes e ↦ rw e (getD-set-same c k k 0 inside)
+  | no off ↦ getD-set-other c k i k 0 off ∙ own i (omega arith)
+]

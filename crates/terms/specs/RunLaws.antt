@@ -7,7 +7,7 @@ use Prim.Native.Nat.{ℕ, _+_, _*_, _-_, _<_, _≤_}
 use native.Mathlib.Omega.{arith}
 use borrow.Rule.Slice.PartAt.{part-to-end}
 use lib.ListN.{length, getD, replicate}
-use Rattle.terms.specs.Term.{Term, Message, Variable, variable, replace, asTerm}
+use Rattle.terms.specs.Term.{Term, Message, Variable, variable, atom, replace, asTerm}
 use Rattle.terms.specs.Instance.{Matches, Share}
 use Rattle.terms.specs.Occurs.{replace-twice}
 use Rattle.terms.specs.Entry.{size, termOf, tagAt, valueAt, childrenOf, Begins}
@@ -15,14 +15,14 @@ use Rattle.terms.specs.EntryLaws.{size-positive}
 use Rattle.terms.specs.WalkLaws.{from, leaf-first}
 use Rattle.terms.specs.Solve.{Says, says-same}
 use Rattle.terms.specs.Decide.{answer, variable?, term?, match?, says-answer}
-use Rattle.terms.specs.Front.{Front, Takes, Unified, Ran, Goes, SameFirst, Ready, Made}
+use Rattle.terms.specs.Front.{Front, Takes, Alike, Ran, Goes, SameFirst, Ready, Made}
 use Rattle.terms.specs.FrontLaws.{from-from, from-length, front-few, front-begins, parted, opened, next, next-symbol, one-term}
-use Rattle.terms.specs.FrontLaws.{KeepsFirst, unified-symbol, unified-other, unified-past, share-unified, same-clash}
+use Rattle.terms.specs.FrontLaws.{KeepsFirst, alike-symbol, alike-other, alike-one, same-clash}
 use Rattle.terms.specs.MatchLaws.{none-bound, symbol-slot, same-answer}
 use Rattle.terms.specs.TermGraphLaws.{tag-in}
 
 -- Nothing has been compared yet.
-from-start : (e : List ℕ) → from (4 * 0) e ≡ e
+pub from-start : (e : List ℕ) → from (4 * 0) e ≡ e
 from-start e = part-to-end e 0
 
 pub ran-start : {need : ℕ} {e f : List ℕ} → Front need e → Front need f → Ran need e f 0 need
@@ -32,7 +32,7 @@ ran-start {e = e} {f = f} b d = record {
   front = rw (from-start e) b;
   other-front = rw (from-start f) d;
   takes = λ by. rw (from-start e, from-start f) (λ h. h, λ h. h);
-  unified = λ u. rw (from-start e, from-start f) u;
+  alike = λ by by′. rw (from-start e, from-start f) (λ h. h, λ h. h);
 }
 
 -- There is room for an entry where a term is left.
@@ -57,7 +57,7 @@ module _ {need : ℕ} {e f : List ℕ} {k left : ℕ} (r : Ran need e f k left) 
   ran-more g is =
       let a = opened left (r .front) (g .some-left) .below in
       let b = opened left (r .other-front) (g .some-left) .below in
-      let low = g .symbol in let tags = g .same .tag in
+      let tags = g .same .tag in
       let room = ran-room (g .some-left) in
       rw is (record {
         inside = room .0;
@@ -68,13 +68,22 @@ module _ {need : ℕ} {e f : List ℕ} {k left : ℕ} (r : Ran need e f k left) 
           λ h. rw (further e, further f) at (step by .0 (r .takes by .0 h)),
           λ h. r .takes by .1 (step by .1 (rw (further e, further f) h)),
         );
-        unified = λ u. rw (further e, further f) at (unified-symbol left (r .front) (r .other-front) (g .some-left)
-            (λ by. keeps low (g .some-left) by) (λ by. keeps-other (omega arith) (g .some-left) by) (g .same) (r .unified u));
+        alike = λ by by′. (
+          λ h. rw (further e, further f) at (both by by′ .0 (r .alike by by′ .0 h)),
+          λ h. r .alike by by′ .1 (both by by′ .1 (rw (further e, further f) h)),
+        );
       })
     where
       step : (by : Variable → Term Variable) → Takes by left (from (4 * k) e) (from (4 * k) f)
           ↔ Takes by (next left (from (4 * k) e)) (from 4 (from (4 * k) e)) (from 4 (from (4 * k) f))
       step by = next-symbol left (r .front) (r .other-front) (g .some-left) by (keeps (g .symbol) (g .some-left) by) (g .same)
+
+      both : (by by′ : Variable → Term Variable) → Alike by by′ left (from (4 * k) e) (from (4 * k) f)
+          ↔ Alike by by′ (next left (from (4 * k) e)) (from 4 (from (4 * k) e)) (from 4 (from (4 * k) f))
+      both by by′ =
+          let low = g .symbol in
+          let tags = g .same .tag in
+          alike-symbol left (r .front) (r .other-front) (g .some-left) by by′ (keeps low (g .some-left) by) (keeps-other (omega arith) (g .some-left) by′) (g .same)
 
   pub ran-small : 4 * left ≤ length f
   ran-small = let room = r .other-front .room in omega (arith, from-length (4 * k) f)
@@ -84,46 +93,33 @@ module _ {need : ℕ} {e f : List ℕ} {k left : ℕ} (r : Ran need e f k left) 
     off : ¬ SameFirst (from (4 * k) e) (from (4 * k) f)
     off same = stops (record { some-left = some-left; symbol = low; same = same })
 
-    pub differ-unified : ¬ Unified need e f
-    differ-unified u = unified-other left (r .front) (r .other-front) some-left (λ by. keeps low some-left by) (λ by. keeps-other low′ some-left by) off (r .unified u)
+    pub differ-alike : (by by′ : Variable → Term Variable) → ¬ Alike by by′ need e f
+    differ-alike by by′ h = alike-other left (r .front) (r .other-front) some-left by by′ (keeps low some-left by) (keeps-other low′ some-left by′) off
+        (r .alike by by′ .0 h)
 
-  -- A variable stands on one side: what is behind it, and behind the other side's term, is left to compare.
-  module _ (some-left : ¬ (left ≡ 0)) where
-    past-unified : ¬ Unified (left - 1) (from (4 * size (termOf (from (4 * k) e))) (from (4 * k) e)) (from (4 * size (termOf (from (4 * k) f))) (from (4 * k) f))
-        → ¬ Unified need e f
-    past-unified off u = off (unified-past left (r .front) (r .other-front) some-left (r .unified u))
+-- A shared instance gives replacements that make the terms the same, and the other way round.
+pub share-alike : {t u : Term Variable} (h : Share t u)
+    → replace {Y = Variable} (λ x. asTerm (h .left .by x)) t ≡ replace (λ x. asTerm (h .right .by x)) u
+unfolding asTerm
+share-alike {t} {u} h =
+    let left : replace (λ x. asTerm (h .left .by x)) t ≡ asTerm (h .message) =
+    sym (replace-twice (λ x. absurd x) (h .left .by) t) ∙ ap asTerm (h .left .same) in
+    let right : replace (λ x. asTerm (h .right .by x)) u ≡ asTerm (h .message) =
+    sym (replace-twice (λ x. absurd x) (h .right .by) u) ∙ ap asTerm (h .right .same) in
+    left ∙ sym right
 
-    module _ (high : 3 < tagAt (from (4 * k) e)) {n : ℕ} (is : n ≡ size (termOf (from (4 * k) f))) where
-      one : size (termOf (from (4 * k) e)) ≡ 1
-      one = sym (leaf-first (front-begins (r .front) some-left) (λ z. omega arith) (λ z. omega arith))
+pub alike-share : {t u : Term Variable} (by by′ : Variable → Term Variable) → replace by t ≡ replace by′ u → Share t u
+alike-share {t} {u} by by′ h =
+    let ground : Variable → Message = λ x. atom 0 in
+    record {
+      message = replace ground (replace by t);
+      left = record { by = λ x. replace ground (by x); same = sym (replace-twice ground by t) };
+      right = record { by = λ x. replace ground (by′ x); same = sym (replace-twice ground by′ u) ∙ ap (replace ground) (sym h) };
+    }
 
-      pub left-fronts : Front (left - 1) (from 4 (from (4 * k) e)) × Front (left - 1) (from (4 * n) (from (4 * k) f))
-      left-fronts = (rw one at (parted left (r .front) some-left .others), rw is (parted left (r .other-front) some-left .others))
-
-      pub left-apart : ¬ Unified (left - 1) (from 4 (from (4 * k) e)) (from (4 * n) (from (4 * k) f)) → ¬ Unified need e f
-      left-apart off = past-unified (rw one (rw is at off))
-
-    module _ (high : 3 < tagAt (from (4 * k) f)) {n : ℕ} (is : n ≡ size (termOf (from (4 * k) e))) where
-      other-one : size (termOf (from (4 * k) f)) ≡ 1
-      other-one = sym (leaf-first (front-begins (r .other-front) some-left) (λ z. omega arith) (λ z. omega arith))
-
-      pub right-some : 1 ≤ n
-      right-some = omega (arith, size-positive (termOf (from (4 * k) e)))
-
-      pub right-fronts : Front (left - 1) (from (4 * n) (from (4 * k) e)) × Front (left - 1) (from 4 (from (4 * k) f))
-      right-fronts = (rw is (parted left (r .front) some-left .others), rw other-one at (parted left (r .other-front) some-left .others))
-
-      pub right-apart : ¬ Unified (left - 1) (from (4 * n) (from (4 * k) e)) (from 4 (from (4 * k) f)) → ¬ Unified need e f
-      right-apart off = past-unified (rw other-one (rw is at off))
-
--- Nothing makes the terms behind the run the same: they share no instance.
-pub behind-shares : {e f : List ℕ} {k left : ℕ} → Begins e → Begins f → Ran 1 e f k left → ¬ Unified left (from (4 * k) e) (from (4 * k) f)
-    → ¬ Share (termOf e) (termOf f)
-behind-shares b d r off h = off (r .unified (share-unified b d h))
-
--- Terms that nothing makes the same share no instance.
-pub apart-shares : {e f : List ℕ} → Begins e → Begins f → ¬ Unified 1 e f → ¬ Share (termOf e) (termOf f)
-apart-shares b d off h = off (share-unified b d h)
+-- Terms that no replacements make the same share no instance.
+pub apart-shares : {e f : List ℕ} → Begins e → Begins f → ((by by′ : Variable → Term Variable) → ¬ Alike by by′ 1 e f) → ¬ Share (termOf e) (termOf f)
+apart-shares b d off h = off _ _ (alike-one b d _ _ .1 (share-alike h))
 
 -- The tag of an entry, as the code reads it.
 pub tag-from : (e : List ℕ) (k : ℕ) → getD e (4 * k) 0 ≡ tagAt (from (4 * k) e)

@@ -1,29 +1,30 @@
--- Two terms share an instance if and only if their graph has a valid valuation that gives both roots one message.
-use mathlib.Core.Path.{_≡_, refl, sym, ap, _∙_, subst}
+-- Two terms share an instance if and only if their graph has a valid valuation that gives the noted entries' nodes equal
+-- messages, two and two.
+use mathlib.Core.Path.{_≡_, refl, sym, ap, _∙_, subst, fun-ext}
 use mathlib.Core.Bool.{Bool, true, false}
 use mathlib.Core.List.{List}
 use Prim.Native.Nat.{ℕ, _+_, _*_, _-_, _<_, _≤_}
 use native.Mathlib.Omega.{arith}
+use native.Mathlib.Decide.{ℕ-discrete}
 use native.Mathlib.Nat.{zero-add}
 use lib.Dec.{ltb}
 use borrow.Author.Tests.{lt-ltb, le-ltb, ltb-true, ltb-false}
+use borrow.Rule.Slice.PartAt.{part-to-end}
 use lib.ListN.{length, getD, drop}
-use Rattle.terms.specs.Term.{Message, Variable, plain, marked, replace}
+use Rattle.terms.specs.Term.{Term, Message, Variable, atom, plain, marked, replace, asTerm}
 use Rattle.terms.specs.Instance.{Share}
+use Rattle.terms.specs.Occurs.{replace-twice, replace-none}
 use Rattle.terms.specs.Entry.{termOf, Begins}
-use Rattle.terms.specs.EntryLaws.{termOf-reads}
+use Rattle.terms.specs.EntryLaws.{termOf-reads, suffix}
+use Rattle.terms.specs.WalkLaws.{from}
+use Rattle.terms.specs.RunLaws.{share-alike, alike-share}
 use Rattle.terms.specs.Graph.{free, IsSymbol, made, Valid, Respects, Classes, Step, Clash, Outcome, Finite}
-use Rattle.terms.specs.GraphLaws.{alone, valued}
+use Rattle.terms.specs.GraphLaws.{Any, valued, stay, both, restate, restate-clash, second-clash}
 use Rattle.terms.specs.TermGraph.{home, nodeBy, third, region, nodeTag, nodeOf, TwoTerms}
 use Rattle.terms.specs.TermGraphLaws.{values, home-value, side-makes, left-side, right-side}
 use Rattle.terms.specs.Solve.{Says}
 use Rattle.terms.specs.Decide.{answer, share?, variable?, says-answer}
-use Rattle.terms.specs.Names.{nameOf, names-alone}
-
--- A valid valuation that gives both roots one message.
-pub record Agrees (s t : List ℕ) (v : ℕ → Message) : Type 0 where
-  pub valid : Valid (nodeOf s t) v
-  pub roots : v (home s 0 128 0) ≡ v (home t 64 144 0)
+use Rattle.terms.specs.Meetings.{Reduced, AllEqual}
 
 -- What a valuation puts for the variables from slots on.
 abbrev read : (ℕ → Message) → ℕ → Variable → Message
@@ -39,19 +40,45 @@ abbrev given : List ℕ → List ℕ → (Variable → Message) → (Variable �
 given s t f g i =
     region i (replace f (termOf (drop (4 * i) s))) (replace g (termOf (drop (4 * (i - 64)) t))) (third (ltb i 144) (slot f (i - 128)) (slot g (i - 144)))
 
-module _ (s t : List ℕ) (bs : Begins s) (bt : Begins t) (ss : length s ≤ 252) (st : length t ≤ 252) where
-  pub share-of : {v : ℕ → Message} → Agrees s t v → Share (termOf s) (termOf t)
-  share-of {v} a =
-      let left : v (home s 0 128 0) ≡ replace (read v 128) (bs .term) =
-      values (nodeOf s t) s 0 128 ss (left-side s t) v (read v 128) (λ x h. refl) (λ x h. refl) (a .valid) (bs .term) 0 (omega arith) (bs .reads) in
-      let right : v (home t 64 144 0) ≡ replace (read v 144) (bt .term) =
-      values (nodeOf s t) t 64 144 st (right-side s t) v (read v 144) (λ x h. refl) (λ x h. refl) (a .valid) (bt .term) 0 (omega arith) (bt .reads) in
-      record {
-        message = v (home s 0 128 0);
-        left = record { by = read v 128; same = ap (replace (read v 128)) (termOf-reads (bs .reads)) ∙ sym left };
-        right = record { by = read v 144; same = ap (replace (read v 144)) (termOf-reads (bt .reads)) ∙ sym (a .roots ∙ right) };
-      }
+-- A message read as a term, and back.
+unread : (m : Message) → replace (λ (x : Variable). atom 0) (asTerm m) ≡ m
+unfolding asTerm
+unread m = replace-twice (λ (x : Variable). atom 0) (λ x. absurd x) m ∙ ap (λ (f : ⊥ → Message). replace f m) (fun-ext (λ x. absurd x)) ∙ replace-none m
 
+grounded : (f : Variable → Message) (t : Term Variable) → replace (λ (x : Variable). atom 0) (replace (λ x. asTerm (f x)) t) ≡ replace f t
+grounded f t =
+    replace-twice (λ (x : Variable). atom 0) (λ x. asTerm (f x)) t
+    ∙ ap (λ (g : Variable → Message). replace g t) (fun-ext (λ x. unread (f x)))
+
+lifted : (f : Variable → Message) (t : Term Variable) → replace {Y = Variable} (λ x. asTerm (f x)) t ≡ asTerm (replace f t)
+unfolding asTerm
+lifted f t = sym (replace-twice (λ x. absurd x) f t)
+
+-- Replacements by messages make terms the same just where they do, read as terms.
+equal-up : (f g : Variable → Message) (t u : Term Variable) → replace f t ≡ replace g u
+    → replace {Y = Variable} (λ x. asTerm (f x)) t ≡ replace (λ x. asTerm (g x)) u
+equal-up f g t u h = lifted f t ∙ ap asTerm h ∙ sym (lifted g u)
+
+equal-down : (f g : Variable → Message) (t u : Term Variable) → replace {Y = Variable} (λ x. asTerm (f x)) t ≡ replace (λ x. asTerm (g x)) u
+    → replace f t ≡ replace g u
+equal-down f g t u h = sym (grounded f t) ∙ ap (replace (λ (x : Variable). atom 0)) h ∙ grounded g u
+
+module _ (s t : List ℕ) (bs : Begins s) (bt : Begins t) (ss : length s ≤ 252) (st : length t ≤ 252) where
+  -- What a valid valuation gives an entry's node: the instance of the term that stands there.
+  module _ {v : ℕ → Message} (valid : Valid (nodeOf s t) v) where
+    left-value : (k : ℕ) → 4 * (k + 1) ≤ length s → v (home s 0 128 k) ≡ replace (read v 128) (termOf (from (4 * k) s))
+    left-value k h =
+        let b = suffix k bs (omega arith) in
+        values (nodeOf s t) s 0 128 ss (left-side s t) v (read v 128) (λ x l. refl) (λ x l. refl) valid (b .term) k (omega arith) (b .reads)
+        ∙ ap (replace (read v 128)) (sym (rw part-to-end (termOf-reads (b .reads))))
+
+    right-value : (k : ℕ) → 4 * (k + 1) ≤ length t → v (home t 64 144 k) ≡ replace (read v 144) (termOf (from (4 * k) t))
+    right-value k h =
+        let b = suffix k bt (omega arith) in
+        values (nodeOf s t) t 64 144 st (right-side s t) v (read v 144) (λ x l. refl) (λ x l. refl) valid (b .term) k (omega arith) (b .reads)
+        ∙ ap (replace (read v 144)) (sym (rw part-to-end (termOf-reads (b .reads))))
+
+  -- The valuation of two replacements is valid, and gives an entry's node the instance of the term that stands there.
   module _ (f g : Variable → Message) where
     given-left : (k : ℕ) → k < 64 → given s t f g (0 + k) ≡ replace f (termOf (drop (4 * k) s))
     given-left k h = rw zero-add (simp (lt-ltb k 64 h))
@@ -112,62 +139,97 @@ module _ (s t : List ℕ) (bs : Begins s) (bt : Begins t) (ss : length s ≤ 252
             subst Made there (on-right (i - 64) (omega arith)) is
         go i is false false p q = absurd (subst IsSymbol (past-entries i p q) is)
 
-  pub share-to : (c : Share (termOf s) (termOf t)) → Agrees s t (given s t (c .left .by) (c .right .by))
-  share-to c =
-      let f = c .left .by in
-      let g = c .right .by in
-      let left = home-value (nodeOf s t) s 0 128 ss (left-side s t) (given s t f g) f (left-plain f g) (left-marked f g) (given-left f g) 0 (bs .term)
-      (omega arith) (bs .reads) in
-      let right = home-value (nodeOf s t) t 64 144 st (right-side s t) (given s t f g) g (right-plain f g) (right-marked f g) (given-right f g) 0
-      (bt .term) (omega arith) (bt .reads) in
-      record {
-        valid = given-valid f g;
-        roots =
-            left ∙ ap (replace f) (sym (termOf-reads (bs .reads))) ∙ c .left .same
-            ∙ sym (ap (replace g) (sym (termOf-reads (bt .reads))) ∙ c .right .same) ∙ sym right;
-      }
+    given-left-value : (k : ℕ) → 4 * (k + 1) ≤ length s → given s t f g (home s 0 128 k) ≡ replace f (termOf (from (4 * k) s))
+    given-left-value k h =
+        let b = suffix k bs (omega arith) in
+        home-value (nodeOf s t) s 0 128 ss (left-side s t) (given s t f g) f left-plain left-marked given-left k (b .term) (omega arith) (b .reads)
+        ∙ ap (replace f) (sym (rw part-to-end (termOf-reads (b .reads))))
 
-  -- What the walk and the test for finite classes answer, together.
-  pub sharing-yes : {next : ℕ → ℕ} → Step (nodeOf s t) (Valid (nodeOf s t)) (λ i. i) next (λ v. v (home s 0 128 0) ≡ v (home t 64 144 0))
-      → ((i : ℕ) → Finite (nodeOf s t) next i) → Share (termOf s) (termOf t)
-  sharing-yes step ends =
-      let w = valued (step .classes) ends in
-      let closed = step .closes (w .v) (w .respects) (record { makes = λ i is. refl }) in
-      let valid = w .valid closed in
-      share-of (record { valid = valid; roots = step .holds (w .v) (w .respects) valid })
+    given-right-value : (k : ℕ) → 4 * (k + 1) ≤ length t → given s t f g (home t 64 144 k) ≡ replace g (termOf (from (4 * k) t))
+    given-right-value k h =
+        let b = suffix k bt (omega arith) in
+        home-value (nodeOf s t) t 64 144 st (right-side s t) (given s t f g) g right-plain right-marked given-right k (b .term) (omega arith) (b .reads)
+        ∙ ap (replace g) (sym (rw part-to-end (termOf-reads (b .reads))))
 
-  pub sharing-no : Clash (nodeOf s t) (λ i. i) (λ v. v (home s 0 128 0) ≡ v (home t 64 144 0)) → Share (termOf s) (termOf t) → ⊥
-  sharing-no clash c = let a = share-to c in clash .never _ (a .valid) (record { same = λ i. refl }) (a .roots)
+  -- The noted entries, for a valuation and for replacements.
+  module _ {m : List ℕ} {n : ℕ} (r : Reduced s t m n) where
+    shared-of : {v : ℕ → Message} → Valid (nodeOf s t) v → AllEqual s t m n v → Share (termOf s) (termOf t)
+    shared-of {v} valid all = alike-share _ _ (r .same (λ x. asTerm (read v 128 x)) (λ x. asTerm (read v 144 x)) .1 (record {
+      each = λ k h. record {
+        same = equal-up (read v 128) (read v 144) _ _ (sym (left-value valid _ (r .noted .left k h)) ∙ all k h ∙ right-value valid _ (r .noted .right k h));
+      };
+    }))
 
-  pub sharing-endless : {next : ℕ → ℕ} → Step (nodeOf s t) (Valid (nodeOf s t)) (λ i. i) next (λ v. v (home s 0 128 0) ≡ v (home t 64 144 0))
-      → ((v : ℕ → Message) → Valid (nodeOf s t) v → Respects next v → ⊥) → Share (termOf s) (termOf t) → ⊥
-  sharing-endless step never c = let a = share-to c in never _ (a .valid) (step .forth _ (a .valid) (record { same = λ i. refl }) (a .roots))
+    all-of : (h : Share (termOf s) (termOf t)) → AllEqual s t m n (given s t (h .left .by) (h .right .by))
+    all-of h k l =
+        let f = h .left .by in
+        let g = h .right .by in
+        let all = r .same (λ x. asTerm (f x)) (λ x. asTerm (g x)) .0 (share-alike h) in
+        given-left-value f g _ (r .noted .left k l) ∙ equal-down f g _ _ (all .each k l .same) ∙ sym (given-right-value f g _ (r .noted .right k l))
+
+    -- What uniting and the test for finite classes answer, together.
+    sharing-yes : {next : ℕ → ℕ} → Step (nodeOf s t) Any (λ i. i) next (AllEqual s t m n) → ((i : ℕ) → Finite (nodeOf s t) next i) → Share (termOf s) (termOf t)
+    sharing-yes step ends =
+        let w = valued (step .classes) ends in
+        let closed = step .closes (w .v) (w .respects) (record { makes = λ i is. refl }) in
+        shared-of (w .valid closed) (step .holds (w .v) (w .respects) tt)
+
+    sharing-no : Clash (nodeOf s t) (λ i. i) (AllEqual s t m n) → Share (termOf s) (termOf t) → ⊥
+    sharing-no clash h = clash .never _ (given-valid (h .left .by) (h .right .by)) (record { same = λ i. refl }) (all-of h)
+
+    sharing-endless : {next : ℕ → ℕ} → Step (nodeOf s t) Any (λ i. i) next (AllEqual s t m n)
+        → ((v : ℕ → Message) → Valid (nodeOf s t) v → Respects next v → ⊥) → Share (termOf s) (termOf t) → ⊥
+    sharing-endless step never h =
+        let valid = given-valid (h .left .by) (h .right .by) in
+        never _ valid (step .forth _ valid (record { same = λ i. refl }) (all-of h))
 
 -- What the test for a shared instance answers, from the array in which every node is a class by itself.
-module _ (s t c : List ℕ) (two : TwoTerms s t) (size : length c ≡ 256) (own : (i : ℕ) → i < 256 → getD c i 0 ≡ i) where
-  names-own : nameOf c ≡ (λ i. i)
-  names-own = names-alone c (λ i h. own i (omega arith))
+module _ {s t m : List ℕ} {n : ℕ} (two : TwoTerms s t) (r : Reduced s t m n) {name next : ℕ → ℕ} (own : name ≡ (λ i. i)) {a : Bool}
+    (united : Outcome (nodeOf s t) Any name next (AllEqual s t m n) a) where
+  -- Uniting met a clash.
+  pub clash-answer : a ≡ false → false ≡ answer (share? variable? variable? (termOf s) (termOf t))
+  clash-answer e =
+      let clash = rw own at (united .clashed e) in
+      says-answer false (sharing-no s t (two .left) (two .right) (two .left-short) (two .right-short) r clash)
+      (share? variable? variable? (termOf s) (termOf t))
 
-  pub start-classes : Classes (nodeOf s t) (nameOf c)
-  start-classes = rw names-own (alone (nodeOf s t))
+  -- All were united: then every way down has to end.
+  pub ending-answer : a ≡ true → (b : Bool) → (b ≡ true → (i : ℕ) → Finite (nodeOf s t) next i)
+      → (b ≡ false → (v : ℕ → Message) → Valid (nodeOf s t) v → Respects next v → ⊥) → b ≡ answer (share? variable? variable? (termOf s) (termOf t))
+  ending-answer e b ends never =
+      let step = rw own at (united .stepped e) in
+      says-answer b (said b (λ q. sharing-yes s t (two .left) (two .right) (two .left-short) (two .right-short) r step (ends q))
+      (λ q. sharing-endless s t (two .left) (two .right) (two .left-short) (two .right-short) r step (never q)))
+      (share? variable? variable? (termOf s) (termOf t))
+    where
+      said : {P : Type 0} (b : Bool) → (b ≡ true → P) → (b ≡ false → P → ⊥) → Says b P
+      said true holds fails = holds refl
+      said false holds fails = fails refl
 
-  module _ {next : ℕ → ℕ} {r : Bool} (met : Outcome (nodeOf s t) (Valid (nodeOf s t)) (nameOf c) next (λ v. v (home s 0 128 0) ≡ v (home t 64 144 0)) r) where
-    -- The walk met a clash.
-    pub clash-answer : r ≡ false → false ≡ answer (share? variable? variable? (termOf s) (termOf t))
-    clash-answer e =
-        let clash = rw names-own at (met .clashed e) in
-        says-answer false (sharing-no s t (two .left) (two .right) (two .left-short) (two .right-short) clash)
-        (share? variable? variable? (termOf s) (termOf t))
+-- The walk came to different symbols.
+pub apart-answer : (t u : Term Variable) → ((by by′ : Variable → Term Variable) → ¬ (replace by t ≡ replace by′ u)) → false ≡ answer (share? variable? variable? t u)
+apart-answer t u off = says-answer false (λ h. off _ _ (share-alike h)) (share? variable? variable? t u)
 
-    -- The walk went through: then every way down has to end.
-    pub ending-answer : r ≡ true → (b : Bool) → (b ≡ true → (i : ℕ) → Finite (nodeOf s t) next i)
-        → (b ≡ false → (v : ℕ → Message) → Valid (nodeOf s t) v → Respects next v → ⊥) → b ≡ answer (share? variable? variable? (termOf s) (termOf t))
-    ending-answer e b ends never =
-        let step = rw names-own at (met .stepped e) in
-        says-answer b (said b (λ q. sharing-yes s t (two .left) (two .right) (two .left-short) (two .right-short) step (ends q))
-        (λ q. sharing-endless s t (two .left) (two .right) (two .left-short) (two .right-short) step (never q)))
-        (share? variable? variable? (termOf s) (termOf t))
-      where
-        said : {P : Type 0} (b : Bool) → (b ≡ true → P) → (b ≡ false → P → ⊥) → Says b P
-        said true holds fails = holds refl
-        said false holds fails = fails refl
+-- ---- uniting the noted entries, one after the other
+
+-- None yet.
+pub united-none : (s t m : List ℕ) {name : ℕ → ℕ} → Classes (nodeOf s t) name → Step (nodeOf s t) Any name name (AllEqual s t m 0)
+united-none s t m cs = restate (λ v x e. tt) (λ v q e k h. absurd (omega arith)) (stay (nodeOf s t) Any cs)
+
+module _ (s t m : List ℕ) (k : ℕ) {name mid : ℕ → ℕ} (step : Step (nodeOf s t) Any name mid (AllEqual s t m k)) where
+  -- One more.
+  module _ {i j : ℕ} (is : i ≡ home s 0 128 (getD m k 0)) (is′ : j ≡ home t 64 144 (getD m (64 + k) 0)) where
+    split : (v : ℕ → Message) → AllEqual s t m (k + 1) v → AllEqual s t m k v × (v i ≡ v j)
+    split v all = (λ l h. all l (omega arith), ap v is ∙ all k (omega arith) ∙ sym (ap v is′))
+
+    joined : (v : ℕ → Message) → AllEqual s t m k v × (v i ≡ v j) → AllEqual s t m (k + 1) v
+    joined v all l h = elim (ℕ-discrete l k) [
+      | yes e ↦ rw e (sym (ap v is) ∙ all .1 ∙ ap v is′)
+      | no off ↦ all .0 l (omega arith)
+    ]
+
+    pub united-more : {next : ℕ → ℕ} → Step (nodeOf s t) Any mid next (λ v. v i ≡ v j) → Step (nodeOf s t) Any name next (AllEqual s t m (k + 1))
+    united-more more = restate (λ v x all. split v all) (λ v q all. joined v all) (both (nodeOf s t) Any step more)
+
+    pub united-clash : {n : ℕ} → k < n → Clash (nodeOf s t) mid (λ v. v i ≡ v j) → Clash (nodeOf s t) name (AllEqual s t m n)
+    united-clash low clash = restate-clash (λ v x all. split v (λ l h. all l (omega arith))) (second-clash (nodeOf s t) Any step clash)

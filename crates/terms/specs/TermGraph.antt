@@ -2,12 +2,13 @@
 -- nodes of their own from 128 and from 144. The entry of a variable is found at its variable's node.
 use mathlib.Core.Bool.{Bool, true, false}
 use mathlib.Core.List.{List}
+use mathlib.Core.Logic.{_⊎_}
 use mathlib.Core.Path.{_≡_}
 use Prim.Native.Nat.{ℕ, zero, suc, _+_, _*_, _-_, _%_, _<_, _≤_}
 use lib.Dec.{ltb}
 use lib.ListN.{length, getD, drop}
 use Rattle.terms.specs.Entry.{termOf, size, Begins}
-use Rattle.terms.specs.Graph.{Node, free, atomNode, pairNode, encryptionNode}
+use Rattle.terms.specs.Graph.{Node, free, atomNode, pairNode, encryptionNode, IsSymbol}
 
 -- Tag and value of entry k.
 abbrev pub tagIn : List ℕ → ℕ → ℕ
@@ -85,21 +86,22 @@ pub record TwoTerms (s t : List ℕ) : Type 0 where
 abbrev pub sizeIn : List ℕ → ℕ → ℕ
 sizeIn e k = size (termOf (drop (4 * k) e))
 
--- A table of sizes: for entry k, at `base` + k, it has 0 or the size of the term there.
-pub record Sized (e z : List ℕ) (base : ℕ) : Type 0 where
-  pub long : length z ≡ 128
-  pub at : (k : ℕ) → 4 * k < length e → ¬ (getD z (base + k) 0 ≡ 0) → getD z (base + k) 0 ≡ sizeIn e k
+-- The sizes of the terms at e's entries, entry by entry.
+pub record SizesOf (e z : List ℕ) : Type 0 where
+  pub inside : (k : ℕ) → 4 * (k + 1) ≤ length e → k < length z
+  pub at : (k : ℕ) → 4 * (k + 1) ≤ length e → getD z k 0 ≡ sizeIn e k
 
--- A table of sizes for both sides, those of the first from 0 and of the second from 64; 0 where it has none.
-pub record Sizes (s t z : List ℕ) : Type 0 where
-  pub left : Sized s z 0
-  pub right : Sized t z 64
+-- A variable's node, or one where a symbol stands: every entry of a term is found at such a node.
+pub record AtHome (s t : List ℕ) (i : ℕ) : Type 0 where
+  pub small : i < 256
+  pub is : (128 ≤ i) ⊎ IsSymbol (nodeOf s t i)
 
--- The table has the sizes of the terms at e's entries from entry `first` on.
-pub record SizedFrom (e z : List ℕ) (base first : ℕ) : Type 0 where
-  pub long : length z ≡ 128
-  pub at : (k : ℕ) → first ≤ k → 4 * (k + 1) ≤ length e → getD z (base + k) 0 ≡ sizeIn e k
+-- The node is an entry's own.
+pub record Inside (s t : List ℕ) (i : ℕ) : Type 0 where
+  pub low : i < 128
+  pub left : i < 64 → 4 * (i + 1) ≤ length s
+  pub right : 64 ≤ i → 4 * (i - 64 + 1) ≤ length t
 
--- The first n entries of a table stay as they are.
-pub record KeptBelow (n : ℕ) (old new : List ℕ) : Type 0 where
-  pub same : (k : ℕ) → k < n → getD new k 0 ≡ getD old k 0
+-- A pair or an encryption stands at the node.
+abbrev pub HasChild : List ℕ → List ℕ → ℕ → Type 0
+HasChild s t i = (nodeTag s t i ≡ 2) ⊎ (nodeTag s t i ≡ 3)

@@ -3,23 +3,24 @@
 use mathlib.Core.Path.{_≡_, refl, sym, ap, ap₂, _∙_, subst}
 use mathlib.Core.Bool.{Bool, true, false}
 use mathlib.Core.List.{List, _∷_}
+use mathlib.Core.Logic.{_⊎_, inl, inr, ⊎-elim}
 use Prim.Native.Nat.{ℕ, zero, suc, _+_, _*_, _-_, _%_, _<_, _≤_}
 use native.Mathlib.Omega.{arith}
 use native.Mathlib.Nat.{zero-add}
-use lib.Dec.{ltb, eqb}
-use borrow.Author.Tests.{lt-ltb, le-ltb, ltb-true, ltb-false, eq-eqb}
-use lib.ListN.{length, getD, set, drop, replicate, length-drop, length-set, length-replicate, getD-replicate, List·getD-eq-default}
-use lib.Seq.{drop-drop, getD-drop, getD-set-same, getD-set-other}
-use native.Mathlib.Decide.{ℕ-discrete}
+use lib.Dec.{ltb}
+use borrow.Author.Tests.{lt-ltb, le-ltb, ltb-true, ltb-false}
+use lib.ListN.{length, getD, drop, length-drop, List·getD-eq-default}
+use lib.Seq.{drop-drop, getD-drop}
+use native.Mathlib.Decide.{decLt}
 use Rattle.terms.specs.Term.{Term, Message, Variable, variable, atom, pair, encrypted, plain, marked, replace}
 use Rattle.terms.specs.Entry.{termOf, tagAt, valueAt, size, Reads, Begins}
 use Rattle.terms.specs.EntryLaws.{termOf-reads, past, fits, four, suffix, reads-atom, reads-pair, reads-encrypted, reads-plain, reads-marked}
 use Rattle.terms.specs.EntryLaws.{First, first, first-atom, first-pair, first-encrypted, first-plain, first-marked}
 use Rattle.terms.specs.WalkLaws.{from, pair-first, encryption-first}
 use borrow.Rule.Slice.PartAt.{part-to-end}
-use Rattle.terms.specs.Graph.{Node, atomNode, pairNode, encryptionNode, IsSymbol, made, Valid}
-use Rattle.terms.specs.TermGraph.{tagIn, valueIn, homeBy, home, rightIn, nodeBy, nodeTag, nodeValue, firstChild, secondChild, nodeOf, freeTag}
-use Rattle.terms.specs.TermGraph.{sizeIn, Sized, SizedFrom, KeptBelow}
+use Rattle.terms.specs.Graph.{Node, free, atomNode, pairNode, encryptionNode, IsSymbol, made, Valid}
+use Rattle.terms.specs.TermGraph.{tagIn, valueIn, homeBy, home, rightIn, nodeBy, nodeTag, nodeValue, firstChild, secondChild, nodeOf}
+use Rattle.terms.specs.TermGraph.{TwoTerms, sizeIn, SizesOf, AtHome, Inside, HasChild}
 
 -- The first entry of what is left from entry k on is entry k.
 pub tag-in : (e : List ℕ) (k : ℕ) → tagIn e k ≡ tagAt (drop (4 * k) e)
@@ -27,6 +28,9 @@ tag-in e k = let here : 4 * k + 0 ≡ 4 * k = omega arith in sym (getD-drop (4 *
 
 pub value-in : (e : List ℕ) (k : ℕ) → valueIn e k ≡ valueAt (drop (4 * k) e)
 value-in e k = sym (ap₂ (λ (x y : ℕ). x + 256 * y) (getD-drop (4 * k) e 2 0) (getD-drop (4 * k) e 3 0))
+
+pub value-part : (e : List ℕ) (k : ℕ) {n : ℕ} → n ≡ valueAt (from (4 * k) e) → n ≡ valueIn e k
+value-part e k is = is ∙ ap valueAt (part-to-end e (4 * k)) ∙ sym (value-in e k)
 
 -- The next entry, and the one past the left half of a pair.
 next-entry : (e : List ℕ) (k : ℕ) → drop 4 (drop (4 * k) e) ≡ drop (4 * (k + 1)) e
@@ -87,6 +91,32 @@ module _ (node : ℕ → Node) (e : List ℕ) (base slots : ℕ) (short : length
   home-tag : (k : ℕ) {n : ℕ} → tagIn e k ≡ n → home e base slots k ≡ homeBy n (valueIn e k) slots (base + k)
   unfolding home
   home-tag k g = ap (λ (m : ℕ). homeBy m (valueIn e k) slots (base + k)) g
+
+  -- An entry is found at a variable's node or where a symbol stands.
+  home-there : Begins e → (k : ℕ) → 128 ≤ slots → slots ≤ 144 → base ≤ 64 → 4 * (k + 1) ≤ length e
+      → (home e base slots k < 256) × ((128 ≤ home e base slots k) ⊎ IsSymbol (node (home e base slots k)))
+  unfolding homeBy nodeBy
+  home-there b k from-128 up-to low fit = let there = suffix k b (omega arith) in go (first (there .reads))
+    where
+      own : {n : ℕ} → tagIn e k ≡ n → homeBy n (valueIn e k) slots (base + k) ≡ base + k
+          → IsSymbol (nodeBy n (valueIn e k) (home e base slots (k + 1)) (home e base slots (rightIn e k)))
+          → (home e base slots k < 256) × ((128 ≤ home e base slots k) ⊎ IsSymbol (node (home e base slots k)))
+      own g q is =
+          let here : home e base slots k ≡ base + k = home-tag k g ∙ q in
+          let symbol : IsSymbol (node (base + k)) = subst IsSymbol (sym (node-tag (omega arith) g)) is in
+          (omega arith, inr (subst (λ (n : ℕ). IsSymbol (node n)) (sym here) symbol))
+
+      slot : {n : ℕ} → home e base slots k ≡ n → 128 ≤ n → n < 256
+          → (home e base slots k < 256) × ((128 ≤ home e base slots k) ⊎ IsSymbol (node (home e base slots k)))
+      slot here l h = (omega arith, inl (omega arith))
+
+      go : {l : List (Term Variable)} → First (tagAt (drop (4 * k) e)) (valueAt (drop (4 * k) e)) (drop 4 (drop (4 * k) e)) l
+          → (home e base slots k < 256) × ((128 ≤ home e base slots k) ⊎ IsSymbol (node (home e base slots k)))
+      go (first-atom g q r) = own (tag-in e k ∙ g) refl tt
+      go (first-pair g n q r) = own (tag-in e k ∙ g) refl tt
+      go (first-encrypted g q r) = own (tag-in e k ∙ g) refl tt
+      go (first-plain g n q r) = slot (home-tag k (tag-in e k ∙ g)) (omega arith) (omega arith)
+      go (first-marked g n q r) = slot (home-tag k (tag-in e k ∙ g)) (omega arith) (omega arith)
 
   module _ (v : ℕ → Message) (by : Variable → Message)
       (plains : (x : ℕ) → x < 8 → v (slots + x) ≡ by (plain x)) (markeds : (x : ℕ) → x < 8 → v (slots + 8 + x) ≡ by (marked x)) where
@@ -256,107 +286,6 @@ size-fits {e} k b inside =
     let room = fits (there .term) (there .reads) in
     omega (arith, size-read (there .reads), length-drop (4 * k) e)
 
--- The size, as a walk finds it.
-pub size-walked : (e : List ℕ) (k : ℕ) {r : ℕ} → r ≡ size (termOf (from (4 * k) e)) → r ≡ sizeIn e k
-size-walked e k is = is ∙ ap (λ (l : List ℕ). size (termOf l)) (part-to-end e (4 * k))
-
-pub part-begins : {e : List ℕ} (k : ℕ) → Begins e → 4 * k < length e → Begins (from (4 * k) e)
-part-begins k b inside = rw part-to-end (suffix k b inside)
-
--- A table of zeros, and one that is filled in.
-pub sized-zero : {e : List ℕ} {base : ℕ} → length e ≤ 252 → base ≤ 64 → Sized e (replicate 128 0) base
-sized-zero {base = base} short low = record {
-  long = length-replicate {A = ℕ} 128 0;
-  at = λ k inside some. absurd (some (getD-replicate 128 (base + k) 0 0 (omega arith)));
-}
-
-pub sized-all : {e z : List ℕ} {base : ℕ} → Begins e → SizedFrom e z base 0 → Sized e z base
-sized-all b s = record { long = s .long; at = λ k inside some. s .at k (omega arith) (whole-entry k b inside) }
-
--- What the table has of the halves of a pair at entry k, where it has the sizes from the next entry on.
-pub record PairSizes (e z : List ℕ) (base k : ℕ) : Type 0 where
-  pub left-inside : base + k + 1 < 128
-  pub left-size : getD z (base + k + 1) 0 ≡ sizeIn e (k + 1)
-  pub right-inside : base + k + 1 + sizeIn e (k + 1) < 128
-  pub right-size : getD z (base + k + 1 + sizeIn e (k + 1)) 0 ≡ sizeIn e (rightIn e k)
-  pub whole : sizeIn e k ≡ 1 + (sizeIn e (k + 1) + sizeIn e (rightIn e k))
-  pub small : sizeIn e k ≤ 63
-
--- And of the content of an encryption.
-pub record ContentSize (e z : List ℕ) (base k : ℕ) : Type 0 where
-  pub inside : base + k + 1 < 128
-  pub content-size : getD z (base + k + 1) 0 ≡ sizeIn e (k + 1)
-  pub whole : sizeIn e k ≡ 1 + sizeIn e (k + 1)
-  pub small : sizeIn e k ≤ 63
-
-module _ {e z : List ℕ} {base : ℕ} (k : ℕ) (b : Begins e) (short : length e ≤ 252) (low : base ≤ 64) (sized : SizedFrom e z base (k + 1)) where
-  next-size : 4 * (k + 1) < length e → getD z (base + k + 1) 0 ≡ sizeIn e (k + 1)
-  next-size fit =
-      let there : base + (k + 1) ≡ base + k + 1 = omega arith in
-      ap (λ (n : ℕ). getD z n 0) (sym there) ∙ sized .at (k + 1) (omega arith) (whole-entry (k + 1) b fit)
-
-  pub pair-sizes : tagIn e k ≡ 2 → PairSizes e z base k
-  unfolding rightIn
-  pair-sizes two =
-      let p = pair-there k b two .is in
-      let room = size-fits k b (tag-inside e k two) in
-      let there : base + rightIn e k ≡ base + k + 1 + sizeIn e (k + 1) = omega arith in
-      record {
-        left-inside = omega (arith, p .left-fits);
-        left-size = next-size (p .left-fits);
-        right-inside = omega (arith, p .right-fits);
-        right-size = ap (λ (n : ℕ). getD z n 0) (sym there) ∙ sized .at (rightIn e k) (omega (arith, p .after)) (whole-entry (rightIn e k) b (p .right-fits));
-        whole = pair-size k b two;
-        small = omega arith;
-      }
-
-  pub content-size : tagIn e k ≡ 3 → ContentSize e z base k
-  content-size three =
-      let p = encryption-there k b three .is in
-      let room = size-fits k b (tag-inside e k three) in
-      record {
-        inside = omega (arith, p .content-fits);
-        content-size = next-size (p .content-fits);
-        whole = encryption-size k b three;
-        small = omega arith;
-      }
-
--- A size that was read from the table is that of the part's term, and the term ends within the entries.
-pub sized-part : {e z : List ℕ} (h : ℕ) {n : ℕ} → SizedFrom e z 0 0 → Begins (from (4 * h) e) → n ≡ getD z h 0
-    → (n ≡ size (termOf (from (4 * h) e))) × (4 * (h + n) ≤ length e)
-sized-part {e} {z} h {n} sized b read =
-    let room = b .room in
-    let fit : 4 * (h + 1) ≤ length e = omega (arith, rw part-to-end at room, length-drop (4 * h) e) in
-    let is : n ≡ size (termOf (from (4 * h) e)) = rw part-to-end (read ∙ rw zero-add at (sized .at h (omega arith) fit)) in
-    let here : termOf (from (4 * h) e) ≡ b .term = termOf-reads (b .reads) in
-    let small : 4 * size (termOf (from (4 * h) e)) ≤ length (from (4 * h) e) = rw here (fits (b .term) (b .reads)) in
-    let long : length (from (4 * h) e) ≡ length e - 4 * h = rw part-to-end (length-drop (4 * h) e) in
-    (is, omega arith)
-
--- The table before the last entry, and with one more.
-pub sized-none : {e z : List ℕ} (base : ℕ) {first : ℕ} → length z ≡ 128 → length e < 4 * (first + 1) → SizedFrom e z base first
-sized-none base long last = record { long = long; at = λ k low fit. absurd (omega arith) }
-
-pub sized-more : {e z : List ℕ} {base k r : ℕ} → SizedFrom e z base (k + 1) → base + k < length z → r ≡ sizeIn e k → SizedFrom e (set z (base + k) r) base k
-sized-more {e} {z} {base} {k} {r} s inside is = record {
-  long = simp length-set (s .long);
-  at = λ n low fit. elim (ℕ-discrete n k) [
-    | yes same ↦ rw same (getD-set-same z (base + k) r 0 inside ∙ is)
-    | no off ↦ getD-set-other z (base + k) (base + n) r 0 (λ e. off (omega arith)) ∙ s .at n (omega arith) fit
-  ];
-}
-
-pub kept-more : {n j : ℕ} {old z : List ℕ} (r : ℕ) → KeptBelow n old z → n ≤ j → KeptBelow n old (set z j r)
-kept-more {n} {j} {old} {z} r k far = record { same = λ i low. getD-set-other z j i r 0 (omega arith) ∙ k .same i low }
-
-pub sized-kept : {e z new : List ℕ} {n : ℕ} → SizedFrom e z 0 0 → length e ≤ 4 * n → KeptBelow n z new → length new ≡ 128 → SizedFrom e new 0 0
-sized-kept {n = n} s short k long = record { long = long; at = λ i low fit. k .same (0 + i) (omega arith) ∙ s .at i low fit }
-
--- The right half of a pair stands behind the left one.
-pub right-found : {e : List ℕ} (k : ℕ) → PairThere e k → {r : ℕ} → r ≡ sizeIn e (k + 1) → k + 1 + r ≡ rightIn e k
-unfolding rightIn
-right-found k p is = ap (λ (n : ℕ). k + 1 + n) is
-
 -- The node of an entry, by its tag.
 module _ (e : List ℕ) (base slots k : ℕ) where
   pub home-plain : {n : ℕ} → tagIn e k ≡ 4 → n ≡ valueIn e k → slots + n % 8 ≡ home e base slots k
@@ -390,15 +319,130 @@ module _ (s t : List ℕ) {i : ℕ} where
   unfolding nodeTag
   right-tag l h = rw (le-ltb i 64 l, lt-ltb i 128 h)
 
--- The test for a tag that is no symbol's.
-pub free-zero : {n : ℕ} → n ≡ 0 → eqb n 0 ≡ freeTag n
-unfolding freeTag
-free-zero {n} e = eq-eqb n 0 e ∙ ap freeTag (sym e)
+  pub past-tag : 128 ≤ i → nodeTag s t i ≡ 0
+  unfolding nodeTag
+  past-tag h = rw (le-ltb i 64 (omega arith), le-ltb i 128 h)
 
-pub free-above : (n : ℕ) → (n ≡ 0 → ⊥) → ltb 3 n ≡ freeTag n
-unfolding freeTag
-free-above zero h = absurd (h refl)
-free-above (suc zero) h = refl
-free-above (suc (suc zero)) h = refl
-free-above (suc (suc (suc zero))) h = refl
-free-above (suc (suc (suc (suc n)))) h = lt-ltb 3 (suc (suc (suc (suc n)))) (omega arith)
+-- Its value.
+module _ (s t : List ℕ) {i : ℕ} where
+  pub left-value : i < 64 → nodeValue s t i ≡ valueIn s i
+  unfolding nodeValue
+  left-value h = rw (lt-ltb i 64 h)
+
+  pub right-value : 64 ≤ i → i < 128 → nodeValue s t i ≡ valueIn t (i - 64)
+  unfolding nodeValue
+  right-value l h = rw (le-ltb i 64 l, lt-ltb i 128 h)
+
+-- Nodes past the entries are free.
+pub past-free : (s t : List ℕ) (i : ℕ) → 128 ≤ i → nodeOf s t i ≡ free
+unfolding nodeOf nodeBy
+past-free s t i h = rw (past-tag s t h)
+
+-- A symbol stands at an entry's own node.
+pub symbol-low : (s t : List ℕ) {i : ℕ} → IsSymbol (nodeOf s t i) → i < 128
+symbol-low s t {i} is = elim (decLt i 128) [ yes l ↦ l | no n ↦ absurd (subst IsSymbol (past-free s t i (omega arith)) is) ]
+
+some-symbol : (s t : List ℕ) (i : ℕ) → IsSymbol (nodeOf s t i) → 0 < nodeTag s t i
+unfolding nodeOf nodeBy
+some-symbol s t i is = go (nodeTag s t i) is
+  where
+    go : (n : ℕ) → IsSymbol (nodeBy n (nodeValue s t i) (firstChild s t i) (secondChild s t i)) → 0 < n
+    go zero is = absurd is
+    go (suc n) is = omega arith
+
+-- An entry with a tag is whole.
+some-tag : {e : List ℕ} (k : ℕ) → Begins e → 0 < tagIn e k → 4 * (k + 1) ≤ length e
+some-tag {e} k b some = go (tagIn e k) refl some
+  where
+    go : (n : ℕ) → tagIn e k ≡ n → 0 < n → 4 * (k + 1) ≤ length e
+    go zero g h = absurd (omega arith)
+    go (suc n) g h = whole-entry k b (tag-inside e k g)
+
+module _ {s t : List ℕ} (both : TwoTerms s t) {i : ℕ} where
+  pub tag-at-entry : 0 < nodeTag s t i → Inside s t i
+  tag-at-entry some = elim (decLt i 128) [
+    | yes l ↦ record {
+      low = l;
+      left = λ h. some-tag i (both .left) (rw (left-tag s t h) at some);
+      right = λ h. some-tag (i - 64) (both .right) (rw (right-tag s t h l) at some);
+    }
+    | no n ↦ let none = past-tag s t {i = i} (omega arith) in absurd (omega arith)
+  ]
+
+  pub symbol-inside : IsSymbol (nodeOf s t i) → Inside s t i
+  symbol-inside is = tag-at-entry (some-symbol s t i is)
+
+-- A node at home that is no variable's is a symbol's.
+pub home-symbol : {s t : List ℕ} {i : ℕ} → AtHome s t i → i < 128 → IsSymbol (nodeOf s t i)
+home-symbol at-home low = ⊎-elim (λ high. absurd (omega arith)) (λ is. is) (at-home .is)
+
+-- The entries of each side are found at home.
+pub home-left : (s t : List ℕ) (k : ℕ) → TwoTerms s t → 4 * (k + 1) ≤ length s → AtHome s t (home s 0 128 k)
+home-left s t k both fit =
+    let there = home-there (nodeOf s t) s 0 128 (both .left-short) (left-side s t) (both .left) k (omega arith) (omega arith) (omega arith) fit in
+    record { small = there .0; is = there .1 }
+
+pub home-right : (s t : List ℕ) (k : ℕ) → TwoTerms s t → 4 * (k + 1) ≤ length t → AtHome s t (home t 64 144 k)
+home-right s t k both fit =
+    let there = home-there (nodeOf s t) t 64 144 (both .right-short) (right-side s t) (both .right) k (omega arith) (omega arith) (omega arith) fit in
+    record { small = there .0; is = there .1 }
+
+-- Where the children of a pair or an encryption at entry k stand.
+first-fits : {e : List ℕ} (k : ℕ) → Begins e → (tagIn e k ≡ 2) ⊎ (tagIn e k ≡ 3) → 4 * (k + 1 + 1) ≤ length e
+first-fits k b (inl two) = whole-entry (k + 1) b (pair-there k b two .is .left-fits)
+first-fits k b (inr three) = whole-entry (k + 1) b (encryption-there k b three .is .content-fits)
+
+-- The children of a node, on each side.
+pub child-inside : {s t : List ℕ} {i : ℕ} → TwoTerms s t → HasChild s t i → Inside s t i
+child-inside both (inl two) = tag-at-entry both (omega arith)
+child-inside both (inr three) = tag-at-entry both (omega arith)
+
+module _ (s t : List ℕ) (i : ℕ) where
+  pub first-on-left : i < 64 → home s 0 128 (i + 1) ≡ firstChild s t i
+  unfolding firstChild
+  first-on-left h = rw (lt-ltb i 64 h)
+
+  pub first-on-right : 64 ≤ i → i < 128 → home t 64 144 (i - 64 + 1) ≡ firstChild s t i
+  unfolding firstChild
+  first-on-right l h = rw (le-ltb i 64 l, lt-ltb i 128 h)
+
+  pub second-on-left : i < 64 → home s 0 128 (rightIn s i) ≡ secondChild s t i
+  unfolding secondChild
+  second-on-left h = rw (lt-ltb i 64 h)
+
+  pub second-on-right : 64 ≤ i → i < 128 → home t 64 144 (rightIn t (i - 64)) ≡ secondChild s t i
+  unfolding secondChild
+  second-on-right l h = rw (le-ltb i 64 l, lt-ltb i 128 h)
+
+module _ {s t : List ℕ} {i : ℕ} (both : TwoTerms s t) where
+  pub left-first-fits : HasChild s t i → i < 64 → 4 * (i + 1 + 1) ≤ length s
+  left-first-fits (inl two) h = first-fits i (both .left) (inl (sym (left-tag s t h) ∙ two))
+  left-first-fits (inr three) h = first-fits i (both .left) (inr (sym (left-tag s t h) ∙ three))
+
+  pub right-first-fits : HasChild s t i → 64 ≤ i → i < 128 → 4 * (i - 64 + 1 + 1) ≤ length t
+  right-first-fits (inl two) l h = first-fits (i - 64) (both .right) (inl (sym (right-tag s t l h) ∙ two))
+  right-first-fits (inr three) l h = first-fits (i - 64) (both .right) (inr (sym (right-tag s t l h) ∙ three))
+
+-- The right half of a pair at entry k, by the sizes.
+pub record RightThere (e z : List ℕ) (k : ℕ) : Type 0 where
+  pub inside : k + 1 < length z
+  pub read : k + 1 + getD z (k + 1) 0 ≡ rightIn e k
+  pub fits : 4 * (rightIn e k + 1) ≤ length e
+
+right-there : {e z : List ℕ} (k : ℕ) → Begins e → SizesOf e z → tagIn e k ≡ 2 → RightThere e z k
+unfolding rightIn
+right-there k b sizes two =
+    let p = pair-there k b two .is in
+    let next = whole-entry (k + 1) b (p .left-fits) in
+    record {
+      inside = sizes .inside (k + 1) next;
+      read = ap (λ (n : ℕ). k + 1 + n) (sizes .at (k + 1) next);
+      fits = whole-entry (rightIn _ k) b (p .right-fits);
+    }
+
+module _ {s t z : List ℕ} {i : ℕ} (both : TwoTerms s t) (two : nodeTag s t i ≡ 2) where
+  pub left-right-there : SizesOf s z → i < 64 → RightThere s z i
+  left-right-there sizes h = right-there i (both .left) sizes (sym (left-tag s t h) ∙ two)
+
+  pub right-right-there : SizesOf t z → 64 ≤ i → i < 128 → RightThere t z (i - 64)
+  right-right-there sizes l h = right-there (i - 64) (both .right) sizes (sym (right-tag s t l h) ∙ two)

@@ -1,119 +1,125 @@
--- What the step that unites two classes answers, branch by branch, said of the array of names.
-use mathlib.Core.Path.{_≡_, refl, sym, ap, _∙_, subst, subst₂}
+-- What the step that unites two classes answers, branch by branch, said of the array of links.
+use mathlib.Core.Path.{_≡_, sym, ap, _∙_, subst}
 use mathlib.Core.Bool.{Bool, true, false}
-use mathlib.Core.List.{List, map}
+use mathlib.Core.List.{List}
 use mathlib.Core.Logic.{⊎-elim}
-use Prim.Native.Nat.{ℕ, _<_, _≤_}
+use Prim.Native.Nat.{ℕ, _<_}
 use native.Mathlib.Omega.{arith}
-use lib.ListN.{length, getD, length-map}
-use Rattle.terms.specs.declared.sharing.How.{How}
-use Rattle.terms.specs.declared.sharing.How.the-variants.{LeftFree, RightFree, Differ, Atoms, Encryptions, Pairs}
-use Rattle.terms.specs.Graph.{Classes, Outcome}
-use Rattle.terms.specs.GraphLaws.{rename, merge, Any, done, failed, restate}
-use Rattle.terms.specs.TermGraph.{nodeOf, nodeTag, freeTag, firstChild, secondChild, TwoTerms}
-use Rattle.terms.specs.Meeting.{Meets, Symbols}
-use Rattle.terms.specs.Names.{nameOf, name-read, names-merge, classCount, fewer}
-use Rattle.terms.specs.UniteLaws.{one-class, free-class, symbols-merge, tags-clash, values-clash, equal-atoms, equal-encryptions, equal-pairs}
+use lib.ListN.{set}
+use Rattle.terms.specs.declared.classes.How.{How}
+use Rattle.terms.specs.declared.classes.How.the-variants.{Free, Differ, Atoms, Encryptions, Pairs}
+use Rattle.terms.specs.Term.{Message}
+use Rattle.terms.specs.Graph.{Node, Classes, Respects, Outcome}
+use Rattle.terms.specs.GraphLaws.{merge, Any, done, failed, restate, restate-clash}
+use Rattle.terms.specs.TermGraph.{nodeOf, nodeTag, freeTag, firstChild, secondChild, AtHome}
+use Rattle.terms.specs.TermGraphLaws.{past-tag}
+use Rattle.terms.specs.Meeting.{Meets}
+use Rattle.terms.specs.Names.{nameOf, Linked, classCount, classes-of, joined-linked, joined-names, joined-fewer, name-home, name-named}
+use Rattle.terms.specs.UniteLaws.{one-class, free-class, tags-clash, values-clash, equal-atoms, equal-encryptions, equal-pairs}
 
--- Both nodes are symbols: what the tests of their tags say.
-pub symbols : {s t : List ℕ} {a b m n : ℕ} {p q : Bool} → m ≡ nodeTag s t a → p ≡ freeTag m → p ≡ false
-    → n ≡ nodeTag s t b → q ≡ freeTag n → q ≡ false → Symbols s t a b
-symbols first p f second q g = record { left = ap freeTag (sym first) ∙ sym p ∙ f; right = ap freeTag (sym second) ∙ sym q ∙ g }
+-- The names a and b of two classes, a above b.
+pub record TwoNames (s t c : List ℕ) (a b : ℕ) : Type 0 where
+  pub linked : Linked s t c
+  pub first : AtHome s t a
+  pub second : AtHome s t b
+  pub first-named : nameOf c a ≡ a
+  pub second-named : nameOf c b ≡ b
+  pub above : b < a
 
--- The answer of the meeting, at the names themselves.
-pub met-at : (s t : List ℕ) {x y a b : ℕ} {met h : How} → Meets s t x y met → met ≡ h → x ≡ a → y ≡ b → Meets s t a b h
-met-at s t {x} {y} {a} {b} {met} {h} m told ex ey = subst₂ (λ (p q : ℕ). Meets s t p q h) ex ey (subst (Meets s t x y) told m)
+pub two-names : {s t c : List ℕ} {a b : ℕ} → Linked s t c → AtHome s t a → AtHome s t b → nameOf c a ≡ a → nameOf c b ≡ b → b < a → TwoNames s t c a b
+two-names linked first second first-named second-named above =
+    record { linked = linked; first = first; second = second; first-named = first-named; second-named = second-named; above = above }
 
--- What uniting the classes of nodes i and j starts from: the array c names the classes.
-pub record Uniting (s t c : List ℕ) (i j : ℕ) : Type 0 where
-  pub long : length c ≡ 256
-  pub first : i < 256
-  pub second : j < 256
-  pub classes : Classes (nodeOf s t) (nameOf c)
+-- The answer of the meeting.
+pub met-as : (s t : List ℕ) (a b : ℕ) {met h : How} → Meets s t a b met → met ≡ h → Meets s t a b h
+met-as s t a b m told = subst (Meets s t a b) told m
 
-pub uniting : (s t c : List ℕ) (i j : ℕ) → TwoTerms s t × (length c ≡ 256) × (i < 256) × (j < 256) × Classes (nodeOf s t) (nameOf c) → Uniting s t c i j
-uniting s t c i j asked = record { long = asked .1; first = asked .2; second = asked .3; classes = asked .4 }
-
-pub other-way : {s t c : List ℕ} {i j : ℕ} → Uniting s t c i j → Uniting s t c j i
-other-way u = record { long = u .long; first = u .second; second = u .first; classes = u .classes }
-
--- The class of one name took the other: d is the array then.
-pub record Taken (s t c d : List ℕ) (i j : ℕ) : Type 0 where
-  pub from : Uniting s t c i j
-  pub apart : getD c i 0 ≡ getD c j 0 → ⊥
-  pub first : getD c i 0 < 256
-  pub second : getD c j 0 < 256
-  pub is : d ≡ map (rename (getD c i 0) (getD c j 0)) c
-
-pub taken : {s t c : List ℕ} {i j : ℕ} → Uniting s t c i j → (getD c i 0 ≡ getD c j 0 → ⊥) → {x y : ℕ} → (x ≡ getD c i 0) × (x ≤ 255)
-    → (y ≡ getD c j 0) × (y ≤ 255) → {d : List ℕ} → d ≡ map (rename (getD c i 0) (getD c j 0)) c → Taken s t c d i j
-taken u apart a b is = record { from = u; apart = apart; first = omega (arith, a .0, a .1); second = omega (arith, b .0, b .1); is = is }
-
-module _ {s t c : List ℕ} {i j : ℕ} (u : Uniting s t c i j) where
-  -- The names of the two classes.
-  a-is : getD c i 0 ≡ nameOf c i
-  a-is = name-read c i (omega (arith, u .long, u .first))
-
-  b-is : getD c j 0 ≡ nameOf c j
-  b-is = name-read c j (omega (arith, u .long, u .second))
-
-  pub same-answer : getD c i 0 ≡ getD c j 0 → Outcome (nodeOf s t) Any (nameOf c) (nameOf c) (λ v. v i ≡ v j) true
-  same-answer e = done (one-class s t (nameOf c) (u .classes) i j a-is b-is e)
-
-  pub differ-answer : Meets s t (getD c i 0) (getD c j 0) Differ → Outcome (nodeOf s t) Any (nameOf c) (nameOf c) (λ v. v i ≡ v j) false
-  differ-answer m = ⊎-elim
-      (λ off. failed (tags-clash s t (nameOf c) (u .classes) i j a-is b-is (m .0 .left) (m .0 .right) off))
-      (λ q. failed (values-clash s t (nameOf c) (u .classes) i j a-is b-is (m .0 .left) (m .0 .right) (q .0) (q .1) (q .2))) (m .1)
-
--- The array after the class of one name took the other.
-module _ {s t c d : List ℕ} {i j : ℕ} (w : Taken s t c d i j) where
+module _ {s t c : List ℕ} {a b : ℕ} (w : TwoNames s t c a b) where
   cs : Classes (nodeOf s t) (nameOf c)
-  cs = w .from .classes
+  cs = classes-of (w .linked)
 
-  a-named : nameOf c (getD c i 0) ≡ getD c i 0
-  a-named = ap (nameOf c) (a-is (w .from)) ∙ cs .named i ∙ sym (a-is (w .from))
+  a-is : a ≡ nameOf c a
+  a-is = sym (w .first-named)
 
-  b-named : nameOf c (getD c j 0) ≡ getD c j 0
-  b-named = ap (nameOf c) (b-is (w .from)) ∙ cs .named j ∙ sym (b-is (w .from))
+  b-is : b ≡ nameOf c b
+  b-is = sym (w .second-named)
 
-  pub renamed-length : length d ≡ 256
-  renamed-length = ap length (w .is) ∙ length-map c (rename (getD c i 0) (getD c j 0)) ∙ w .from .long
+  apart : a ≡ b → ⊥
+  apart e = omega (arith, w .above)
 
-  pub renamed-fewer : classCount d < classCount c
-  renamed-fewer = rw (w .is) (fewer c (getD c i 0) (getD c j 0) (w .apart) a-named b-named
-      (omega (arith, w .first, w .from .long)) (omega (arith, w .second, w .from .long)))
+  pub differ-answer : Meets s t a b Differ → Outcome (nodeOf s t) Any (nameOf c) (nameOf c) (λ v. v a ≡ v b) false
+  differ-answer m = ⊎-elim
+      (λ off. failed (tags-clash s t (nameOf c) cs a b a-is b-is (m .0 .left) (m .0 .right) off))
+      (λ q. failed (values-clash s t (nameOf c) cs a b a-is b-is (m .0 .left) (m .0 .right) (q .0) (q .1) (q .2))) (m .1)
 
-  renamed-names : merge (getD c i 0) (getD c j 0) (nameOf c) ≡ nameOf d
-  renamed-names = sym (ap nameOf (w .is) ∙ names-merge c (getD c i 0) (getD c j 0) (omega (arith, w .second, w .from .long)))
+  -- From here on a leads to b.
+  pub names-linked : Linked s t (set c a b)
+  names-linked = joined-linked (w .linked) (w .first) (w .second) (w .first-named) (w .second-named) (w .above)
 
-  pub left-answer : Meets s t (getD c i 0) (getD c j 0) LeftFree → Outcome (nodeOf s t) Any (nameOf c) (nameOf d) (λ v. v i ≡ v j) true
-  left-answer m = done (rw renamed-names at (free-class s t (nameOf c) cs i j (a-is (w .from)) (b-is (w .from)) (w .apart) m))
+  pub names-fewer : classCount (set c a b) < classCount c
+  names-fewer = joined-fewer (w .linked) (w .first) (w .first-named) (w .above)
 
-  pub atoms-answer : Meets s t (getD c i 0) (getD c j 0) Atoms → Outcome (nodeOf s t) Any (nameOf c) (nameOf d) (λ v. v i ≡ v j) true
-  atoms-answer m = done (rw renamed-names at (equal-atoms s t (nameOf c) cs i j (a-is (w .from)) (b-is (w .from)) (m .0 .left) (m .0 .right) (m .1)
-      (w .apart) (m .2) (m .3) (m .4)))
+  names-merged : merge a b (nameOf c) ≡ nameOf (set c a b)
+  names-merged = joined-names (w .linked) (w .first) (w .second) (w .first-named) (w .second-named) (w .above)
 
-  pub renamed-classes : Symbols s t (getD c i 0) (getD c j 0) → Classes (nodeOf s t) (nameOf d)
-  renamed-classes m = rw renamed-names at (symbols-merge s t (nameOf c) cs i j (a-is (w .from)) (b-is (w .from)) (m .left) (m .right) (w .apart))
+  pub free-answer : Meets s t a b Free → Outcome (nodeOf s t) Any (nameOf c) (nameOf (set c a b)) (λ v. v a ≡ v b) true
+  unfolding freeTag
+  free-answer m =
+      let none : freeTag (nodeTag s t a) ≡ true = ap freeTag (past-tag s t m) in
+      done (rw names-merged at (free-class s t (nameOf c) cs a b a-is b-is apart none))
 
-  module _ {x y : ℕ} {next : ℕ → ℕ} {r : Bool} (ex : x ≡ getD c i 0) (ey : y ≡ getD c j 0) where
-    pub contents-answer : Meets s t (getD c i 0) (getD c j 0) Encryptions
-        → Outcome (nodeOf s t) Any (nameOf d) next (λ v. v (firstChild s t x) ≡ v (firstChild s t y)) r
-        → Outcome (nodeOf s t) Any (nameOf c) next (λ v. v i ≡ v j) r
+  pub atoms-answer : Meets s t a b Atoms → Outcome (nodeOf s t) Any (nameOf c) (nameOf (set c a b)) (λ v. v a ≡ v b) true
+  atoms-answer m = done (rw names-merged at (equal-atoms s t (nameOf c) cs a b a-is b-is (m .0 .left) (m .0 .right) (m .1) apart (m .2) (m .3) (m .4)))
+
+  module _ {next : ℕ → ℕ} {r : Bool} where
+    pub contents-answer : Meets s t a b Encryptions → Outcome (nodeOf s t) Any (nameOf (set c a b)) next (λ v. v (firstChild s t a) ≡ v (firstChild s t b)) r
+        → Outcome (nodeOf s t) Any (nameOf c) next (λ v. v a ≡ v b) r
     contents-answer m o =
-        equal-encryptions s t (nameOf c) cs i j (a-is (w .from)) (b-is (w .from)) (m .0 .left) (m .0 .right) (m .1) (m .2) (m .3)
-        (rw (← renamed-names) at (subst₂ (λ (p q : ℕ). Outcome (nodeOf s t) Any (nameOf d) next (λ v. v (firstChild s t p) ≡ v (firstChild s t q)) r) ex ey o))
+        equal-encryptions s t (nameOf c) cs a b a-is b-is (m .0 .left) (m .0 .right) (m .1) (m .2) (m .3) (rw (← names-merged) at o)
 
-    pub halves-answer : Meets s t (getD c i 0) (getD c j 0) Pairs
-        → Outcome (nodeOf s t) Any (nameOf d) next
-        (λ v. (v (firstChild s t x) ≡ v (firstChild s t y)) × (v (secondChild s t x) ≡ v (secondChild s t y))) r
-        → Outcome (nodeOf s t) Any (nameOf c) next (λ v. v i ≡ v j) r
-    halves-answer m o =
-        equal-pairs s t (nameOf c) cs i j (a-is (w .from)) (b-is (w .from)) (m .0 .left) (m .0 .right) (m .1) (m .2)
-        (rw (← renamed-names) at (subst₂ (λ (p q : ℕ). Outcome (nodeOf s t) Any (nameOf d) next
-        (λ v. (v (firstChild s t p) ≡ v (firstChild s t q)) × (v (secondChild s t p) ≡ v (secondChild s t q))) r) ex ey o))
+    pub halves-answer : Meets s t a b Pairs
+        → Outcome (nodeOf s t) Any (nameOf (set c a b)) next
+        (λ v. (v (firstChild s t a) ≡ v (firstChild s t b)) × (v (secondChild s t a) ≡ v (secondChild s t b))) r
+        → Outcome (nodeOf s t) Any (nameOf c) next (λ v. v a ≡ v b) r
+    halves-answer m o = equal-pairs s t (nameOf c) cs a b a-is b-is (m .0 .left) (m .0 .right) (m .1) (m .2) (rw (← names-merged) at o)
 
--- The other way round, where j's class has a free node for its name.
-pub right-answer : {s t c d : List ℕ} {i j : ℕ} → Taken s t c d j i → Meets s t (getD c i 0) (getD c j 0) RightFree
-    → Outcome (nodeOf s t) Any (nameOf c) (nameOf d) (λ v. v i ≡ v j) true
-right-answer w m = done (restate (λ v x e. sym e) (λ v q e. sym e) (left-answer w m .stepped refl))
+-- What is said of the names of two classes, said of two of their nodes.
+module _ {s t c : List ℕ} (linked : Linked s t c) {i j a b : ℕ} (ea : a ≡ nameOf c i) (eb : b ≡ nameOf c j) where
+  pub same-answer : a ≡ b → Outcome (nodeOf s t) Any (nameOf c) (nameOf c) (λ v. v i ≡ v j) true
+  same-answer e = done (one-class s t (nameOf c) (classes-of linked) i j ea eb e)
+
+  pub found-names : AtHome s t i → AtHome s t j → b < a → TwoNames s t c a b
+  found-names first second above = record {
+    linked = linked;
+    first = rw ea (name-home linked i first);
+    second = rw eb (name-home linked j second);
+    first-named = rw ea (name-named linked i);
+    second-named = rw eb (name-named linked j);
+    above = above;
+  }
+
+  names-meet : {v : ℕ → Message} → Respects (nameOf c) v → v i ≡ v j → v a ≡ v b
+  names-meet {v} r e = ap v ea ∙ sym (r .same i) ∙ e ∙ r .same j ∙ ap v (sym eb)
+
+  nodes-meet : {v : ℕ → Message} → Respects (nameOf c) v → v a ≡ v b → v i ≡ v j
+  nodes-meet {v} r e = r .same i ∙ ap v (sym ea) ∙ e ∙ ap v eb ∙ sym (r .same j)
+
+  pub nodes-answer : {next : ℕ → ℕ} {r : Bool} → Outcome (nodeOf s t) Any (nameOf c) next (λ v. v a ≡ v b) r
+      → Outcome (nodeOf s t) Any (nameOf c) next (λ v. v i ≡ v j) r
+  nodes-answer o = record {
+    stepped = λ e.
+        let step = o .stepped e in
+        record {
+          classes = step .classes;
+          forth = λ v x r q. step .forth v x r (names-meet r q);
+          back = step .back;
+          holds = λ v r q. nodes-meet (step .back v r) (step .holds v r q);
+          closes = step .closes;
+        };
+    clashed = λ e. record { never = λ v x r q. o .clashed e .never v x r (names-meet r q) };
+  }
+
+-- The same of the nodes the other way round.
+pub turned : {node : ℕ → Node} {name next : ℕ → ℕ} {i j : ℕ} {r : Bool} → Outcome node Any name next (λ v. v i ≡ v j) r
+    → Outcome node Any name next (λ v. v j ≡ v i) r
+turned o = record { stepped = λ e. restate (λ v x q. sym q) (λ v x q. sym q) (o .stepped e); clashed = λ e. restate-clash (λ v x q. sym q) (o .clashed e) }

@@ -34,6 +34,18 @@ module _ (s t : List ℕ) where
   unfolding nodeOf
   not-symbol i f is = free-node (nodeTag s t i) (nodeValue s t i) (firstChild s t i) (secondChild s t i) f is
 
+  symbol-by : (n v l r : ℕ) → IsSymbol (nodeBy n v l r) → freeTag n ≡ false
+  unfolding freeTag nodeBy
+  symbol-by zero v l r is = absurd is
+  symbol-by (suc zero) v l r is = refl
+  symbol-by (suc (suc zero)) v l r is = refl
+  symbol-by (suc (suc (suc zero))) v l r is = refl
+  symbol-by (suc (suc (suc (suc m)))) v l r is = absurd is
+
+  pub symbol-tag : (i : ℕ) → IsSymbol (nodeOf s t i) → freeTag (nodeTag s t i) ≡ false
+  unfolding nodeOf
+  symbol-tag i is = symbol-by (nodeTag s t i) (nodeValue s t i) (firstChild s t i) (secondChild s t i) is
+
   pub is-symbol : (i : ℕ) → freeTag (nodeTag s t i) ≡ false → IsSymbol (nodeOf s t i)
   unfolding nodeOf
   is-symbol i f = symbol-node (nodeTag s t i) (nodeValue s t i) (firstChild s t i) (secondChild s t i) f
@@ -94,7 +106,7 @@ module _ (s t : List ℕ) (name : ℕ → ℕ) (cs : Classes (nodeOf s t) name) 
       wanted : (v : ℕ → Message) → Valid (nodeOf s t) v → v (name i) ≡ v (name j) → P v
       wanted v x e = needed v x (ap v ea ∙ e ∙ ap v (sym eb))
 
-  pub merged-names : (a ≡ b → ⊥) → (IsSymbol (nodeOf s t a) → IsSymbol (nodeOf s t b)) → Classes (nodeOf s t) (merge a b name)
+  merged-names : (a ≡ b → ⊥) → (IsSymbol (nodeOf s t a) → IsSymbol (nodeOf s t b)) → Classes (nodeOf s t) (merge a b name)
   merged-names apart keeps =
       subst (λ (f : ℕ → ℕ). Classes (nodeOf s t) f) (ap₂ (λ (x y : ℕ). merge x y name) (sym ea) (sym eb))
       (united-classes (nodeOf s t) name cs i j (λ e. apart (ea ∙ e ∙ sym eb))
@@ -116,7 +128,7 @@ module _ (s t : List ℕ) (name : ℕ → ℕ) (cs : Classes (nodeOf s t) name) 
     both-make : (v : ℕ → Message) → Valid (nodeOf s t) v → v a ≡ v b → made v (nodeOf s t a) ≡ made v (nodeOf s t b)
     both-make v x e = sym (gives v x a fa) ∙ e ∙ gives v x b fb
 
-    pub symbols-merge : (a ≡ b → ⊥) → Classes (nodeOf s t) (merge a b name)
+    symbols-merge : (a ≡ b → ⊥) → Classes (nodeOf s t) (merge a b name)
     symbols-merge apart = merged-names apart (λ is. is-symbol s t b fb)
 
     apart-names : ((v : ℕ → Message) → Valid (nodeOf s t) v → v a ≡ v b → ⊥) → Clash (nodeOf s t) name (λ v. v i ≡ v j)

@@ -1,28 +1,36 @@
 // Whether every way down over the classes comes to an end: one walk down from the entries of both terms marks each class
-// it meets. `z` is the table of sizes (`node::sizes`).
+// it meets.
+use crate::classes::find;
 use crate::node::first_child;
-use crate::node::node_tag;
 use crate::node::second_child;
-use crate::node::wide;
+use crate::node::tag_at;
 ghost use mathlib.Core.Path.{_≡_};
 ghost use mathlib.Core.Bool.{true, false};
 ghost use Prim.Native.Nat.{ℕ, _≤_, _<_};
 ghost use lib.ListN.{length};
 ghost use Rattle.terms.specs.Term.{Message};
-ghost use Rattle.terms.specs.Graph.{Valid, Respects, Classes, Finite};
-ghost use Rattle.terms.specs.TermGraph.{TwoTerms, nodeOf, Sizes};
-ghost use Rattle.terms.specs.Names.{nameOf};
-ghost use Rattle.terms.specs.Ending.{ChildrenEnd, Sound, Below, ChildrenBelow, Walked, EachFrom};
+ghost use Rattle.terms.specs.Graph.{IsSymbol, Valid, Respects, Finite};
+ghost use Rattle.terms.specs.TermGraph.{TwoTerms, nodeOf, SizesOf, AtHome, Inside};
+ghost use Rattle.terms.specs.Names.{nameOf, Linked};
+ghost use Rattle.terms.specs.Ending.{ChildrenEnd, ParentEnds, Sound, Below, ChildrenBelow, Walked, EachFrom};
 
 // Every way down from node i ends, and the classes met are marked: 1 while the walk is below one, 2 once it has ended; or no
 // valid valuation respects the classes. It falls by the number of classes not marked.
-fn ends(s: &[u8], t: &[u8], c: &[u8; 256], marks: &mut [u8; 128], z: &[u8; 128], i: usize) -> bool
-    requires { ⌜ TwoTerms (now s) (now t) × (length (now c) ≡ 256) × (length (now marks) ≡ 128) × (i < 256)
-        × Sound (now s) (now t) (now c) (now marks) × Below (now s) (now t) (now c) (now marks) i × Sizes (now s) (now t) (now z) ⌝ }
+fn ends(
+    s: &[u8],
+    t: &[u8],
+    zs: &[u8],
+    zt: &[u8],
+    c: &[u8; 256],
+    marks: &mut [u8; 128],
+    i: usize,
+) -> bool
+    requires { ⌜ TwoTerms (now s) (now t) × SizesOf (now s) (now zs) × SizesOf (now t) (now zt) × Linked (now s) (now t) (now c) × (length (now marks) ≡ 128)
+        × AtHome (now s) (now t) i × Sound (now s) (now t) (now c) (now marks) × Below (now s) (now t) (now c) (now marks) i ⌝ }
     ensures { λ r. ⌜ Walked (now (s .entry)) (now (t .entry)) (now (c .entry)) (now (marks .entry)) (now (marks .exit))
         (Finite (nodeOf (now (s .entry)) (now (t .entry))) (nameOf (now (c .entry))) i) r ⌝ }
 {
-    let a = wide(c[i]);
+    let a = find(c, i);
     if 128 <= a {
         return true;
     }
@@ -34,7 +42,7 @@ fn ends(s: &[u8], t: &[u8], c: &[u8; 256], marks: &mut [u8; 128], z: &[u8; 128],
         return false;
     }
     marks[a] = 1;
-    if children_end(s, t, c, marks, z, a) {
+    if children_end(s, t, zs, zt, c, marks, a) {
         marks[a] = 2;
         true
     } else {
@@ -46,51 +54,79 @@ fn ends(s: &[u8], t: &[u8], c: &[u8; 256], marks: &mut [u8; 128], z: &[u8; 128],
 fn children_end(
     s: &[u8],
     t: &[u8],
+    zs: &[u8],
+    zt: &[u8],
     c: &[u8; 256],
     marks: &mut [u8; 128],
-    z: &[u8; 128],
     a: usize,
 ) -> bool
-    requires { ⌜ TwoTerms (now s) (now t) × (length (now c) ≡ 256) × (length (now marks) ≡ 128) × (a < 128)
-        × Sound (now s) (now t) (now c) (now marks) × ChildrenBelow (now s) (now t) (now c) (now marks) a × Sizes (now s) (now t) (now z) ⌝ }
+    requires { ⌜ TwoTerms (now s) (now t) × SizesOf (now s) (now zs) × SizesOf (now t) (now zt) × Linked (now s) (now t) (now c) × (length (now marks) ≡ 128)
+        × IsSymbol (nodeOf (now s) (now t) a) × Sound (now s) (now t) (now c) (now marks) × ChildrenBelow (now s) (now t) (now c) (now marks) a ⌝ }
     ensures { λ r. ⌜ Walked (now (s .entry)) (now (t .entry)) (now (c .entry)) (now (marks .entry)) (now (marks .exit))
         (ChildrenEnd (now (s .entry)) (now (t .entry)) (now (c .entry)) a) r ⌝ }
 {
-    let tag = node_tag(s, t, a);
+    let tag = tag_at(s, t, a);
     if tag == 2 {
-        if ends(s, t, c, marks, z, first_child(s, t, a)) {
-            ends(s, t, c, marks, z, second_child(s, t, z, a))
+        if ends(s, t, zs, zt, c, marks, first_child(s, t, a)) {
+            ends(s, t, zs, zt, c, marks, second_child(s, t, zs, zt, a))
         } else {
             false
         }
     } else if tag == 3 {
-        ends(s, t, c, marks, z, first_child(s, t, a))
+        ends(s, t, zs, zt, c, marks, first_child(s, t, a))
     } else {
         true
     }
 }
 
-// Every way down from the nodes from `low` up to `high` ends, walked from the last first: most children are marked already,
-// and few walks go deep; or no valid valuation respects the classes. Every node lies below all classes with mark 1: at the
-// start there are none.
+// Every way down from the entry at node k ends, if it has children.
+fn node_ends(
+    s: &[u8],
+    t: &[u8],
+    zs: &[u8],
+    zt: &[u8],
+    c: &[u8; 256],
+    marks: &mut [u8; 128],
+    k: usize,
+) -> bool
+    requires { ⌜ TwoTerms (now s) (now t) × SizesOf (now s) (now zs) × SizesOf (now t) (now zt) × Linked (now s) (now t) (now c) × (length (now marks) ≡ 128)
+        × Inside (now s) (now t) k × Sound (now s) (now t) (now c) (now marks) × Below (now s) (now t) (now c) (now marks) k ⌝ }
+    ensures { λ r. ⌜ Walked (now (s .entry)) (now (t .entry)) (now (c .entry)) (now (marks .entry)) (now (marks .exit))
+        (ParentEnds (now (s .entry)) (now (t .entry)) (now (c .entry)) k) r ⌝ }
+{
+    let tag = tag_at(s, t, k);
+    if tag == 2 {
+        return ends(s, t, zs, zt, c, marks, k);
+    }
+    if tag == 3 {
+        return ends(s, t, zs, zt, c, marks, k);
+    }
+    true
+}
+
+// Every way down from the entries at the nodes from `low` up to `high` ends, walked from the last first: most children are
+// marked already, and few walks go deep; or no valid valuation respects the classes. Every node lies below all classes with
+// mark 1: at the start there are none.
 fn side_ends(
     s: &[u8],
     t: &[u8],
+    zs: &[u8],
+    zt: &[u8],
     c: &[u8; 256],
     marks: &mut [u8; 128],
-    z: &[u8; 128],
     low: usize,
     high: usize,
 ) -> bool
-    requires { ⌜ TwoTerms (now s) (now t) × (length (now c) ≡ 256) × (length (now marks) ≡ 128) × (low ≤ high) × (high ≤ 128)
-        × Sound (now s) (now t) (now c) (now marks) × ((i : ℕ) → Below (now s) (now t) (now c) (now marks) i) × Sizes (now s) (now t) (now z) ⌝ }
+    requires { ⌜ TwoTerms (now s) (now t) × SizesOf (now s) (now zs) × SizesOf (now t) (now zt) × Linked (now s) (now t) (now c) × (length (now marks) ≡ 128)
+        × (low ≤ high) × EachFrom (Inside (now s) (now t)) low high
+        × Sound (now s) (now t) (now c) (now marks) × ((i : ℕ) → Below (now s) (now t) (now c) (now marks) i) ⌝ }
     ensures { λ r. ⌜ Walked (now (s .entry)) (now (t .entry)) (now (c .entry)) (now (marks .entry)) (now (marks .exit))
-        (EachFrom (Finite (nodeOf (now (s .entry)) (now (t .entry))) (nameOf (now (c .entry)))) low high) r ⌝ }
+        (EachFrom (ParentEnds (now (s .entry)) (now (t .entry)) (now (c .entry))) low high) r ⌝ }
 {
     let mut left = high;
     while low < left {
         left -= 1;
-        if !ends(s, t, c, marks, z, left) {
+        if !node_ends(s, t, zs, zt, c, marks, left) {
             return false;
         }
     }
@@ -99,14 +135,14 @@ fn side_ends(
 
 // Every way down over the classes ends, walked from the entries of both terms: the other nodes have no children; or no
 // valid valuation respects the classes.
-pub fn is_finite(s: &[u8], t: &[u8], c: &[u8; 256], z: &[u8; 128]) -> bool
-    requires { ⌜ TwoTerms (now s) (now t) × (length (now c) ≡ 256) × Classes (nodeOf (now s) (now t)) (nameOf (now c)) × Sizes (now s) (now t) (now z) ⌝ }
+pub fn is_finite(s: &[u8], t: &[u8], zs: &[u8], zt: &[u8], c: &[u8; 256]) -> bool
+    requires { ⌜ TwoTerms (now s) (now t) × SizesOf (now s) (now zs) × SizesOf (now t) (now zt) × Linked (now s) (now t) (now c) ⌝ }
     ensures { λ r. ⌜ (r ≡ true → (i : ℕ) → Finite (nodeOf (now (s .entry)) (now (t .entry))) (nameOf (now (c .entry))) i)
         × (r ≡ false → (v : ℕ → Message) → Valid (nodeOf (now (s .entry)) (now (t .entry))) v → Respects (nameOf (now (c .entry))) v → ⊥) ⌝ }
 {
     let mut marks = [0u8; 128];
-    if side_ends(s, t, c, &mut marks, z, 64, 64 + t.len() / 4) {
-        side_ends(s, t, c, &mut marks, z, 0, s.len() / 4)
+    if side_ends(s, t, zs, zt, c, &mut marks, 64, 64 + t.len() / 4) {
+        side_ends(s, t, zs, zt, c, &mut marks, 0, s.len() / 4)
     } else {
         false
     }

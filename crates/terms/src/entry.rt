@@ -3,9 +3,9 @@ ghost use mathlib.Core.Path.{_≡_};
 ghost use Prim.Native.Nat.{_+_, _*_, _≤_, _<_};
 ghost use lib.ListN.{length};
 ghost use Rattle.terms.specs.Entry.{Begins, termOf, size, childrenOf, valueAt};
-ghost use Rattle.terms.specs.TermGraph.{SizedFrom};
+ghost use Rattle.terms.specs.TermGraph.{sizeIn, SizesOf};
+ghost use Rattle.terms.specs.Sizes.{SizedFrom, KeptBelow};
 ghost use Rattle.terms.specs.WalkLaws.{from};
-use crate::node::fill_sizes;
 
 // A byte, wider.
 fn wide(x: u8) -> usize
@@ -48,19 +48,47 @@ pub fn term_size(e: &[u8]) -> usize
     }
 }
 
-// For each entry, how many entries the term has that begins there.
-pub fn sizes(e: &[u8]) -> [u8; 128]
-    requires { ⌜ Begins (now e) × (length (now e) ≤ 252) ⌝ }
-    ensures { λ r. ⌜ SizedFrom (now (e .entry)) r 0 0 ⌝ }
+// The size of the term at entry k, by those of the entries behind it; the table has them from `base` on.
+fn size_by_children(e: &[u8], z: &[u8], base: usize, k: usize) -> u8
+    requires { ⌜ Begins (now e) × (length (now e) ≤ 252) × (base ≤ 4096) × (4 * k < length (now e)) × SizedFrom (now e) (now z) base (k + 1) ⌝ }
+    ensures { λ r. ⌜ r ≡ sizeIn (now (e .entry)) k ⌝ }
 {
-    let mut z = [0u8; 128];
+    let tag = e[4 * k];
+    if tag == 2 {
+        let left = wide(z[base + k + 1]);
+        (1 + left + wide(z[base + k + 1 + left])) as u8
+    } else if tag == 3 {
+        (1 + wide(z[base + k + 1])) as u8
+    } else {
+        1
+    }
+}
+
+// Fills in the sizes of the terms at e's entries, the last first, from `base` on.
+pub fn fill_sizes(e: &[u8], z: &mut [u8], base: usize)
+    requires { ⌜ Begins (now e) × (length (now e) ≤ 252) × (base ≤ 4096) × (4 * base + length (now e) ≤ 4 * length (now z)) ⌝ }
+    ensures { λ _. ⌜ SizedFrom (now (e .entry)) (now (z .exit)) base 0 × KeptBelow base (now (z .entry)) (now (z .exit)) ⌝ }
+{
+    let mut left = e.len() / 4;
+    while 0 < left {
+        left -= 1;
+        z[base + left] = size_by_children(e, z, base, left);
+    }
+}
+
+// For each entry, how many entries the term has that begins there.
+pub fn sizes(e: &[u8]) -> [u8; 64]
+    requires { ⌜ Begins (now e) × (length (now e) ≤ 252) ⌝ }
+    ensures { λ r. ⌜ SizesOf (now (e .entry)) r ⌝ }
+{
+    let mut z = [0u8; 64];
     fill_sizes(e, &mut z, 0);
     z
 }
 
 // The entry past the term at entry h, by the sizes.
-pub fn end_of(e: &[u8], z: &[u8; 128], h: usize) -> usize
-    requires { ⌜ SizedFrom (now e) (now z) 0 0 × Begins (from (4 * h) (now e)) × (4 * h < length (now e)) × (length (now e) ≤ 252) ⌝ }
+pub fn end_of(e: &[u8], z: &[u8; 64], h: usize) -> usize
+    requires { ⌜ SizesOf (now e) (now z) × Begins (from (4 * h) (now e)) × (4 * h < length (now e)) × (length (now e) ≤ 252) ⌝ }
     ensures { λ r. ⌜ (r ≡ h + size (termOf (from (4 * h) (now (e .entry))))) × (4 * r ≤ length (now (e .entry))) ⌝ }
 {
     h + wide(z[h])

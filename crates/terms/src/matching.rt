@@ -9,19 +9,24 @@ ghost use Rattle.terms.specs.Instance.{Share};
 ghost use Rattle.terms.specs.WalkLaws.{from};
 ghost use Rattle.terms.specs.Solve.{Says};
 ghost use Rattle.terms.specs.Decide.{answer, variable?, term?, match?};
-ghost use Rattle.terms.specs.Front.{slotOf, SameFirst, Comparable, Bindable, Front, Takes, Ready, Made, Unified, Ran, Goes};
-use super::entry;
+ghost use Rattle.terms.specs.Front.{slotOf, SameFirst, Word, Comparable, Bindable, Front, Takes, Ready, Made, Ran, Goes};
+use crate::entry;
+use crate::node::wide;
+
+// The entry that stands first, as one number.
+fn word(e: &[u8]) -> usize
+    requires { ⌜ 4 ≤ length (now e) ⌝ }
+    ensures { λ r. ⌜ Word (now (e .entry)) r ⌝ }
+{
+    wide(e[0]) + 256 * wide(e[1]) + 65536 * entry::value(e)
+}
 
 // Do both begin with the same entry?
-fn same_entry(s: &[u8], t: &[u8]) -> bool
-    requires { ⌜ (4 ≤ length (now s)) × (4 ≤ length (now t)) ⌝ }
+pub fn same_entry(s: &[u8], t: &[u8]) -> bool
+    requires { ⌜ Begins (now s) × Begins (now t) ⌝ }
     ensures { λ r. ⌜ Says r (SameFirst (now (s .entry)) (now (t .entry))) ⌝ }
 {
-    if s[0] == t[0] {
-        entry::value(s) == entry::value(t)
-    } else {
-        false
-    }
+    word(s) == word(t)
 }
 
 // Are the first `need` terms the same, symbol for symbol?
@@ -59,7 +64,7 @@ fn goes_on(p: &[u8], t: &[u8], k: usize, left: usize) -> bool
 }
 
 // The symbols that both begin with, where the first `need` terms are compared.
-fn run_on(p: &[u8], t: &[u8], need: usize) -> Run
+pub fn run_on(p: &[u8], t: &[u8], need: usize) -> Run
     requires { ⌜ Front need (now p) × Front need (now t) ⌝ }
     ensures ran { λ r. ⌜ Ran need (now (p .entry)) (now (t .entry)) (r .count) (r .left) ⌝ }
     ensures stops { λ r. ⌜ ¬ Goes (now (p .entry)) (now (t .entry)) (r .count) (r .left) ⌝ }
@@ -85,29 +90,6 @@ pub fn same_run(p: &[u8], t: &[u8]) -> Run
     run_on(p, t, 1)
 }
 
-// Do the first `need` terms come to different symbols? Walked side by side; a variable on either side stands for what is
-// opposite to it.
-fn clashes(p: &[u8], t: &[u8], need: usize) -> bool
-    requires { ⌜ Front need (now p) × Front need (now t) ⌝ }
-    ensures { λ r. ⌜ (r ≡ true → ¬ Unified need (now (p .entry)) (now (t .entry))) ⌝ }
-{
-    let run = run_on(p, t, need);
-    let left = run.left;
-    if left == 0 {
-        return false;
-    }
-    let at = 4 * run.count;
-    let s = &p[at..];
-    let u = &t[at..];
-    if 3 < s[0] {
-        clashes(&s[4..], &u[4 * entry::term_size(u)..], left - 1)
-    } else if 3 < u[0] {
-        clashes(&s[4 * entry::term_size(s)..], &u[4..], left - 1)
-    } else {
-        true
-    }
-}
-
 // Are the terms that stand first the same, symbol for symbol? Most differ in their first entries.
 pub fn same(s: &[u8], t: &[u8]) -> bool
     requires { ⌜ Begins (now s) × Begins (now t) ⌝ }
@@ -122,7 +104,7 @@ pub fn same(s: &[u8], t: &[u8]) -> bool
 }
 
 // The slot of the variable that stands first: 0 to 7 plain, 8 to 15 marked; 16 where none does.
-fn slot(p: &[u8]) -> usize
+pub fn slot(p: &[u8]) -> usize
     requires { ⌜ Begins (now p) ⌝ }
     ensures { λ r. ⌜ r ≡ slotOf (termOf (now (p .entry))) ⌝ }
 {
@@ -196,15 +178,6 @@ pub fn differs(p: &[u8], t: &[u8], run: Run) -> bool
         return false;
     }
     t[at] <= 3
-}
-
-// Do the terms come to different symbols, behind what both begin with?
-pub fn clashes_behind(p: &[u8], t: &[u8], run: Run) -> bool
-    requires { ⌜ Begins (now p) × Begins (now t) × Ran 1 (now p) (now t) (run .count) (run .left) ⌝ }
-    ensures { λ r. ⌜ (r ≡ true → ¬ Share (termOf (now (p .entry))) (termOf (now (t .entry)))) ⌝ }
-{
-    let at = 4 * run.count;
-    clashes(&p[at..], &t[at..], run.left)
 }
 
 // Is the term the pattern with its variables replaced by terms, behind what both begin with?

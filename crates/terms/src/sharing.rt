@@ -1,255 +1,265 @@
-// Shared instances: two terms are walked side by side; where a variable is met, classes of nodes that must get equal
-// messages are united; at the end every way down over the classes must come to an end. `z` is the table of sizes
-// (`node::sizes`).
+// Shared instances: two terms are walked side by side, by recursion over the entries left; where a variable stands on either
+// side, the two entries are noted. The terms share an instance if messages for the variables make the noted entries equal,
+// two and two: classes of nodes that must get equal messages are united, and at the end every way down over the classes must
+// come to an end. `zs` and `zt` have the sizes of the terms at the entries of each side.
+use crate::classes::alone;
+use crate::classes::unite;
 use crate::ending::is_finite;
-use crate::matching::clashes_behind;
-use crate::matching::differs;
-use crate::matching::matches_behind;
-use crate::matching::same_run;
-use crate::node::byte_at;
-use crate::node::first_child;
+use crate::entry::children;
+use crate::matching::run_on;
+use crate::matching::same_entry;
+use crate::matching::slot;
 use crate::node::home;
-use crate::node::node_tag;
-use crate::node::node_value;
-use crate::node::right_in;
-use crate::node::second_child;
-use crate::node::sizes;
-use crate::node::value_in;
 use crate::node::wide;
 ghost use mathlib.Core.Path.{_≡_};
 ghost use mathlib.Core.Bool.{true};
-ghost use mathlib.Core.List.{map};
-ghost use Prim.Native.Nat.{ℕ, _+_, _*_, _≤_, _<_};
-ghost use lib.ListN.{length, getD};
-ghost use Rattle.terms.specs.Entry.{termOf};
-ghost use Rattle.terms.specs.Instance.{Share};
+ghost use Prim.Native.Nat.{_≤_};
+ghost use lib.ListN.{length};
+ghost use Rattle.terms.specs.Entry.{Begins, termOf, childrenOf};
 ghost use Rattle.terms.specs.Decide.{answer, share?, variable?};
-ghost use Rattle.terms.specs.Graph.{Valid, Classes, Outcome};
-ghost use Rattle.terms.specs.GraphLaws.{rename, Any};
-ghost use Rattle.terms.specs.TermGraph.{TwoTerms, nodeOf, nodeTag, firstChild, secondChild, freeTag};
-ghost use Rattle.terms.specs.Meeting.{Meets};
-ghost use Rattle.terms.specs.TermGraph as graph;
-ghost use Rattle.terms.specs.Names.{nameOf, classCount};
+ghost use Rattle.terms.specs.Graph.{Outcome};
+ghost use Rattle.terms.specs.GraphLaws.{Any};
+ghost use Rattle.terms.specs.TermGraph.{TwoTerms, SizesOf, nodeOf};
+ghost use Rattle.terms.specs.Names.{nameOf, Linked};
+ghost use Rattle.terms.specs.Meetings.{RootsDiffer, Noted, NotedIn, Walking, Reduced, WalkSays, Stops, Distinct, AllEqual};
 
-// Every node as a class by itself.
-fn alone() -> [u8; 256]
-    ensures { λ r. ⌜ ((i : ℕ) → i < 256 → getD r i 0 ≡ i) ⌝ }
-{
-    let mut c = [0u8; 256];
-    let mut k = 0usize;
-    while k < 256 {
-        c[k] = k as u8;
-        k += 1;
-    }
-    c
+// How the walk over both terms ended: at different symbols, or with so many entries noted.
+enum Walk {
+    Apart,
+    Through(usize),
 }
 
-// A name, where a gets the name b.
-fn renamed(x: u8, a: u8, b: u8) -> u8
-    ensures { λ r. ⌜ r ≡ rename a b x ⌝ }
-{
-    if x == a { b } else { x }
+// How far a walk has come: the entry of each side, the terms left, and the entries noted.
+struct Passed {
+    i: usize,
+    j: usize,
+    left: usize,
+    n: usize,
 }
 
-// The class named a gets the name b. Every entry is written, so that the loop has no branch.
-fn relabel(c: &mut [u8; 256], a: u8, b: u8)
-    requires { ⌜ length (now c) ≡ 256 ⌝ }
-    ensures { λ _. ⌜ now (c .exit) ≡ map (rename a b) (now (c .entry)) ⌝ }
+// Is either a variable's tag, and neither one of an entry with children?
+fn leaves_meet(p: u8, q: u8) -> bool
+    ensures { λ r. ⌜ (r ≡ true → (childrenOf p ≡ 0) × (childrenOf q ≡ 0)) ⌝ }
 {
-    let mut k = 0usize;
-    while k < 256 {
-        c[k] = renamed(c[k], a, b);
-        k += 1;
-    }
-}
-
-// A tag that is no symbol's: a variable, or nothing.
-fn is_free(tag: usize) -> bool
-    ensures { λ r. ⌜ r ≡ freeTag tag ⌝ }
-{
-    tag == 0 || 3 < tag
-}
-
-// How the names of two classes meet: one is free, or both are symbols.
-enum How {
-    LeftFree,
-    RightFree,
-    Differ,
-    Atoms,
-    Encryptions,
-    Pairs,
-}
-
-fn meeting(s: &[u8], t: &[u8], a: usize, b: usize) -> How
-    requires { ⌜ (a ≤ 255) × (b ≤ 255) ⌝ }
-    ensures { λ r. ⌜ Meets (now (s .entry)) (now (t .entry)) a b r ⌝ }
-{
-    let p = node_tag(s, t, a);
-    if is_free(p) {
-        return How::LeftFree;
-    }
-    let q = node_tag(s, t, b);
-    if is_free(q) {
-        return How::RightFree;
-    }
-    if p != q {
-        return How::Differ;
-    }
-    if p == 2 {
-        return How::Pairs;
-    }
-    if node_value(s, t, a) != node_value(s, t, b) {
-        return How::Differ;
-    }
-    if p == 3 {
-        return How::Encryptions;
-    }
-    How::Atoms
-}
-
-// Makes the classes of the nodes i and j one, and with them those of their children: the closure step. It falls by the
-// number of classes.
-fn unite(s: &[u8], t: &[u8], c: &mut [u8; 256], z: &[u8; 128], i: usize, j: usize) -> bool
-    requires { ⌜ TwoTerms (now s) (now t) × (length (now c) ≡ 256) × (i < 256) × (j < 256) × Classes (nodeOf (now s) (now t)) (nameOf (now c)) × graph.Sizes (now s) (now t) (now z) ⌝ }
-    ensures { λ r. ⌜ (length (now (c .exit)) ≡ 256) × (classCount (now (c .exit)) ≤ classCount (now (c .entry)))
-        × Outcome (nodeOf (now (s .entry)) (now (t .entry))) Any (nameOf (now (c .entry))) (nameOf (now (c .exit))) (λ v. v i ≡ v j) r ⌝ }
-{
-    let a = c[i];
-    let b = c[j];
-    if a == b {
-        return true;
-    }
-    let met = meeting(s, t, wide(a), wide(b));
-    match met {
-        How::LeftFree => {
-            relabel(c, a, b);
-            true
-        }
-        How::RightFree => {
-            relabel(c, b, a);
-            true
-        }
-        How::Differ => false,
-        How::Atoms => {
-            relabel(c, a, b);
-            true
-        }
-        How::Encryptions => {
-            relabel(c, a, b);
-            unite_contents(s, t, c, z, wide(a), wide(b))
-        }
-        How::Pairs => {
-            relabel(c, a, b);
-            unite_halves(s, t, c, z, wide(a), wide(b))
+    if p <= 3 {
+        if q <= 3 {
+            return false;
         }
     }
-}
-
-// What two encryptions hold.
-fn unite_contents(s: &[u8], t: &[u8], c: &mut [u8; 256], z: &[u8; 128], i: usize, j: usize) -> bool
-    requires { ⌜ TwoTerms (now s) (now t) × (length (now c) ≡ 256) × Classes (nodeOf (now s) (now t)) (nameOf (now c)) × graph.Sizes (now s) (now t) (now z) ⌝ }
-    ensures { λ r. ⌜ (length (now (c .exit)) ≡ 256) × (classCount (now (c .exit)) ≤ classCount (now (c .entry)))
-        × Outcome (nodeOf (now (s .entry)) (now (t .entry))) Any (nameOf (now (c .entry))) (nameOf (now (c .exit)))
-        (λ v. v (firstChild (now (s .entry)) (now (t .entry)) i) ≡ v (firstChild (now (s .entry)) (now (t .entry)) j)) r ⌝ }
-{
-    unite(s, t, c, z, first_child(s, t, i), first_child(s, t, j))
-}
-
-// The halves of two pairs.
-fn unite_halves(s: &[u8], t: &[u8], c: &mut [u8; 256], z: &[u8; 128], i: usize, j: usize) -> bool
-    requires { ⌜ TwoTerms (now s) (now t) × (length (now c) ≡ 256) × Classes (nodeOf (now s) (now t)) (nameOf (now c))
-        × (nodeTag (now s) (now t) i ≡ 2) × (nodeTag (now s) (now t) j ≡ 2) × graph.Sizes (now s) (now t) (now z) ⌝ }
-    ensures { λ r. ⌜ (length (now (c .exit)) ≡ 256) × (classCount (now (c .exit)) ≤ classCount (now (c .entry)))
-        × Outcome (nodeOf (now (s .entry)) (now (t .entry))) Any (nameOf (now (c .entry))) (nameOf (now (c .exit)))
-        (λ v. (v (firstChild (now (s .entry)) (now (t .entry)) i) ≡ v (firstChild (now (s .entry)) (now (t .entry)) j))
-        × (v (secondChild (now (s .entry)) (now (t .entry)) i) ≡ v (secondChild (now (s .entry)) (now (t .entry)) j))) r ⌝ }
-{
-    if unite(s, t, c, z, first_child(s, t, i), first_child(s, t, j)) {
-        unite(
-            s,
-            t,
-            c,
-            z,
-            second_child(s, t, z, i),
-            second_child(s, t, z, j),
-        )
-    } else {
-        false
-    }
-}
-
-// Walks entry i of s and entry j of t side by side, child by child: symbols must be equal, and where a variable stands
-// on either side the two nodes are united.
-fn meet(s: &[u8], t: &[u8], c: &mut [u8; 256], z: &[u8; 128], i: usize, j: usize) -> bool
-    requires { ⌜ TwoTerms (now s) (now t) × (length (now c) ≡ 256) × (4 * i < length (now s)) × (4 * j < length (now t)) × Classes (nodeOf (now s) (now t)) (nameOf (now c)) × graph.Sizes (now s) (now t) (now z) ⌝ }
-    ensures { λ r. ⌜ (length (now (c .exit)) ≡ 256) × Outcome (nodeOf (now (s .entry)) (now (t .entry))) (Valid (nodeOf (now (s .entry)) (now (t .entry)))) (nameOf (now (c .entry))) (nameOf (now (c .exit)))
-        (λ v. v (graph.home (now (s .entry)) 0 128 i) ≡ v (graph.home (now (t .entry)) 64 144 j)) r ⌝ }
-{
-    let p = byte_at(s, 4 * i);
-    let q = byte_at(t, 4 * j);
-    if 3 < p {
-        return unite(s, t, c, z, home(s, i, 0, 128), home(t, j, 64, 144));
-    }
-    if 3 < q {
-        return unite(s, t, c, z, home(s, i, 0, 128), home(t, j, 64, 144));
-    }
-    if p != q {
+    if children(p) != 0 {
         return false;
     }
-    if p == 2 {
-        return meet_halves(s, t, c, z, i, j);
+    children(q) == 0
+}
+
+// Walks on as long as entry stands beside entry: the same symbol, or a variable beside a leaf, which are noted.
+fn pass(
+    s: &[u8],
+    t: &[u8],
+    m: &mut [u8; 128],
+    first: usize,
+    second: usize,
+    need: usize,
+    noted: usize,
+) -> Passed
+    requires { ⌜ TwoTerms (now s) (now t) × Walking (now s) (now t) (now m) noted first second need ⌝ }
+    ensures { λ r. ⌜ Walking (now (s .entry)) (now (t .entry)) (now (m .exit)) (r .n) (r .i) (r .j) (r .left) × (first ≤ r .i)
+        × (¬ (r .left ≡ 0) → Stops (now (s .entry)) (now (t .entry)) (r .i) (r .j)) ⌝ }
+{
+    let mut i = first;
+    let mut j = second;
+    let mut left = need;
+    let mut n = noted;
+    while 0 < left {
+        let run = run_on(&s[4 * i..], &t[4 * j..], left);
+        let count = run.count;
+        i += count;
+        j += count;
+        left = run.left;
+        if left == 0 {
+            return Passed {
+                i: i,
+                j: j,
+                left: left,
+                n: n,
+            };
+        }
+        if !leaves_meet(s[4 * i], t[4 * j]) {
+            return Passed {
+                i: i,
+                j: j,
+                left: left,
+                n: n,
+            };
+        }
+        m[n] = i as u8;
+        m[64 + n] = j as u8;
+        i += 1;
+        j += 1;
+        left -= 1;
+        n += 1;
     }
-    if value_in(s, i) != value_in(t, j) {
-        return false;
+    Passed {
+        i: i,
+        j: j,
+        left: left,
+        n: n,
     }
-    if p == 3 {
-        return meet(s, t, c, z, i + 1, j + 1);
+}
+
+// Walks on with `need` terms left on each side, from entry i of s and entry j of t. n entries of each are noted in m: those of
+// s from 0, those of t from 64.
+fn meet(
+    s: &[u8],
+    t: &[u8],
+    zs: &[u8],
+    zt: &[u8],
+    m: &mut [u8; 128],
+    i: usize,
+    j: usize,
+    need: usize,
+    n: usize,
+) -> Walk
+    requires { ⌜ TwoTerms (now s) (now t) × SizesOf (now s) (now zs) × SizesOf (now t) (now zt) × Walking (now s) (now t) (now m) n i j need ⌝ }
+    ensures { λ r. ⌜ WalkSays (now (s .entry)) (now (t .entry)) (now (m .exit)) r ⌝ }
+{
+    let to = pass(s, t, m, i, j, need, n);
+    if to.left == 0 {
+        return Walk::Through(to.n);
+    }
+    note(s, t, zs, zt, m, to.i, to.j, to.left, to.n)
+}
+
+// The walk has come to entries that are not the same symbol: a variable stands on one side, or the terms are apart.
+fn note(
+    s: &[u8],
+    t: &[u8],
+    zs: &[u8],
+    zt: &[u8],
+    m: &mut [u8; 128],
+    i: usize,
+    j: usize,
+    left: usize,
+    n: usize,
+) -> Walk
+    requires { ⌜ TwoTerms (now s) (now t) × SizesOf (now s) (now zs) × SizesOf (now t) (now zt) × Walking (now s) (now t) (now m) n i j left × ¬ (left ≡ 0) × Stops (now s) (now t) i j ⌝ }
+    ensures { λ r. ⌜ WalkSays (now (s .entry)) (now (t .entry)) (now (m .exit)) r ⌝ }
+{
+    if s[4 * i] <= 3 {
+        if t[4 * j] <= 3 {
+            return Walk::Apart;
+        }
+    }
+    m[n] = i as u8;
+    m[64 + n] = j as u8;
+    meet(
+        s,
+        t,
+        zs,
+        zt,
+        m,
+        i + wide(zs[i]),
+        j + wide(zt[j]),
+        left - 1,
+        n + 1,
+    )
+}
+
+// Unites the classes of the noted entries, two and two.
+fn unite_noted(
+    s: &[u8],
+    t: &[u8],
+    zs: &[u8],
+    zt: &[u8],
+    m: &[u8; 128],
+    n: usize,
+    c: &mut [u8; 256],
+) -> bool
+    requires { ⌜ TwoTerms (now s) (now t) × SizesOf (now s) (now zs) × SizesOf (now t) (now zt) × Noted (now s) (now t) (now m) n × Linked (now s) (now t) (now c) ⌝ }
+    ensures { λ r. ⌜ Linked (now (s .entry)) (now (t .entry)) (now (c .exit))
+        × Outcome (nodeOf (now (s .entry)) (now (t .entry))) Any (nameOf (now (c .entry))) (nameOf (now (c .exit)))
+        (AllEqual (now (s .entry)) (now (t .entry)) (now (m .entry)) n) r ⌝ }
+{
+    let mut k = 0;
+    while k < n {
+        let i = home(s, wide(m[k]), 0, 128);
+        let j = home(t, wide(m[64 + k]), 64, 144);
+        if !unite(s, t, zs, zt, c, i, j) {
+            return false;
+        }
+        k += 1;
     }
     true
 }
 
-// The halves of two pairs.
-fn meet_halves(s: &[u8], t: &[u8], c: &mut [u8; 256], z: &[u8; 128], i: usize, j: usize) -> bool
-    requires { ⌜ TwoTerms (now s) (now t) × (length (now c) ≡ 256) × (graph.tagIn (now s) i ≡ 2) × (graph.tagIn (now t) j ≡ 2) × Classes (nodeOf (now s) (now t)) (nameOf (now c)) × graph.Sizes (now s) (now t) (now z) ⌝ }
-    ensures { λ r. ⌜ (length (now (c .exit)) ≡ 256) × Outcome (nodeOf (now (s .entry)) (now (t .entry))) (Valid (nodeOf (now (s .entry)) (now (t .entry)))) (nameOf (now (c .entry))) (nameOf (now (c .exit)))
-        (λ v. (v (graph.home (now (s .entry)) 0 128 (i + 1)) ≡ v (graph.home (now (t .entry)) 64 144 (j + 1)))
-        × (v (graph.home (now (s .entry)) 0 128 (graph.rightIn (now (s .entry)) i)) ≡ v (graph.home (now (t .entry)) 64 144 (graph.rightIn (now (t .entry)) j)))) r ⌝ }
+// Do messages for the variables make the noted entries equal?
+fn have_solution(s: &[u8], t: &[u8], zs: &[u8], zt: &[u8], m: &[u8; 128], n: usize) -> bool
+    requires { ⌜ TwoTerms (now s) (now t) × SizesOf (now s) (now zs) × SizesOf (now t) (now zt) × Reduced (now s) (now t) (now m) n ⌝ }
+    ensures { λ r. ⌜ r ≡ answer (share? variable? variable? (termOf (now (s .entry))) (termOf (now (t .entry)))) ⌝ }
 {
-    if meet(s, t, c, z, i + 1, j + 1) {
-        meet(s, t, c, z, right_in(s, z, 0, i), right_in(t, z, 64, j))
+    let mut c = alone();
+    if unite_noted(s, t, zs, zt, m, n, &mut c) {
+        is_finite(s, t, zs, zt, &c)
     } else {
         false
     }
 }
 
-// The classes of all nodes that must get equal messages, and whether every way down over them ends.
-fn shares_by_classes(s: &[u8], t: &[u8]) -> bool
-    requires { ⌜ TwoTerms (now s) (now t) ⌝ }
-    ensures { λ r. ⌜ r ≡ answer (share? variable? variable? (termOf (now (s .entry))) (termOf (now (t .entry)))) ⌝ }
+// Is a variable noted at each of the n entries of s, and each time another one? Then these can take what stands opposite.
+fn is_free_match(s: &[u8], m: &[u8; 128], n: usize) -> bool
+    requires { ⌜ Begins (now s) × (length (now s) ≤ 252) × NotedIn (now s) (now m) n ⌝ }
+    ensures { λ r. ⌜ (r ≡ true → Distinct (now (s .entry)) (now (m .entry)) n) ⌝ }
 {
-    let z = sizes(s, t);
-    let mut c = alone();
-    if meet(s, t, &mut c, &z, 0, 0) {
-        is_finite(s, t, &c, &z)
-    } else {
-        false
+    let mut seen = [0u8; 16];
+    let mut k = 0;
+    while k < n {
+        let at = wide(m[k]);
+        let x = slot(&s[4 * at..]);
+        if 15 < x {
+            return false;
+        }
+        if seen[x] == 1 {
+            return false;
+        }
+        seen[x] = 1;
+        k += 1;
     }
+    true
+}
+
+// Do both begin with symbols, and not with the same one?
+fn roots_differ(s: &[u8], t: &[u8]) -> bool
+    requires { ⌜ Begins (now s) × Begins (now t) ⌝ }
+    ensures { λ r. ⌜ (r ≡ true → RootsDiffer (now (s .entry)) (now (t .entry))) ⌝ }
+{
+    if 3 < s[0] {
+        return false;
+    }
+    if 3 < t[0] {
+        return false;
+    }
+    !same_entry(s, t)
 }
 
 // Two terms share an instance: some finite message is an instance of both, each term with variables of its own. Most
-// tests end where the two first differ, or as the second is the first with its variables replaced.
-pub fn shares(s: &[u8], t: &[u8]) -> bool
-    requires { ⌜ TwoTerms (now s) (now t) ⌝ }
+// tests end where the two first differ, or as the first one's variables can take what stands opposite.
+pub fn shares(s: &[u8], t: &[u8], zs: &[u8], zt: &[u8]) -> bool
+    requires { ⌜ TwoTerms (now s) (now t) × SizesOf (now s) (now zs) × SizesOf (now t) (now zt) ⌝ }
     ensures { λ r. ⌜ r ≡ answer (share? variable? variable? (termOf (now (s .entry))) (termOf (now (t .entry)))) ⌝ }
 {
-    let run = same_run(s, t);
-    if differs(s, t, run) {
-        false
-    } else if matches_behind(s, t, run) {
-        true
-    } else if clashes_behind(s, t, run) {
-        false
-    } else {
-        shares_by_classes(s, t)
+    if roots_differ(s, t) {
+        return false;
+    }
+    let mut m = [0u8; 128];
+    let walk = meet(s, t, zs, zt, &mut m, 0, 0, 1, 0);
+    match walk {
+        Walk::Apart => false,
+        Walk::Through(n) => {
+            if is_free_match(s, &m, n) {
+                true
+            } else {
+                have_solution(s, t, zs, zt, &m, n)
+            }
+        }
     }
 }

@@ -10,15 +10,20 @@ unfolding shareNumber
 zepayong-shares-spec = tie.close (tie.spec
     (λ c κs. search needs)  -- is-term-requires
     (λ c κs. search needs)  -- is-term-requires-2
-    (λ c κs. let args = c .before .before .before .before .before .before .args in let is-term = c .before .before .before .is-term in
-    let p = term-is (args .s .now) (sym (is-term .ensures) ∙ c .before .before .if1 .taken) in
-    let q = term-is (args .t .now) (sym (c .before .is-term2 .ensures) ∙ c .if2 .taken) in
-    record { left = p .begins; right = q .begins; left-short = p .short; right-short = q .short })  -- shares-requires
+    (λ c κs. let p = term-is (c .before .before .before .before .before .before .args .s .now) (sym (c .before .before .before .is-term .ensures) ∙ c .before .before .if1 .taken) in (p .begins, p .short))  -- sizes-requires
+    (λ c. search needs)  -- slice-aggregate-shares
+    (λ c κs. let q = term-is (c .before .before .before .before .before .before .before .before .args .t .now) (sym (c .before .before .before .is-term2 .ensures) ∙ c .before .before .if2 .taken) in (q .begins, q .short))  -- sizes-requires-2
+    (λ c. search needs)  -- slice-aggregate-shares-2
+    (λ c κs. let args = c .before .before .before .before .before .before .before .before .before .before .args in
+    let p = term-is (args .s .now) (sym (c .before .before .before .before .before .before .before .is-term .ensures) ∙ c .before .before .before .before .before .before .if1 .taken) in
+    let q = term-is (args .t .now) (sym (c .before .before .before .before .before .is-term2 .ensures) ∙ c .before .before .before .before .if2 .taken) in (
+      record { left = p .begins; right = q .begins; left-short = p .short; right-short = q .short },
+      c .before .before .before .sizes .ensures,
+      c .before .sizes2 .ensures,
+    ))  -- shares-requires
     (λ c κs. search needs)  -- number-requires
-    (λ c. let args = c .before .before .before .before .before .before .before .before .args in
-    let is-term = c .before .before .before .before .before .is-term in let if1 = c .before .before .before .before .if1 in
-    let is-term2 = c .before .before .before .is-term2 in
-    asked (args .s .now) (args .t .now) (sym (is-term .ensures) ∙ if1 .taken) (sym (is-term2 .ensures) ∙ c .before .before .if2 .taken)
+    (λ c. let args = c .before .before .before .before .before .before .before .before .before .before .before .before .args in
+    asked (args .s .now) (args .t .now) (sym (c .before .before .before .before .before .before .before .before .before .is-term .ensures) ∙ c .before .before .before .before .before .before .before .before .if1 .taken) (sym (c .before .before .before .before .before .before .before .is-term2 .ensures) ∙ c .before .before .before .before .before .before .if2 .taken)
     (c .number .ensures ∙ ap yesNumber (c .before .shares .ensures)))  -- returns
     (λ c. let args = c .before .before .before .before .before .before .args in let is-term = c .before .before .before .is-term in
     second-none (args .s .now) (args .t .now) _ (sym (is-term .ensures) ∙ c .before .before .if1 .taken)

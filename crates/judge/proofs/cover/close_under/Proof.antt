@@ -9,7 +9,7 @@ use Rattle.judge.proofs.cover.close_under.Tie as tie
 
 pub close-under-spec : {M : Type 1} → statement M
 close-under-spec = tie.close (tie.spec
-    (λ c κs. (c .before .before .before .pre .0, c .before .before .before .pre .1))  -- no-hat-at-requires
+    (λ c κs. let pre = c .before .before .before .pre in (pre .0, pre .1, pre .5, pre .6))  -- no-hat-at-requires
     (λ c. search needs)  -- add-paint
     (λ c κs. let fits = standing-end (c .before .before .before .before .before .before .pre .0) (c .before .before .before .before .before .before .pre .4) in (c .before .before .before .before .before .before .pre .2, fits .0, fits .1))  -- paint-requires
     (λ c. let told = c .before .before .before .no-hat-at in (

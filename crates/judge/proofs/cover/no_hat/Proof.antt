@@ -10,8 +10,8 @@ use Rattle.judge.proofs.cover.no_hat.Tie as tie
 
 pub no-hat-spec : {M : Type 1} → statement M
 no-hat-spec = tie.close (tie.spec
-    (λ c κs. search needs)  -- shares-listed-requires
-    (λ c κs. search needs)  -- is-listed-match-requires
+    (λ c κs. c .before .before .before .pre)  -- shares-listed-requires
+    (λ c κs. let s = c .before .before .before .before .before .pre .0 in record { laid = s .laid; low = search needs; high = search needs; term = s .term; short = s .short })  -- is-listed-match-requires
     (λ c.
     by-bad (yes-of (shares-listed? _ _ _) (sym (c .before .before .shares-listed .ensures) ∙ c .before .if1 .taken)) (c .is-listed-match .result)
     (answer-says (c .is-listed-match .result) (matches-listed? _ _ _) (c .is-listed-match .ensures)))  -- returns

@@ -12,7 +12,7 @@ take-below-spec = tie.close (tie.spec
     (λ c. search needs)  -- add-some-on
     (λ c κs. let pre = c .before .before .before .before .before .pre in (pre .1, pre .0 .term, pre .0 .inside, pre .0 .short))  -- end-of-requires
     (λ c κs. let pre = c .before .before .before .before .before .before .pre in (pre .3, standing-end (pre .0) (c .end-of .ensures .0) .1))  -- some-on-requires
-    (λ c κs. let pre = c .before .before .before .before .before .before .before .before .before .before .pre in (pre .0, pre .2, pre .3))  -- take-hat-requires
+    (λ c κs. let pre = c .before .before .before .before .before .before .before .before .before .before .pre in (pre .0, pre .2, pre .3, pre .4, pre .1))  -- take-hat-requires
     (λ c. c .take-hat .ensures)  -- returns
     (λ c. (c .before .before .before .before .before .before .before .before .pre .2, none-below (c .before .before .before .before .before .before .before .before .pre .0) (c .before .before .before .before .before .before .before .before .pre .3) (c .before .before .end-of .ensures .0) (says-no (c .before .some-on .result) (c .before .some-on .ensures) (c .if2 .left))))  -- returns-2
     (λ c. (c .before .before .before .before .pre .2, no-encryption (c .before .before .before .before .pre .0) (c .before .before .before .before .pre .3) (c .if1 .left)))  -- returns-3

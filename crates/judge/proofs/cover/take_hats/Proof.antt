@@ -11,17 +11,17 @@ use Rattle.judge.proofs.cover.take_hats.Statement.{statement}
 use Rattle.judge.proofs.cover.take_hats.Tie as tie
 
 abbrev Inv-loop : tie.InvT-loop
-Inv-loop file e shared₀ bare₀ z count h₀ shared bare h =
+Inv-loop file sizes e shared₀ bare₀ z count h₀ shared bare h =
     (h ≤ size (termOf e)) × Cleared bare₀ bare (HatBelow (certificateOf file) e h) × Remembered (SharesBad (certificateOf file)) e shared
 
 abbrev μ-loop : tie.MeasureT-loop
-μ-loop file e shared₀ bare₀ z count h₀ shared bare h = size (termOf e) - h
+μ-loop file sizes e shared₀ bare₀ z count h₀ shared bare h = size (termOf e) - h
 
 pub take-hats-spec : {M : Type 1} → statement M
 take-hats-spec = tie.close (tie.spec Inv-loop μ-loop
     (λ c κs. (c .before .before .pre .0 .term, c .before .before .pre .0 .short))  -- sizes-requires
     (λ c. (search needs, hats-none (c .before .before .before .pre .2), c .before .before .before .pre .1))  -- loop-holds
-    (λ c κs. let pre = c .before .before .before .before .before .before .before .before .pre in let whole = pre .0 .whole in (standing-concluded (pre .0) (search needs), c .before .before .before .before .before .sizes .ensures, c .before .before .before .before .loop .inv .2, c .before .before .before .before .loop .inv .1 .long))  -- take-below-requires
+    (λ c κs. let pre = c .before .before .before .before .before .before .before .before .pre in let whole = pre .0 .whole in (standing-concluded (pre .0) (search needs), c .before .before .before .before .before .sizes .ensures, c .before .before .before .before .loop .inv .2, c .before .before .before .before .loop .inv .1 .long, pre .3))  -- take-below-requires
     (λ c. search needs)  -- add-h
     (λ c. let whole = c .before .before .before .before .before .before .before .before .before .pre .0 .whole in search needs)  -- loop-less
     (λ c. let whole = c .before .before .before .before .before .before .before .before .before .pre .0 .whole in (search needs, hats-more (c .before .before .before .before .before .loop .inv .1) (c .take-below .ensures .1), c .take-below .ensures .0))  -- loop-again

@@ -18,7 +18,7 @@ uncovered-spec = tie.close (tie.spec
     (λ c κs. let pre = c .before .before .before .before .before .before .pre in let first = c .before .before .before .first-entries .ensures in let second = c .before .before .second-entries .ensures in
     (pre .0, premise-is (pre .1) (first .0) (first .1 .0) .entries, risky-flagged (conclusion-concluded (pre .0) (pre .1) (second .0) (second .1 .0)) (c .before .risky-places .ensures), pre .2))  -- wanted-places-requires
     (λ c κs. let pre = c .before .before .before .before .before .before .before .before .pre in let first = c .before .before .before .before .before .first-entries .ensures in
-    (pre .0, wanted-flagged (premise-is (pre .1) (first .0) (first .1 .0) .entries) (c .before .wanted-places .ensures), remembered-of (first .0) (pre .3)))  -- open-places-requires
+    (pre .0, wanted-flagged (premise-is (pre .1) (first .0) (first .1 .0) .entries) (c .before .wanted-places .ensures), remembered-of (first .0) (pre .3), pre .5))  -- open-places-requires
     (λ c κs. let pre = c .before .before .before .before .before .before .before .before .before .before .pre in let first = c .before .before .before .before .before .before .before .first-entries .ensures in
     (pre .0, opened-within (wanted-flagged (premise-is (pre .1) (first .0) (first .1 .0) .entries) (c .before .before .before .wanted-places .ensures)) (c .before .open-places .ensures .1), pre .2))  -- is-dead-requires
     (λ c. let pre = c .before .before .before .before .before .before .before .before .before .before .before .before .pre in let first = c .before .before .before .before .before .before .before .before .before .first-entries .ensures in (
@@ -34,7 +34,7 @@ uncovered-spec = tie.close (tie.spec
       risky-flagged (conclusion-concluded (pre .0) (pre .1) (second .0) (second .1 .0)) (c .before .before .before .before .before .before .before .before .before .risky-places .ensures),
     ))  -- bare-places-requires
     (λ c κs. let pre = c .before .before .before .before .before .before .before .before .before .before .before .before .before .before .before .before .before .pre in let second = c .before .before .before .before .before .before .before .before .before .before .before .before .before .second-entries .ensures in
-    (conclusion-concluded (pre .0) (pre .1) (second .0) (second .1 .0), remembered-of (second .0) (pre .4), c .before .before .bare-places .ensures .long))  -- take-hats-requires
+    (conclusion-concluded (pre .0) (pre .1) (second .0) (second .1 .0), remembered-of (second .0) (pre .4), c .before .before .bare-places .ensures .long, pre .5))  -- take-hats-requires
     (λ c κs. let pre = c .before .before .before .before .before .before .before .before .before .before .before .before .before .before .before .before .before .before .before .pre in let second = c .before .before .before .before .before .before .before .before .before .before .before .before .before .before .before .second-entries .ensures in let short = conclusion-concluded (pre .0) (pre .1) (second .0) (second .1 .0) .short in
     (c .before .take-hats .ensures .1 .long, search needs))  -- first-on-requires
     (λ c. let pre = c .before .before .before .before .before .before .before .before .before .before .before .before .before .before .before .before .before .before .before .before .pre in let first = c .before .before .before .before .before .before .before .before .before .before .before .before .before .before .before .before .before .first-entries .ensures in let second = c .before .before .before .before .before .before .before .before .before .before .before .before .before .before .before .before .second-entries .ensures in

@@ -16,12 +16,12 @@ use Rattle.judge.proofs.judging.rule_fault.Statement.{statement}
 use Rattle.judge.proofs.judging.rule_fault.Tie as tie
 
 abbrev Inv-loop : tie.InvT-loop
-Inv-loop file n head roots count above₀ shared₀ i₀ above shared i =
+Inv-loop file n head roots sizes count above₀ shared₀ i₀ above shared i =
     (i ≤ blockCount file) × (firstFault (onKind 5 (uncoveredRule (certificateOf file)) file) i (blockCount file - i) ≡ ruleFault (certificateOf file) file)
     × Before firstEntries (NoHat (certificateOf head)) file i above × Before secondEntries (SharesBad (certificateOf head)) file i shared
 
 abbrev μ-loop : tie.MeasureT-loop
-μ-loop file n head roots count above₀ shared₀ i₀ above shared i = blockCount file - i
+μ-loop file n head roots sizes count above₀ shared₀ i₀ above shared i = blockCount file - i
 
 pub rule-fault-spec : {M : Type 1} → statement M
 rule-fault-spec = tie.close (tie.spec Inv-loop μ-loop
@@ -31,16 +31,17 @@ rule-fault-spec = tie.close (tie.spec Inv-loop μ-loop
     (λ c. search needs)  -- part-head-start
     (λ c. let laid = c .before .before .pre in let inside = c .leading .ensures .inside in search needs)  -- part-head-end
     (λ c κs. heads (c .before .before .before .pre) (c .before .leading .ensures) .laid)  -- secret-roots-requires
+    (λ c κs. heads (c .before .before .before .before .pre) (c .before .before .leading .ensures) .laid)  -- listed-sizes-requires
     (λ c. (search needs, rule-start _ _, nothing-before (search needs), nothing-before (search needs)))  -- loop-holds
-    (λ c κs. (c .before .before .before .before .before .before .before .before .before .pre, c .before .before .before .loop-test .taken, heads (c .before .before .before .before .before .before .before .before .before .pre) (c .before .before .before .before .before .before .before .leading .ensures), c .before .before .before .before .before .secret-roots .ensures, c .before .before .before .before .loop .inv .2, c .before .before .before .before .loop .inv .3))  -- uncovered-at-requires
+    (λ c κs. (c .before .before .before .before .before .before .before .before .before .before .before .pre, c .before .before .before .before .loop-test .taken, heads (c .before .before .before .before .before .before .before .before .before .before .before .pre) (c .before .before .before .before .before .before .before .before .before .leading .ensures), c .before .before .before .before .before .before .before .secret-roots .ensures, c .before .before .before .before .before .loop .inv .2, c .before .before .before .before .before .loop .inv .3, c .before .before .before .before .before .before .listed-sizes .ensures))  -- uncovered-at-requires
     (λ c. search needs)  -- enum-known-f
-    (λ c. judged-some (sym (c .before .before .before .before .before .before .before .before .loop .inv .1) ∙ first-stop _ _ _ (c .before .before .before .before .before .before .before .loop-test .taken) (faulty-some _ (c .before .before .before .uncovered-at .ensures .0) (c .before .f .given .1))))  -- returns
+    (λ c. judged-some (sym (c .before .before .before .before .before .before .before .before .before .loop .inv .1) ∙ first-stop _ _ _ (c .before .before .before .before .before .before .before .before .loop-test .taken) (faulty-some _ (c .before .before .before .uncovered-at .ensures .0) (c .before .f .given .1))))  -- returns
     (λ c. search needs)  -- enum-told
     (λ c. search needs)  -- add-i
     (λ c. search needs)  -- loop-less
     (λ c. (
       search needs,
-      first-more _ _ _ (c .before .before .before .before .before .before .loop-test .taken) (fine-none _ (c .before .before .uncovered-at .ensures .0) (c .enum-told .given .1)) ∙ c .before .before .before .before .before .before .before .loop .inv .1,
+      first-more _ _ _ (c .before .before .before .before .before .before .before .loop-test .taken) (fine-none _ (c .before .before .uncovered-at .ensures .0) (c .enum-told .given .1)) ∙ c .before .before .before .before .before .before .before .before .loop .inv .1,
       c .before .before .uncovered-at .ensures .1 .0,
       c .before .before .uncovered-at .ensures .1 .1,
     ))  -- loop-again

@@ -23,6 +23,7 @@ uncovered-at-spec = tie.close (tie.spec
       pre .3,
       pre .4,
       pre .5,
+      pre .6,
     ))  -- uncovered-in-requires
     (λ c. search needs)  -- enum-known-k
     (λ c. let few = c .before .before .before .before .before .before .before .before .before .before .before .pre .0 .few in search needs)  -- cast-t15

@@ -19,6 +19,7 @@ uncovered-in-spec = tie.close (tie.spec
       pre .4,
       remembered-of (ap firstEntries same) (known-here _ _ (c .before .before .before .before .before .before .before .repeats-premise .result) (c .before .before .before .before .before .before .before .repeats-premise .ensures) (pre .5) (c .before .before .before .before .before .before .renew .ensures)),
       remembered-of (ap secondEntries same) (known-here _ _ (c .before .before .before .before .repeats-conclusion .result) (c .before .before .before .before .repeats-conclusion .ensures) (pre .6) (c .before .before .before .renew2 .ensures)),
+      pre .7,
     ))  -- uncovered-requires
     (λ c. let same = c .before .block .ensures .0 in let told = c .uncovered .ensures in (
       uncovered-of _ (sym same) (told .1 .1),

@@ -12,28 +12,28 @@ use Rattle.judge.proofs.listed.shares_listed.Statement.{statement}
 use Rattle.judge.proofs.listed.shares_listed.Tie as tie
 
 abbrev Inv-loop : tie.InvT-loop
-Inv-loop file kind e count left₀ left =
+Inv-loop file sizes kind e z count left₀ left =
     (left ≤ blockCount file) × ((k : ℕ) → left ≤ k → k < blockCount file → ¬ HoldsAt file kind (λ p. Share p (termOf e)) k)
 
 abbrev μ-loop : tie.MeasureT-loop
-μ-loop file kind e count left₀ left = left
+μ-loop file sizes kind e z count left₀ left = left
 
 pub shares-listed-spec : {M : Type 1} → statement M
 shares-listed-spec = tie.close (tie.spec Inv-loop μ-loop
     (λ c. (search needs, λ k low high. absurd (omega arith)))  -- loop-holds
     (λ c. search needs)  -- sub-shares-at
-    (λ c κs. search needs)  -- shares-at-requires
-    (λ c. let s = c .before .before .before .before .before .before in let at = c .before .shares-at in
-    found-answer (s .pre) (λ p. Share p (termOf (s .args .e .now))) (search needs) (at .result) (at .ensures) (c .if1 .taken) (shares-listed? _ _ _))  -- returns
+    (λ c κs. let pre = c .before .before .before .before .before .pre in (pre .0, search needs, pre .1, pre .2))  -- shares-at-requires
+    (λ c. let s = c .before .before .before .before .before .before .before in let at = c .before .shares-at in
+    found-answer (s .pre .0) (λ p. Share p (termOf (s .args .e .now))) (search needs) (at .result) (at .ensures) (c .if1 .taken) (shares-listed? _ _ _))  -- returns
     (λ c. search needs)  -- sub-kind-at
     (λ c κs. search needs)  -- kind-at-requires
-    (λ c. let loop = c .before .before .before .before .before in let s = loop .before .before .before in
-    lower-answer (s .pre) (λ p. Share p (termOf (s .args .e .now))) (search needs) (c .before .kind-at .ensures) (c .if2 .taken)
+    (λ c. let loop = c .before .before .before .before .before in let s = loop .before .before .before .before in
+    lower-answer (s .pre .0) (λ p. Share p (termOf (s .args .e .now))) (search needs) (c .before .kind-at .ensures) (c .if2 .taken)
     (λ k l. loop .loop .inv .1 k (omega arith)) (shares-listed? _ _ _))  -- returns-2
     (λ c. search needs)  -- sub-left
     (λ c. search needs)  -- loop-less
     (λ c. let at = c .before .before .before .shares-at in
     (search needs, above-more _ _ (c .before .before .before .before .before .loop .inv .1) (says-no (at .result) (at .ensures) (c .before .before .if1 .left))))  -- loop-again
-    (λ c. let s = c .before .before .before .before in
-    none-answer (s .pre) (λ p. Share p (termOf (s .args .e .now))) (λ k l. c .before .loop .inv .1 k (omega arith) l) (shares-listed? _ _ _))  -- returns-3
+    (λ c. let s = c .before .before .before .before .before in
+    none-answer (s .pre .0) (λ p. Share p (termOf (s .args .e .now))) (λ k l. c .before .loop .inv .1 k (omega arith) l) (shares-listed? _ _ _))  -- returns-3
     )

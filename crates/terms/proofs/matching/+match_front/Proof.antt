@@ -1,7 +1,7 @@
 -- `terms::matching::match_front` meets its contract; the measure is the length. Assumes nothing.
 use borrow.Author.Needs.{needs}
 use lib.ListN.{length}
-use Rattle.terms.specs.FrontLaws.{said, denied}
+use Rattle.terms.specs.FrontLaws.{front-begins, said, denied}
 use Rattle.terms.specs.MatchLaws.{made-none, pattern-begins, subject-begins, comparable, variable-ready, variable-step, variable-last, variable-clash}
 use Rattle.terms.specs.MatchLaws.{symbol-ready, symbol-step, symbol-clash}
 use Prim.Native.Nat.{ℕ, _<_}
@@ -79,7 +79,7 @@ pub +match-front-spec : {M : Type 1} → statement M
     (λ c. search needs)  -- match-front-sub-same-entry
     (λ c. search needs)  -- match-front-part-same-entry-start
     (λ c. search needs)  -- match-front-part-same-entry-end
-    (λ c κs. search needs)  -- match-front-same-entry-requires
+    (λ c κs. let ready = c .before .before .before .before .before .before .pre .1 in (front-begins (ready .pattern) (c .before .before .before .if1 .left), front-begins (ready .subject) (c .before .before .before .if1 .left)))  -- match-front-same-entry-requires
     (λ c. search needs)  -- match-front-sub-match-front-3
     (λ c. search needs)  -- match-front-part-match-front-start-2
     (λ c. search needs)  -- match-front-part-match-front-end-2

@@ -1,7 +1,7 @@
 -- `terms::matching::same_front` meets its contract; the measure is the length. Assumes nothing.
 use borrow.Author.Needs.{needs}
 use lib.ListN.{length}
-use Rattle.terms.specs.FrontLaws.{none-left, same-below, same-step, same-clash, said, denied}
+use Rattle.terms.specs.FrontLaws.{front-begins, none-left, same-below, same-step, same-clash, said, denied}
 use Prim.Native.Nat.{ℕ, _<_}
 use borrow.Fn.Kinds.{In}
 use borrow.Fn.PlainCycle.{Measures, is, falls, and}
@@ -34,7 +34,7 @@ pub +same-front-spec : {M : Type 1} → statement M
       same-front-below t,
       same-front.Post,
     ) (same-front-at t) same-front.Post
-    (λ c κs. search needs)  -- same-front-same-entry-requires
+    (λ c κs. let fronts = c .before .before .before .pre .1 in (front-begins (fronts .0) (c .if1 .left), front-begins (fronts .1) (c .if1 .left)))  -- same-front-same-entry-requires
     (λ c. search needs)  -- same-front-sub-same-front
     (λ c. search needs)  -- same-front-part-same-front-start
     (λ c. search needs)  -- same-front-part-same-front-end

@@ -2,6 +2,7 @@
 use borrow.Author.Needs.{needs}
 use native.Mathlib.Omega.{arith}
 use Rattle.terms.specs.Solve.{says-same}
+use Rattle.terms.specs.FrontLaws.{front-begins}
 use Rattle.terms.specs.RunLaws.{front-room, tag-from}
 use Rattle.terms.proofs.matching.goes_on.Statement.{statement}
 use Rattle.terms.proofs.matching.goes_on.Tie as tie
@@ -20,7 +21,7 @@ goes-on-spec = tie.close (tie.spec
     (λ c. let room = front-room (c .before .before .before .before .before .before .args .t .now) (c .before .before .before .before .before .before .args .k) (c .before .before .before .before .before .before .pre .3) (c .before .before .before .if1 .left) in search needs)  -- sub-same-entry-2
     (λ c. let room = front-room (c .before .before .before .before .before .before .args .t .now) (c .before .before .before .before .before .before .args .k) (c .before .before .before .before .before .before .pre .3) (c .before .before .before .if1 .left) in search needs)  -- part-same-entry-start-2
     (λ c. let room = front-room (c .before .before .before .before .before .before .args .t .now) (c .before .before .before .before .before .before .args .k) (c .before .before .before .before .before .before .pre .3) (c .before .before .before .if1 .left) in search needs)  -- part-same-entry-end-2
-    (λ c κs. let left = front-room (c .before .before .before .before .before .before .before .args .p .now) (c .before .before .before .before .before .before .before .args .k) (c .before .before .before .before .before .before .before .pre .2) (c .before .before .before .before .if1 .left) in let right = front-room (c .before .before .before .before .before .before .before .args .t .now) (c .before .before .before .before .before .before .before .args .k) (c .before .before .before .before .before .before .before .pre .3) (c .before .before .before .before .if1 .left) in (search needs, search needs))  -- same-entry-requires
+    (λ c κs. let pre = c .before .before .before .before .before .before .before .pre in (front-begins (pre .2) (c .before .before .before .before .if1 .left), front-begins (pre .3) (c .before .before .before .before .if1 .left)))  -- same-entry-requires
     (λ c. let low = tag-from (c .before .before .before .before .before .before .before .before .args .p .now) (c .before .before .before .before .before .before .before .before .args .k) in let small = c .before .before .before .if2 .left in
     says-same (c .same-entry .result) (λ s. record { some-left = c .before .before .before .before .before .if1 .left; symbol = omega arith; same = s }) (λ g. g .same) (c .same-entry .ensures))  -- returns-3
     )

@@ -1,0 +1,80 @@
+-- Two terms walked side by side: where a variable stands on either side, the two entries are noted. The array m has the k-th
+-- noted entry of the first term at k, and of the second at 64 + k.
+use mathlib.Core.Path.{_≡_}
+use mathlib.Core.List.{List}
+use mathlib.Core.Logic.{_↔_}
+use Prim.Native.Nat.{ℕ, _+_, _*_, _<_, _≤_}
+use lib.ListN.{length, getD}
+use Rattle.terms.specs.declared.sharing.Walk.{Walk}
+use Rattle.terms.specs.declared.sharing.Walk.the-variants.{Apart, Through}
+use Rattle.terms.specs.Term.{Term, Message, Variable, replace}
+use Rattle.terms.specs.Entry.{termOf, tagAt}
+use Rattle.terms.specs.WalkLaws.{from}
+use Rattle.terms.specs.Front.{Front, Alike, SameFirst, slotOf}
+use Rattle.terms.specs.TermGraph.{home}
+
+-- Both begin with symbols, and not with the same one.
+pub record RootsDiffer (s t : List ℕ) : Type 0 where
+  pub left : tagAt s ≤ 3
+  pub right : tagAt t ≤ 3
+  pub differ : ¬ SameFirst s t
+
+-- n entries of each side are noted.
+pub record Noted (s t m : List ℕ) (n : ℕ) : Type 0 where
+  pub long : length m ≡ 128
+  pub few : n ≤ 63
+  pub left : (k : ℕ) → k < n → 4 * (getD m k 0 + 1) ≤ length s
+  pub right : (k : ℕ) → k < n → 4 * (getD m (64 + k) 0 + 1) ≤ length t
+
+-- Those of the first side alone.
+pub record NotedIn (s m : List ℕ) (n : ℕ) : Type 0 where
+  pub long : length m ≡ 128
+  pub few : n ≤ 63
+  pub inside : (k : ℕ) → k < n → 4 * (getD m k 0 + 1) ≤ length s
+
+-- The slot of the term at the k-th noted entry of the first side: its variable's, or 16.
+abbrev pub notedSlot : List ℕ → List ℕ → ℕ → ℕ
+notedSlot s m k = slotOf (termOf (from (4 * getD m k 0) s))
+
+-- Variables stand at the first n noted entries of the first side, each another one.
+pub record Distinct (s m : List ℕ) (n : ℕ) : Type 0 where
+  pub variables : (k : ℕ) → k < n → notedSlot s m k < 16
+  pub apart : (j k : ℕ) → j < k → k < n → ¬ (notedSlot s m j ≡ notedSlot s m k)
+
+-- The replacements, one for each side, make the terms at entries i and j the same.
+pub record Same (by by′ : Variable → Term Variable) (s t : List ℕ) (i j : ℕ) : Type 0 where
+  pub same : replace by (termOf (from (4 * i) s)) ≡ replace by′ (termOf (from (4 * j) t))
+
+-- And so the first n noted ones, two and two.
+pub record AllSame (by by′ : Variable → Term Variable) (s t m : List ℕ) (n : ℕ) : Type 0 where
+  pub each : (k : ℕ) → k < n → Same by by′ s t (getD m k 0) (getD m (64 + k) 0)
+
+-- The walk has come to entries i and j, with `need` terms left: the two terms become the same just where the noted entries do
+-- and the terms left do.
+pub record Walking (s t m : List ℕ) (n i j need : ℕ) : Type 0 where
+  pub noted : Noted s t m n
+  pub passed : n ≤ i
+  pub inside : 4 * i ≤ length s
+  pub other-inside : 4 * j ≤ length t
+  pub front : Front need (from (4 * i) s)
+  pub other-front : Front need (from (4 * j) t)
+  pub same : (by by′ : Variable → Term Variable)
+      → (replace by (termOf s) ≡ replace by′ (termOf t)) ↔ (AllSame by by′ s t m n × Alike by by′ need (from (4 * i) s) (from (4 * j) t))
+
+-- Entries i and j are not the same symbol.
+pub record Stops (s t : List ℕ) (i j : ℕ) : Type 0 where
+  pub differ : tagAt (from (4 * i) s) ≤ 3 → ¬ SameFirst (from (4 * i) s) (from (4 * j) t)
+
+-- The two terms become the same just where the noted entries do.
+pub record Reduced (s t m : List ℕ) (n : ℕ) : Type 0 where
+  pub noted : Noted s t m n
+  pub same : (by by′ : Variable → Term Variable) → (replace by (termOf s) ≡ replace by′ (termOf t)) ↔ AllSame by by′ s t m n
+
+-- What the walk says at its end.
+abbrev pub WalkSays : List ℕ → List ℕ → List ℕ → Walk → Type 0
+WalkSays s t m Apart = (by by′ : Variable → Term Variable) → ¬ (replace by (termOf s) ≡ replace by′ (termOf t))
+WalkSays s t m (Through n) = Reduced s t m n
+
+-- A valuation gives the nodes of the first n noted entries equal messages, two and two.
+abbrev pub AllEqual : List ℕ → List ℕ → List ℕ → ℕ → (ℕ → Message) → Type 0
+AllEqual s t m n v = (k : ℕ) → k < n → v (home s 0 128 (getD m k 0)) ≡ v (home t 64 144 (getD m (64 + k) 0))
