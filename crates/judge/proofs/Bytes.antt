@@ -14,7 +14,7 @@ use Rattle.judge.specs.File.{patternOf, secretOf, ruleOf, certificateOf}
 use Rattle.judge.specs.Laid.{Laid}
 use Rattle.judge.specs.Run.{Derives, Step, after}
 use Rattle.judge.specs.Cover.{Passes}
-use Rattle.judge.specs.Conditions.{KnownAtom, WeaklyClosed, KeptKey, Meets}
+use Rattle.judge.specs.Conditions.{KnownAtom, WeaklyClosed, KeptKey, MeetsAll}
 use Rattle.judge.specs.Verdict.{verdictOf}
 use Rattle.judge.specs.Meaning.{Formed, Accepts}
 use Rattle.judge.proofs.LaidLaws.{laid}
@@ -29,7 +29,7 @@ use Rattle.judge.proofs.Secrecy.{secrecy}
 pub formed-laid : (file : List ℕ) → Formed file → Laid file
 formed-laid file f = laid file (f .long) (f .blocks)
 
-pub accepts-meets : (file : List ℕ) → Accepts file → Meets (certificateOf file)
+pub accepts-meets : (file : List ℕ) → Accepts file → MeetsAll (certificateOf file)
 unfolding certificateOf Built
 accepts-meets file w = record {
   notForeign = λ a m foreign. let own : a < 1000 = no-foreign file (w .formed) .terms .secrets (atom a) m in omega arith;
@@ -43,7 +43,7 @@ accepts-meets file w = record {
 pub accepted-laid : (file : List ℕ) (counts : Counts) → verdictOf file ≡ Accepted counts → Laid file
 accepted-laid file counts e = formed-laid file (accepted-iff file counts .0 e .0 .formed)
 
-pub accepted-meets : (file : List ℕ) (counts : Counts) → verdictOf file ≡ Accepted counts → Meets (certificateOf file)
+pub accepted-meets : (file : List ℕ) (counts : Counts) → verdictOf file ≡ Accepted counts → MeetsAll (certificateOf file)
 accepted-meets file counts e = accepts-meets file (accepted-iff file counts .0 e .0)
 
 -- Demand 3: for every accepted file and every list of steps, the intruder derives no listed secret.

@@ -7,7 +7,7 @@ use Prim.Native.String.{String}
 use Rattle.blocks.specs.Block.{blockAt}
 use Rattle.blocks.specs.Check.{sealed}
 use Rattle.terms.specs.Term.{Term, Variable, variable, atom, pair, encrypted, plain, marked}
-use Rattle.terms.specs.Entry.{entriesOf, size}
+use Rattle.terms.specs.Entry.{termEntries, size}
 use Rattle.terms.specs.Instance.{Share}
 use Rattle.terms.specs.Decide.{yes-of, no-of, share?, variable?}
 use Rattle.judge.specs.File.{ruleOf, certificateOf}
@@ -30,8 +30,8 @@ block kind first second entries = sealed (kind ∷ first ∷ second ∷ 0 ∷ (e
 
 -- A secret, a good or a bad pattern.
 term : ℕ → Term Variable → List ℕ
-unfolding block entriesOf size
-term kind t = block kind (size t) 0 (entriesOf t)
+unfolding block termEntries size
+term kind t = block kind (size t) 0 (termEntries t)
 
 secret : Term Variable → List ℕ
 unfolding term
@@ -47,12 +47,12 @@ bad t = term 4 t
 
 -- A rule, with a premise or without.
 from : Term Variable → Term Variable → List ℕ
-unfolding block entriesOf size
-from premise conclusion = block 5 (size premise) (size conclusion) (entriesOf premise ++ entriesOf conclusion)
+unfolding block termEntries size
+from premise conclusion = block 5 (size premise) (size conclusion) (termEntries premise ++ termEntries conclusion)
 
 start : Term Variable → List ℕ
-unfolding block entriesOf size
-start conclusion = block 5 0 (size conclusion) (entriesOf conclusion)
+unfolding block termEntries size
+start conclusion = block 5 0 (size conclusion) (termEntries conclusion)
 
 -- Blocks, one after the other.
 joined : List (List ℕ) → List ℕ

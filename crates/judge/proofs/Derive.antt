@@ -11,7 +11,7 @@ use Rattle.terms.specs.Laws.{nothing-above-root}
 use Rattle.judge.specs.Certificate.{Certificate, Secret, inverse}
 use Rattle.judge.specs.Run.{Derives, had, pairs, encrypts, leftHalf, rightHalf, decrypts}
 use Rattle.judge.specs.Hat.{Hat, Protected}
-use Rattle.judge.specs.Conditions.{Meets}
+use Rattle.judge.specs.Conditions.{MeetsAll}
 use Rattle.judge.proofs.Safe.{Safe, HatAbove, safe-no-secret, protected-under, safe-part}
 
 -- A hat is an encryption, and the inverse of its key is a secret.
@@ -21,7 +21,7 @@ pub record HatRoot (certificate : Certificate) (m : Message) : Type 0 where
   pub same : m ≡ encrypted key inner
   pub kept : Secret certificate (atom (inverse certificate key))
 
-module _ {certificate : Certificate} (meets : Meets certificate) where
+module _ {certificate : Certificate} (meets : MeetsAll certificate) where
   pub hat-root : {good : Term Variable} {m : Message} → Hat certificate good m → HatRoot certificate m
   unfolding replace
   hat-root {good} hat =

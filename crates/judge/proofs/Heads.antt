@@ -30,12 +30,12 @@ use Rattle.judge.proofs.Members.{block-listed, listed-block}
 -- ---- what the judging of a rule asks of a certificate
 
 -- What one certificate lists of secrets and patterns, the other does too.
-record Within (c d : Certificate) : Type 0 where
+record Sublists (c d : Certificate) : Type 0 where
   secret : (m : Message) → Secret c m → Secret d m
   good : (t : Term Variable) → Good c t → Good d t
   bad : (t : Term Variable) → Bad c t → Bad d t
 
-module _ {c d : Certificate} (out : Within c d) (back : Within d c) where
+module _ {c d : Certificate} (out : Sublists c d) (back : Sublists d c) where
   no-hat : {t : Term Variable} → NoHat c t → NoHat d t
   no-hat (sharesNoGood none) = sharesNoGood (λ g l. none g (back .good g l))
   no-hat (isBad {bad} l m) = isBad (out .bad bad l) m
@@ -73,14 +73,14 @@ module _ {c d : Certificate} (out : Within c d) (back : Within d c) where
   covered (sureHat h) = sureHat (sure-hat h)
   covered (inPremise o) = inPremise (at-open o)
 
-fine : {c d : Certificate} → Within c d → Within d c → (rule : Rule) (k : ℕ) → FineAt c rule k → FineAt d rule k
+fine : {c d : Certificate} → Sublists c d → Sublists d c → (rule : Rule) (k : ℕ) → FineAt c rule k → FineAt d rule k
 fine out back rule k f r = covered out back (f (risky back out r))
 
 first : {P Q : ℕ → Type 0} → ((k : ℕ) → P k → Q k) → ((k : ℕ) → Q k → P k) → {count : ℕ} {f : Found} → FirstNot P count f → FirstNot Q count f
 first to from (fails {n} e l off all) = fails e l (λ q. off (from n q)) (λ k h. to k (all k h))
 first to from (holds e all) = holds e (λ k h. to k (all k h))
 
-same-rule : {c d : Certificate} → Within c d → Within d c → (rule : Rule) → uncovered c rule ≡ uncovered d rule
+same-rule : {c d : Certificate} → Sublists c d → Sublists d c → (rule : Rule) → uncovered c rule ≡ uncovered d rule
 unfolding uncovered
 same-rule {c} {d} out back rule =
     let one : answer (dead? c rule) ≡ answer (dead? d rule) = answer-same (dead? c rule) (dead? d rule) (dead out back) (dead back out) in
@@ -132,7 +132,7 @@ module _ {file : List ℕ} {n : ℕ} (laid : Laid file) (only : OnlyRulesFrom fi
         | no past ↦ absurd (no-rule (sym (w .of-kind) ∙ only .rules (w .number) (omega arith) (w .inside)))
       ]
 
-  from-head : Within (certificateOf head) (certificateOf file)
+  from-head : Sublists (certificateOf head) (certificateOf file)
   unfolding certificateOf
   from-head = record {
     secret = λ m. mapped secretOf (into-file 2);
@@ -140,7 +140,7 @@ module _ {file : List ℕ} {n : ℕ} (laid : Laid file) (only : OnlyRulesFrom fi
     bad = λ t. mapped patternOf (into-file 4);
   }
 
-  to-head : Within (certificateOf file) (certificateOf head)
+  to-head : Sublists (certificateOf file) (certificateOf head)
   unfolding certificateOf
   to-head = record {
     secret = λ m. mapped secretOf (into-head 2 (λ e. absurd (omega arith)));

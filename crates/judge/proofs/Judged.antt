@@ -27,7 +27,7 @@ use Rattle.judge.specs.declared.verdict.Fault.the-variants.{Length, Chec
 use Rattle.judge.specs.Verdict.{lengthRight, lengthFault, kindRight, atomFault, entryFault, rootRight}
 use Rattle.judge.specs.File.{fileAtoms, usedEntries}
 use Rattle.judge.specs.Verdict.{patternFault, conclusionFault, rulePartsFault, termFault, entriesFault, blockFault}
-use Rattle.judge.specs.Meaning.{LengthRight, KindRight, first, later, Shaped, AtomIs, TermEntryIs, EntriesRight, PatternRight}
+use Rattle.judge.specs.Meaning.{LengthRight, KindRight, first, later, Shaped, AtomEntryRight, TermEntryRight, EntriesRight, PatternRight}
 use Rattle.judge.specs.Meaning.{PremiseRight, BlockRight, BlockFaulty, checkFails, kindFails, layoutFails, atomFails}
 use Rattle.judge.specs.Meaning.{entryFails, patternFails, premiseFails, conclusionFails}
 use Rattle.judge.proofs.Exact.{Exact, reworded, tested, tested-then, either, then, FirstPlace, at, first-place}
@@ -105,13 +105,13 @@ recount : {P : ℕ → Type 0} {F : ℕ → Fault} {o : Option Fault} (c d : ℕ
 recount {P} {F} {o} c d e x = rw e at x
 
 module _ (i : ℕ) (b : List ℕ) (fits : Fitting b) where
-  atom-judged : Exact ((n : ℕ) → n < firstCount b → AtomIs b n) (FirstPlace (AtomIs b) (firstCount b) (AtomEntry i)) (atomFault i b)
+  atom-judged : Exact ((n : ℕ) → n < firstCount b → AtomEntryRight b n) (FirstPlace (AtomEntryRight b) (firstCount b) (AtomEntry i)) (atomFault i b)
   unfolding atomFault wrongAtom
   atom-judged = recount (length (atomsOf (firstEntries b))) (firstCount b) (omega (arith, length-atoms (firstEntries b), first-length b fits))
       (first-place (atomRight? (atomsOf (firstEntries b))) (length (atomsOf (firstEntries b))) (AtomEntry i))
 
   entry-judged : (atoms : List Atom)
-      → Exact (EntriesRight atoms b) (FirstPlace (TermEntryIs atoms b) (firstCount b + secondCount b) (TermEntry i)) (entryFault atoms i b)
+      → Exact (EntriesRight atoms b) (FirstPlace (TermEntryRight atoms b) (firstCount b + secondCount b) (TermEntry i)) (entryFault atoms i b)
   unfolding entryFault wrongEntry
   entry-judged atoms = recount (length (usedEntries b) / 4) (firstCount b + secondCount b) (omega (arith, used-length b fits))
       (first-place (rightAt? atoms (kindOf b) (usedEntries b)) (length (usedEntries b) / 4) (TermEntry i))
@@ -191,7 +191,7 @@ module _ (file : List ℕ) (i : ℕ) where
   b = blockAt file i
 
   abbrev Content : Type 0
-  Content = (kindOf b ≡ 1 → (n : ℕ) → n < firstCount b → AtomIs b n)
+  Content = (kindOf b ≡ 1 → (n : ℕ) → n < firstCount b → AtomEntryRight b n)
       × (¬ (kindOf b ≡ 1) → EntriesRight (fileAtoms file) b
       × ((kindOf b ≡ 5 → PremiseRight b × OneTerm (secondEntries b)) × (¬ (kindOf b ≡ 5) → PatternRight b)))
 
@@ -199,8 +199,8 @@ module _ (file : List ℕ) (i : ℕ) where
   TermsWrong g = ((kindOf b ≡ 5) × RuleWrong i b g) ⊎ ((¬ (kindOf b ≡ 5)) × ((g ≡ NotOneTerm i 0) × (¬ PatternRight b)))
 
   abbrev ContentWrong : Fault → Type 0
-  ContentWrong g = ((kindOf b ≡ 1) × FirstPlace (AtomIs b) (firstCount b) (AtomEntry i) g)
-      ⊎ ((¬ (kindOf b ≡ 1)) × (FirstPlace (TermEntryIs (fileAtoms file) b) (firstCount b + secondCount b) (TermEntry i) g
+  ContentWrong g = ((kindOf b ≡ 1) × FirstPlace (AtomEntryRight b) (firstCount b) (AtomEntry i) g)
+      ⊎ ((¬ (kindOf b ≡ 1)) × (FirstPlace (TermEntryRight (fileAtoms file) b) (firstCount b + secondCount b) (TermEntry i) g
       ⊎ (EntriesRight (fileAtoms file) b × TermsWrong g)))
 
   module _ (shaped : Shaped file i) where
@@ -238,11 +238,11 @@ module _ (file : List ℕ) (i : ℕ) where
     unfolding RuleWrong
     wrong-to g (inl (e, w)) = go w
       where
-        go : FirstPlace (AtomIs b) (firstCount b) (AtomEntry i) g → BlockFaulty file i g
+        go : FirstPlace (AtomEntryRight b) (firstCount b) (AtomEntry i) g → BlockFaulty file i g
         go (at q l off all) = atomFails q shaped e l off all
     wrong-to g (inr (n, inl w)) = go w
       where
-        go : FirstPlace (TermEntryIs (fileAtoms file) b) (firstCount b + secondCount b) (TermEntry i) g → BlockFaulty file i g
+        go : FirstPlace (TermEntryRight (fileAtoms file) b) (firstCount b + secondCount b) (TermEntry i) g → BlockFaulty file i g
         go (at q l off all) = entryFails q shaped (others n .0) l off all
     wrong-to g (inr (n, inr (all, inl (k, inl w)))) = premiseFails (w .0) shaped k all (w .1)
     wrong-to g (inr (n, inr (all, inl (k, inr w)))) = conclusionFails (w .1 .0) shaped k all (w .0) (w .1 .1)

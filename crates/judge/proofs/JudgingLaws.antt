@@ -20,19 +20,19 @@ use Rattle.judge.specs.declared.verdict.Fault.{Fault}
 use Rattle.judge.specs.declared.verdict.Fault.the-variants.{Length, Uncovered}
 use Rattle.judge.specs.declared.verdict.Verdict.{Verdict}
 use Rattle.judge.specs.declared.verdict.Verdict.the-variants.{Accepted, Refused}
-use Rattle.judge.specs.declared.layout.Judged.the-variants.{Fine, Faulty}
+use Rattle.judge.specs.declared.form.Judged.the-variants.{Fine, Faulty}
 use Rattle.judge.specs.Certificate.{Certificate, Rule}
 use Rattle.judge.specs.Decisions.{dead?}
 use Rattle.judge.specs.File.{blockCount, ruleOf, certificateOf}
 use Rattle.judge.specs.Laid.{Laid, RuleBlock}
-use Rattle.judge.specs.Listed.{faultFound, Inside}
+use Rattle.judge.specs.Listed.{faultFound, FoundBelow}
 use Rattle.judge.specs.Judgement.{judgedOf}
-use Rattle.judge.specs.Verdict.{lengthRight, lengthFault, layoutFault, missingFault, firstFault, onKind, kindFault}
+use Rattle.judge.specs.Verdict.{lengthRight, lengthFault, formFault, missingFault, firstFault, onKind, kindFault}
 use Rattle.judge.specs.File.{countsOf}
 use Rattle.judge.specs.Verdict.{fine?, uncovered, uncoveredRule, knownFault, closedFault, keyFault, ruleFault, certificateFault}
 use Rattle.judge.specs.Verdict.{faultOf, verdictOf}
 use Rattle.judge.specs.Values.{verdictValues, judgingValues}
-use Rattle.judge.proofs.LayoutLaws.{found-below}
+use Rattle.judge.proofs.FormLaws.{found-below}
 
 -- ---- number 12
 
@@ -88,7 +88,7 @@ found-some fault said h = sym said ∙ ap (faultFound fault) h
 pub found-none : (fault : ℕ → Fault) {r : Found} {o : Option Fault} → faultFound fault r ≡ o → r ≡ Nothing → o ≡ none
 found-none fault said h = sym said ∙ ap (faultFound fault) h
 
-pub found-block : {file : List ℕ} → Laid file → (r : Found) → Inside (blockCount file) r → {i : ℕ} → r ≡ At i → i < 256
+pub found-block : {file : List ℕ} → Laid file → (r : Found) → FoundBelow (blockCount file) r → {i : ℕ} → r ≡ At i → i < 256
 found-block laid (At n) inside {i} h = let same : n ≡ i = cc in let few = laid .few in omega arith
 found-block laid Nothing inside h = let z : _≡_ {A = ℕ} 0 1 = cc in absurd (omega arith)
 
@@ -119,11 +119,11 @@ module _ (file : List ℕ) where
   fault-length h = rw (h, faultOf, lengthFault)
 
   module _ (long : lengthRight file ≡ true) where
-    pub fault-layout : {f : Fault} → layoutFault file ≡ some f → faultOf file ≡ some f
+    pub fault-layout : {f : Fault} → formFault file ≡ some f → faultOf file ≡ some f
     unfolding faultOf lengthFault
     fault-layout h = rw (long, h, faultOf, lengthFault)
 
-    module _ (shaped : layoutFault file ≡ none) where
+    module _ (shaped : formFault file ≡ none) where
       pub fault-missing : {f : Fault} → missingFault file ≡ some f → faultOf file ≡ some f
       unfolding faultOf lengthFault
       fault-missing h = rw (long, shaped, h, faultOf, lengthFault)

@@ -19,7 +19,7 @@ use Rattle.terms.specs.Each.{Each, each-of, each-take, each-drop}
 use Rattle.terms.specs.TermLaws.{TermRight, one-begins, one-whole, right-term, secret-message}
 use Rattle.judge.specs.File.{blockCount, patternOf, ruleOf}
 use Rattle.judge.specs.Laid.{TermBlock, RuleBlock, SecretBlock, GoodBlock, Laid}
-use Rattle.judge.specs.Verdict.{lengthRight, lengthFault, blockFault, layoutFrom, layoutFault}
+use Rattle.judge.specs.Verdict.{lengthRight, lengthFault, blockFault, formFrom, formFault}
 use Rattle.judge.specs.File.{fileAtoms, usedEntries}
 use Rattle.judge.specs.Meaning.{LengthRight, KindRight, first, later, BlockRight}
 use Rattle.judge.proofs.Exact.{first-block}
@@ -148,6 +148,6 @@ long file h = length-judged file .none-right (rw (h, lengthFault))
 pub block-fits : (file : List ℕ) (i : ℕ) → blockFault file i ≡ none → Fitting (blockAt file i)
 block-fits file i h = fits file i (block-judged file i .none-right h)
 
-pub layout-laid : (file : List ℕ) → lengthRight file ≡ true → layoutFault file ≡ none → Laid file
-unfolding layoutFault layoutFrom
+pub layout-laid : (file : List ℕ) → lengthRight file ≡ true → formFault file ≡ none → Laid file
+unfolding formFault formFrom
 layout-laid file l h = laid file (long file l) (first-block (blockFault file) (block-judged file) (blockCount file) .none-right h)

@@ -18,8 +18,8 @@ pub mod Cases
 pub mod Answers
 pub mod Digits
 pub mod Printing
--- Laws of the code: the layout stage; the blocks of one kind and numbers 9 to 11; cover; the verdict put together.
-pub mod LayoutLaws
+-- Laws of the code: the stage of numbers 1 to 8; the blocks of one kind and numbers 9 to 11; cover; the verdict put together.
+pub mod FormLaws
 pub mod ListedLaws
 pub mod Listing
 pub mod Roots

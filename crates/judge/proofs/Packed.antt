@@ -16,7 +16,7 @@ use Rattle.judge.specs.Answer.{numberOf, blockOf, placeOf, packedOf}
 use Rattle.judge.specs.File.{blockCount, ruleOf}
 use Rattle.judge.specs.Verdict.{verdictOf}
 use Rattle.judge.specs.Meaning.{LengthRight, BlockFaulty, checkFails, kindFails, layoutFails, atomFails}
-use Rattle.judge.specs.Meaning.{entryFails, patternFails, premiseFails, conclusionFails, Formed, Faulty, lengthFails}
+use Rattle.judge.specs.Meaning.{entryFails, patternFails, premiseFails, conclusionFails, Formed, RefusedWith, lengthFails}
 use Rattle.judge.specs.Meaning.{blockFails, missing, secretKnown, secretNotClosed, keyNotKept, placeUncovered}
 use Rattle.judge.proofs.Answers.{numbers}
 use Rattle.judge.proofs.LaidLaws.{laid}
@@ -58,7 +58,7 @@ rule-place {file} {i} w inside is h =
 pub fault-small : (file : List ℕ) (f : Fault) → verdictOf file ≡ Refused f → Small f
 fault-small file f e = go (refused-iff file f .0 e)
   where
-    go : Faulty file f → Small f
+    go : RefusedWith file f → Small f
     go (lengthFails e n) = rw e (record { block = omega arith; place = omega arith })
     go (blockFails l h b w) = block-small (omega (arith, h, few-blocks l)) w
     go (missing e l b n) = rw e (record { block = few-blocks l; place = omega arith })

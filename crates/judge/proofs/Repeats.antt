@@ -17,7 +17,7 @@ use Rattle.judge.specs.Certificate.{Certificate}
 use Rattle.judge.specs.File.{blockCount, ruleOf}
 use Rattle.judge.specs.Verdict.{uncovered}
 use Rattle.judge.specs.Laid.{Laid, RuleBlock}
-use Rattle.judge.specs.CoverEntries.{subAt, toldOf, Remembered, Forgotten, Renewed, Painted, AfterRule, Repeats, Before}
+use Rattle.judge.specs.CoverEntries.{subAt, toldOf, Remembered, Forgotten, Renewed, Painted, AfterRule, Repeats, Carried}
 
 -- The block before block i, as the code finds it.
 pub rule-before : (file : List ℕ) (i : ℕ) → (i ≡ 0 → ⊥) → {k : ℕ} {b : List ℕ} → b ≡ blockAt file (i - 1) → k ≡ kindOf b → Says (eqb k 5) (AfterRule file i)
@@ -105,19 +105,19 @@ here i = omega arith
 
 module _ {part : List ℕ → List ℕ} {P : Term Variable → Type 0} where
   -- Before the first block nothing is known.
-  pub nothing-before : {file memo : List ℕ} → length memo ≡ 64 → Before part P file 0 memo
+  pub nothing-before : {file memo : List ℕ} → length memo ≡ 64 → Carried part P file 0 memo
   nothing-before long = record { long = long; known = λ after. absurd (omega (arith, after .behind)) }
 
   module _ (file : List ℕ) (i : ℕ) where
     -- What is known of block i's part: what was known of the one before, if it is the same, or nothing.
-    pub known-here : {old new : List ℕ} (t : Bool) → Says t (Repeats part file i) → Before part P file i old → Renewed t old new
+    pub known-here : {old new : List ℕ} (t : Bool) → Says t (Repeats part file i) → Carried part P file i old → Renewed t old new
         → Remembered P (part (blockAt file i)) new
     known-here true w before same = subst (Remembered P (part (blockAt file i))) (sym same) (rw (w .same) at (before .known (w .after)))
     known-here false w before gone = nothing-known gone
 
     -- What is then known before the next block.
-    pub known-next : {memo : List ℕ} → Remembered P (part (blockAt file i)) memo → Before part P file (i + 1) memo
+    pub known-next : {memo : List ℕ} → Remembered P (part (blockAt file i)) memo → Carried part P file (i + 1) memo
     known-next {memo} w = record { long = w .long; known = λ after. subst (λ (n : ℕ). Remembered P (part (blockAt file n)) memo) (sym (here i)) w }
 
-    pub other-next : {memo : List ℕ} → Before part P file i memo → ¬ (kindOf (blockAt file i) ≡ 5) → Before part P file (i + 1) memo
+    pub other-next : {memo : List ℕ} → Carried part P file i memo → ¬ (kindOf (blockAt file i) ≡ 5) → Carried part P file (i + 1) memo
     other-next w off = record { long = w .long; known = λ after. absurd (off (subst (λ (n : ℕ). kindOf (blockAt file n) ≡ 5) (here i) (after .rule))) }

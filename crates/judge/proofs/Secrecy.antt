@@ -9,7 +9,7 @@ use Rattle.judge.specs.Certificate.{Certificate, Secret}
 use Rattle.judge.specs.Run.{Derives, Start, known, foreign, Step, Enabled, noPremise, derivable}
 use Rattle.judge.specs.Run.{AfterStep, kept, added, afterFrom, after}
 use Rattle.judge.specs.Hat.{Protected}
-use Rattle.judge.specs.Conditions.{Meets}
+use Rattle.judge.specs.Conditions.{MeetsAll}
 use Rattle.judge.proofs.Safe.{Safe, safe-no-secret}
 use Rattle.judge.proofs.Derive.{safe-derived}
 use Rattle.judge.proofs.Steps.{safe-conclusion}
@@ -26,7 +26,7 @@ safe-atom {certificate} a noSecret = record { safe = go }
     go (right ∷ p) s secret e = absurd (Option·none-ne-some s e)
     go (inside ∷ p) s secret e = absurd (Option·none-ne-some s e)
 
-module _ {certificate : Certificate} (meets : Meets certificate) where
+module _ {certificate : Certificate} (meets : MeetsAll certificate) where
   safe-start : (m : Message) → Start certificate m → Safe certificate m
   safe-start m (known {a = a} e k) =
       rw e (safe-atom a (λ secret. meets .notKnown (atom a) secret (record { number = a; same = refl; known = k })))
@@ -52,7 +52,7 @@ module _ {certificate : Certificate} (meets : Meets certificate) where
   safe-after (step ∷ steps) base = safe-after steps (safe-step step base)
 
 -- For every certificate that meets the conditions and every list of steps, the intruder derives no listed secret.
-pub secrecy : (certificate : Certificate) → Meets certificate → (steps : List (Step certificate)) (s : Message) →
+pub secrecy : (certificate : Certificate) → MeetsAll certificate → (steps : List (Step certificate)) (s : Message) →
     Secret certificate s → Derives certificate (after certificate steps) s → ⊥
 secrecy certificate meets steps s secret derived =
     safe-no-secret (safe-derived meets (safe-after meets steps (safe-start meets)) derived) secret

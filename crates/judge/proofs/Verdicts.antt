@@ -33,10 +33,10 @@ use Rattle.judge.specs.Verdict.{missingFault, onKind, kindFault, knownSe
 use Rattle.judge.specs.Cover.{spotAt, FineAt}
 use Rattle.judge.specs.File.{kindCount}
 use Rattle.judge.specs.Verdict.{uncovered, uncoveredRule, knownFault, closedFault, keyFault, ruleFault, certificateFault}
-use Rattle.judge.specs.Verdict.{lengthFault, layoutFrom, layoutFault, faultOf, verdictOf, blockFault}
+use Rattle.judge.specs.Verdict.{lengthFault, formFrom, formFault, faultOf, verdictOf, blockFault}
 use Rattle.judge.specs.File.{countsOf}
-use Rattle.judge.specs.Meaning.{LengthRight, BlockRight, BlockFaulty, HasKind, Formed, Every, Unknown, Closed, Kept, Passing}
-use Rattle.judge.specs.Meaning.{FirstUncovered, Accepts, FirstAt, Faulty, lengthFails, blockFails, missing, secretKnown}
+use Rattle.judge.specs.Meaning.{LengthRight, BlockRight, BlockFaulty, HasKind, Formed, Every, SecretNotKnown, SecretClosed, RootKeyKept, Passing}
+use Rattle.judge.specs.Meaning.{FirstUncovered, Accepts, FirstAt, RefusedWith, lengthFails, blockFails, missing, secretKnown}
 use Rattle.judge.specs.Meaning.{secretNotClosed, keyNotKept, placeUncovered}
 use Rattle.judge.proofs.Exact.{Exact, found-none, found-some, reworded, tested, either, then, FirstPlace, at, first-place}
 use Rattle.judge.proofs.Exact.{FirstBlock, at-block, first-block, says-decided, says-le, says-both}
@@ -148,28 +148,28 @@ module _ (certificate : Certificate) (file : List ℕ) where
   abbrev KnownWrong : ℕ → Fault → Type 0
   KnownWrong i g = (g ≡ KnownSecret i) × KnownAtom certificate (secretOf (blockAt file i))
 
-  known-judged : Exact (Every 2 file (Unknown certificate)) (KindWrong 2 file (Unknown certificate) KnownWrong) (knownFault certificate file)
+  known-judged : Exact (Every 2 file (SecretNotKnown certificate)) (KindWrong 2 file (SecretNotKnown certificate) KnownWrong) (knownFault certificate file)
   unfolding knownFault knownSecret
   known-judged = kind-judged 2 (knownSecret certificate) file (λ i. go i (known-atom? certificate (secretOf (blockAt file i))))
     where
       go : (i : ℕ) (d : Dec (KnownAtom certificate (secretOf (blockAt file i))))
-          → Exact (Unknown certificate (blockAt file i)) (KnownWrong i) (elim (answer d) [ true ↦ some (KnownSecret i) | false ↦ none ])
+          → Exact (SecretNotKnown certificate (blockAt file i)) (KnownWrong i) (elim (answer d) [ true ↦ some (KnownSecret i) | false ↦ none ])
       go i (yes k) = found-some (KnownSecret i) (λ u. u k) (refl, k) (λ g w. w .0)
       go i (no n) = found-none n (λ g w. n (w .1))
 
   abbrev ClosedWrong : ℕ → Fault → Type 0
-  ClosedWrong i g = (g ≡ NotClosed i) × (¬ Closed certificate (blockAt file i))
+  ClosedWrong i g = (g ≡ NotClosed i) × (¬ SecretClosed certificate (blockAt file i))
 
-  closed-judged : Exact (Every 2 file (Closed certificate)) (KindWrong 2 file (Closed certificate) ClosedWrong) (closedFault certificate file)
+  closed-judged : Exact (Every 2 file (SecretClosed certificate)) (KindWrong 2 file (SecretClosed certificate) ClosedWrong) (closedFault certificate file)
   unfolding closedFault unclosedSecret
   closed-judged = kind-judged 2 (unclosedSecret certificate) file
       (λ i. tested (answer (weakly-closed? certificate (secretOf (blockAt file i)))) (NotClosed i)
       (says-decided (weakly-closed? certificate (secretOf (blockAt file i)))))
 
   abbrev KeyWrong : ℕ → Fault → Type 0
-  KeyWrong i g = (g ≡ KeyNotKept i) × (¬ Kept certificate (blockAt file i))
+  KeyWrong i g = (g ≡ KeyNotKept i) × (¬ RootKeyKept certificate (blockAt file i))
 
-  key-judged : Exact (Every 3 file (Kept certificate)) (KindWrong 3 file (Kept certificate) KeyWrong) (keyFault certificate file)
+  key-judged : Exact (Every 3 file (RootKeyKept certificate)) (KindWrong 3 file (RootKeyKept certificate) KeyWrong) (keyFault certificate file)
   unfolding keyFault unkeptKey
   key-judged = kind-judged 3 (unkeptKey certificate) file
       (λ i. tested (answer (kept-key? certificate (patternOf (blockAt file i)))) (KeyNotKept i)
@@ -184,14 +184,14 @@ module _ (certificate : Certificate) (file : List ℕ) where
       (λ i. passes-judged certificate (ruleOf (blockAt file i)) (λ k. Uncovered i (firstCount (blockAt file i) + k)))
 
   abbrev Judged : Type 0
-  Judged = Every 2 file (Unknown certificate) × (Every 2 file (Closed certificate)
-      × (Every 3 file (Kept certificate) × Every 5 file (Passing certificate)))
+  Judged = Every 2 file (SecretNotKnown certificate) × (Every 2 file (SecretClosed certificate)
+      × (Every 3 file (RootKeyKept certificate) × Every 5 file (Passing certificate)))
 
   abbrev JudgedWrong : Fault → Type 0
-  JudgedWrong g = KindWrong 2 file (Unknown certificate) KnownWrong g
-      ⊎ (Every 2 file (Unknown certificate) × (KindWrong 2 file (Closed certificate) ClosedWrong g
-      ⊎ (Every 2 file (Closed certificate) × (KindWrong 3 file (Kept certificate) KeyWrong g
-      ⊎ (Every 3 file (Kept certificate) × KindWrong 5 file (Passing certificate) RuleWrong g)))))
+  JudgedWrong g = KindWrong 2 file (SecretNotKnown certificate) KnownWrong g
+      ⊎ (Every 2 file (SecretNotKnown certificate) × (KindWrong 2 file (SecretClosed certificate) ClosedWrong g
+      ⊎ (Every 2 file (SecretClosed certificate) × (KindWrong 3 file (RootKeyKept certificate) KeyWrong g
+      ⊎ (Every 3 file (RootKeyKept certificate) × KindWrong 5 file (Passing certificate) RuleWrong g)))))
 
   certificate-judged : Exact Judged JudgedWrong (certificateFault certificate file)
   unfolding certificateFault
@@ -204,9 +204,9 @@ module _ (file : List ℕ) where
   abbrev Blocks : Type 0
   Blocks = (i : ℕ) → i < blockCount file → BlockRight file i
 
-  layout-judged : Exact Blocks (FirstBlock (BlockRight file) (BlockFaulty file) 0 (blockCount file)) (layoutFault file)
-  unfolding layoutFault layoutFrom
-  layout-judged = first-block (blockFault file) (block-judged file) (blockCount file)
+  form-judged : Exact Blocks (FirstBlock (BlockRight file) (BlockFaulty file) 0 (blockCount file)) (formFault file)
+  unfolding formFault formFrom
+  form-judged = first-block (blockFault file) (block-judged file) (blockCount file)
 
   abbrev Right : Type 0
   Right = LengthRight file × (Blocks × ((HasKind 2 file × HasKind 5 file) × Judged (certificateOf file) file))
@@ -217,10 +217,10 @@ module _ (file : List ℕ) where
       × (((g ≡ Missing (blockCount file)) × (¬ (HasKind 2 file × HasKind 5 file)))
       ⊎ ((HasKind 2 file × HasKind 5 file) × JudgedWrong (certificateOf file) file g)))))
 
-  fault-judged : Exact (Accepts file) (Faulty file) (faultOf file)
+  fault-judged : Exact (Accepts file) (RefusedWith file) (faultOf file)
   unfolding faultOf
   fault-judged = reworded to back wrong-to (λ g w. wrong-back g w)
-      (then (lengthFault file) (length-judged file) (λ l. then (layoutFault file) layout-judged
+      (then (lengthFault file) (length-judged file) (λ l. then (formFault file) form-judged
       (λ b. then (missingFault file) (missing-judged file) (λ h. certificate-judged (certificateOf file) file))))
     where
       formed : LengthRight file → Blocks → HasKind 2 file × HasKind 5 file → Formed file
@@ -232,13 +232,13 @@ module _ (file : List ℕ) where
       back : Accepts file → Right
       back a = (a .formed .long, (a .formed .blocks, ((a .formed .secret, a .formed .rule), (a .unknown, (a .closed, (a .kept, a .passing))))))
 
-      judged-to : (g : Fault) → Formed file → JudgedWrong (certificateOf file) file g → Faulty file g
+      judged-to : (g : Fault) → Formed file → JudgedWrong (certificateOf file) file g → RefusedWith file g
       judged-to g f (inl (kind-wrong a w)) = secretKnown (w .0) f a (w .1)
       judged-to g f (inr (u, inl (kind-wrong a w))) = secretNotClosed (w .0) f u a
       judged-to g f (inr (u, inr (c, inl (kind-wrong a w)))) = keyNotKept (w .0) f u c a
       judged-to g f (inr (u, inr (c, inr (k, kind-wrong a w)))) = placeUncovered (w .1) f u c k a (w .2)
 
-      wrong-to : (g : Fault) → Wrong g → Faulty file g
+      wrong-to : (g : Fault) → Wrong g → RefusedWith file g
       wrong-to g (inl w) = lengthFails (w .0) (w .1)
       wrong-to g (inr (l, inl (at-block {i = i} a h all w))) = blockFails {i = i} l (omega arith) (λ j p. all j (omega arith) p) w
       wrong-to g (inr (l, inr (b, inl w))) = missing (w .0) l b (w .1)
@@ -247,7 +247,7 @@ module _ (file : List ℕ) where
       later-on : (g : Fault) → Formed file → JudgedWrong (certificateOf file) file g → Wrong g
       later-on g f w = inr (f .long, inr (f .blocks, inr ((f .secret, f .rule), w)))
 
-      wrong-back : (g : Fault) → Faulty file g → Wrong g
+      wrong-back : (g : Fault) → RefusedWith file g → Wrong g
       wrong-back g (lengthFails e n) = inl (e, n)
       wrong-back g (blockFails {i} l h all w) = inr (l, inl (at-block {i = i} (omega arith) (omega arith) (λ j a p. all j p) w))
       wrong-back g (missing e l b n) = inr (l, inr (b, inl (e, n)))
@@ -261,7 +261,7 @@ module _ (file : List ℕ) where
   unfolding verdictOf
   accepted-iff counts = go (faultOf file) fault-judged
     where
-      go : (o : Option Fault) → Exact (Accepts file) (Faulty file) o
+      go : (o : Option Fault) → Exact (Accepts file) (RefusedWith file) o
           → ((elim o [ some f ↦ Refused f | none ↦ Accepted (countsOf file) ]) ≡ Accepted counts) ↔ (Accepts file × (counts ≡ countsOf file))
       go none x = (λ e. (x .none-right refl, cc), λ w. ap Accepted (sym (w .1)))
       go (some f) x = (
@@ -270,12 +270,12 @@ module _ (file : List ℕ) where
       )
 
   -- Refused with this fault if and only if it is the first in document 01's order.
-  pub refused-iff : (fault : Fault) → (verdictOf file ≡ Refused fault) ↔ Faulty file fault
+  pub refused-iff : (fault : Fault) → (verdictOf file ≡ Refused fault) ↔ RefusedWith file fault
   unfolding verdictOf
   refused-iff fault = go (faultOf file) fault-judged
     where
-      go : (o : Option Fault) → Exact (Accepts file) (Faulty file) o
-          → ((elim o [ some f ↦ Refused f | none ↦ Accepted (countsOf file) ]) ≡ Refused fault) ↔ Faulty file fault
+      go : (o : Option Fault) → Exact (Accepts file) (RefusedWith file) o
+          → ((elim o [ some f ↦ Refused f | none ↦ Accepted (countsOf file) ]) ≡ Refused fault) ↔ RefusedWith file fault
       go none x = (
         λ e. (let z : _≡_ {A = ℕ} 0 1 = cc in absurd (omega arith)),
         λ w. absurd (Option·none-ne-some fault (x .wrong-some fault w)),

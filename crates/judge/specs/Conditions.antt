@@ -25,7 +25,7 @@ pub record KeptKey (certificate : Certificate) (good : Term Variable) : Type 0 w
   pub kept : Secret certificate (atom (inverse certificate key))
 
 -- A certificate that meets them all.
-pub record Meets (certificate : Certificate) : Type 0 where
+pub record MeetsAll (certificate : Certificate) : Type 0 where
   -- By layout: foreign atoms are in no file.
   pub notForeign : (a : ℕ) → Secret certificate (atom a) → Foreign a → ⊥
   -- 9: no secret is a known atom.

@@ -237,6 +237,6 @@ pub record Repeats (part : List ℕ → List ℕ) (file : List ℕ) (i : ℕ) : 
   pub same : part (blockAt file (i - 1)) ≡ part (blockAt file i)
 
 -- What is remembered before block i is judged: it is about a part of the block before it, if that is a rule.
-pub record Before (part : List ℕ → List ℕ) (P : Term Variable → Type 0) (file : List ℕ) (i : ℕ) (memo : List ℕ) : Type 0 where
+pub record Carried (part : List ℕ → List ℕ) (P : Term Variable → Type 0) (file : List ℕ) (i : ℕ) (memo : List ℕ) : Type 0 where
   pub long : length memo ≡ 64
   pub known : AfterRule file i → Remembered P (part (blockAt file (i - 1))) memo

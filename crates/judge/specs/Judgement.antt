@@ -7,8 +7,8 @@ use Rattle.blocks.specs.Block.{blockAt, kindOf, firstEntries, secondEntries, Fi
 use Rattle.terms.specs.Each.{Each}
 use Rattle.terms.specs.OneTerm.{HasSymbol}
 use Rattle.judge.specs.declared.verdict.Fault.{Fault}
-use Rattle.judge.specs.declared.layout.Judged.{Judged}
-use Rattle.judge.specs.declared.layout.Judged.the-variants.{Fine, Faulty}
+use Rattle.judge.specs.declared.form.Judged.{Judged}
+use Rattle.judge.specs.declared.form.Judged.the-variants.{Fine, Faulty}
 use Rattle.judge.specs.Certificate.{Rule}
 use Rattle.judge.specs.File.{blockCount, certificateOf}
 use Rattle.judge.specs.Laid.{Laid}

@@ -165,6 +165,6 @@ abbrev pub faultFound : (ℕ → Fault) → Found → Option Fault
 faultFound fault (At i) = some (fault i)
 faultFound fault Nothing = none
 
-abbrev pub Inside : ℕ → Found → Type 0
-Inside count (At i) = i < count
-Inside count Nothing = Unit {0}
+abbrev pub FoundBelow : ℕ → Found → Type 0
+FoundBelow count (At i) = i < count
+FoundBelow count Nothing = Unit {0}

@@ -41,15 +41,15 @@ pub record Shaped (file : List ℕ) (i : ℕ) : Type 0 where
   pub layout : LayoutRight (blockAt file i)
 
 -- 6: atom entry n of a block is right.
-abbrev pub AtomIs : List ℕ → ℕ → Type 0
-AtomIs b n = AtomRight (atomsOf (firstEntries b)) n
+abbrev pub AtomEntryRight : List ℕ → ℕ → Type 0
+AtomEntryRight b n = AtomRight (atomsOf (firstEntries b)) n
 
 -- 7: entry n of a block is right. Premise and conclusion are counted together.
-abbrev pub TermEntryIs : List Atom → List ℕ → ℕ → Type 0
-TermEntryIs atoms b n = EntryIs (EntryRight atoms (kindOf b)) (usedEntries b) n
+abbrev pub TermEntryRight : List Atom → List ℕ → ℕ → Type 0
+TermEntryRight atoms b n = EntryIs (EntryRight atoms (kindOf b)) (usedEntries b) n
 
 abbrev pub EntriesRight : List Atom → List ℕ → Type 0
-EntriesRight atoms b = (n : ℕ) → n < firstCount b + secondCount b → TermEntryIs atoms b n
+EntriesRight atoms b = (n : ℕ) → n < firstCount b + secondCount b → TermEntryRight atoms b n
 
 -- 8: the entries are exactly one term, and a pattern's root is an encryption.
 pub record PatternRight (b : List ℕ) : Type 0 where
@@ -63,7 +63,7 @@ PremiseRight b = (firstCount b ≡ 0 → ⊥) → OneTerm (firstEntries b)
 -- Numbers 2, 3, 5, 6, 7 and 8 find nothing at block i.
 pub record BlockRight (file : List ℕ) (i : ℕ) : Type 0 where
   pub shaped : Shaped file i
-  pub atoms : kindOf (blockAt file i) ≡ 1 → (n : ℕ) → n < firstCount (blockAt file i) → AtomIs (blockAt file i) n
+  pub atoms : kindOf (blockAt file i) ≡ 1 → (n : ℕ) → n < firstCount (blockAt file i) → AtomEntryRight (blockAt file i) n
   pub entries : 2 ≤ kindOf (blockAt file i) → EntriesRight (fileAtoms file) (blockAt file i)
   pub pattern : 2 ≤ kindOf (blockAt file i) → kindOf (blockAt file i) ≤ 4 → PatternRight (blockAt file i)
   pub premise : kindOf (blockAt file i) ≡ 5 → PremiseRight (blockAt file i)
@@ -80,12 +80,12 @@ pub data BlockFaulty (file : List ℕ) (i : ℕ) (fault : Fault) : Type 0 where
       → BlockFaulty file i fault
   -- 6
   atomFails : {n : ℕ} → fault ≡ AtomEntry i n → Shaped file i → kindOf (blockAt file i) ≡ 1
-      → n < firstCount (blockAt file i) → ¬ AtomIs (blockAt file i) n
-      → ((k : ℕ) → k < n → AtomIs (blockAt file i) k) → BlockFaulty file i fault
+      → n < firstCount (blockAt file i) → ¬ AtomEntryRight (blockAt file i) n
+      → ((k : ℕ) → k < n → AtomEntryRight (blockAt file i) k) → BlockFaulty file i fault
   -- 7
   entryFails : {n : ℕ} → fault ≡ TermEntry i n → Shaped file i → 2 ≤ kindOf (blockAt file i)
-      → n < firstCount (blockAt file i) + secondCount (blockAt file i) → ¬ TermEntryIs (fileAtoms file) (blockAt file i) n
-      → ((k : ℕ) → k < n → TermEntryIs (fileAtoms file) (blockAt file i) k) → BlockFaulty file i fault
+      → n < firstCount (blockAt file i) + secondCount (blockAt file i) → ¬ TermEntryRight (fileAtoms file) (blockAt file i) n
+      → ((k : ℕ) → k < n → TermEntryRight (fileAtoms file) (blockAt file i) k) → BlockFaulty file i fault
   -- 8
   patternFails : fault ≡ NotOneTerm i 0 → Shaped file i → 2 ≤ kindOf (blockAt file i) → kindOf (blockAt file i) ≤ 4
       → EntriesRight (fileAtoms file) (blockAt file i) → ¬ PatternRight (blockAt file i) → BlockFaulty file i fault
@@ -109,22 +109,22 @@ pub record Formed (file : List ℕ) : Type 0 where
   pub rule : HasKind 5 file
 
 -- P of the blocks of this kind before block n, and of all of them.
-abbrev pub Before : ℕ → ℕ → List ℕ → (List ℕ → Type 0) → Type 0
-Before n kind file P = (i : ℕ) → i < n → kindOf (blockAt file i) ≡ kind → P (blockAt file i)
+abbrev pub EveryBefore : ℕ → ℕ → List ℕ → (List ℕ → Type 0) → Type 0
+EveryBefore n kind file P = (i : ℕ) → i < n → kindOf (blockAt file i) ≡ kind → P (blockAt file i)
 
 abbrev pub Every : ℕ → List ℕ → (List ℕ → Type 0) → Type 0
-Every kind file P = Before (blockCount file) kind file P
+Every kind file P = EveryBefore (blockCount file) kind file P
 
 -- What 9, 10, 11 and 12 ask of a block: its secret is no known atom, and is weakly closed; of its good pattern, the
 -- inverse of the root key is a listed secret; its rule passes.
-abbrev pub Unknown : Certificate → List ℕ → Type 0
-Unknown certificate b = ¬ KnownAtom certificate (secretOf b)
+abbrev pub SecretNotKnown : Certificate → List ℕ → Type 0
+SecretNotKnown certificate b = ¬ KnownAtom certificate (secretOf b)
 
-abbrev pub Closed : Certificate → List ℕ → Type 0
-Closed certificate b = WeaklyClosed certificate (secretOf b)
+abbrev pub SecretClosed : Certificate → List ℕ → Type 0
+SecretClosed certificate b = WeaklyClosed certificate (secretOf b)
 
-abbrev pub Kept : Certificate → List ℕ → Type 0
-Kept certificate b = KeptKey certificate (patternOf b)
+abbrev pub RootKeyKept : Certificate → List ℕ → Type 0
+RootKeyKept certificate b = KeptKey certificate (patternOf b)
 
 abbrev pub Passing : Certificate → List ℕ → Type 0
 Passing certificate b = Passes certificate (ruleOf b)
@@ -141,9 +141,9 @@ pub record FirstUncovered (certificate : Certificate) (rule : Rule) (k : ℕ) : 
 -- Accepted: every condition of document 01 holds.
 pub record Accepts (file : List ℕ) : Type 0 where
   pub formed : Formed file
-  pub unknown : Every 2 file (Unknown (certificateOf file))
-  pub closed : Every 2 file (Closed (certificateOf file))
-  pub kept : Every 3 file (Kept (certificateOf file))
+  pub unknown : Every 2 file (SecretNotKnown (certificateOf file))
+  pub closed : Every 2 file (SecretClosed (certificateOf file))
+  pub kept : Every 3 file (RootKeyKept (certificateOf file))
   pub passing : Every 5 file (Passing (certificateOf file))
 
 -- Block i is of this kind, P fails there, and holds of the blocks of this kind before it.
@@ -151,29 +151,29 @@ pub record FirstAt (i kind : ℕ) (file : List ℕ) (P : List ℕ → Type 0) : 
   pub inside : i < blockCount file
   pub is : kindOf (blockAt file i) ≡ kind
   pub fails : ¬ P (blockAt file i)
-  pub before : Before i kind file P
+  pub before : EveryBefore i kind file P
 
 -- Refused: the condition fails, and all that document 01's order puts before it holds.
-pub data Faulty (file : List ℕ) (fault : Fault) : Type 0 where
+pub data RefusedWith (file : List ℕ) (fault : Fault) : Type 0 where
   -- 1
-  lengthFails : fault ≡ Length → ¬ LengthRight file → Faulty file fault
+  lengthFails : fault ≡ Length → ¬ LengthRight file → RefusedWith file fault
   -- 2, 3, 5, 6, 7, 8
   blockFails : {i : ℕ} → LengthRight file → i < blockCount file → ((j : ℕ) → j < i → BlockRight file j)
-      → BlockFaulty file i fault → Faulty file fault
+      → BlockFaulty file i fault → RefusedWith file fault
   -- 4
   missing : fault ≡ Missing (blockCount file) → LengthRight file → ((i : ℕ) → i < blockCount file → BlockRight file i)
-      → ¬ (HasKind 2 file × HasKind 5 file) → Faulty file fault
+      → ¬ (HasKind 2 file × HasKind 5 file) → RefusedWith file fault
   -- 9
-  secretKnown : {i : ℕ} → fault ≡ KnownSecret i → Formed file → FirstAt i 2 file (Unknown (certificateOf file))
-      → KnownAtom (certificateOf file) (secretOf (blockAt file i)) → Faulty file fault
+  secretKnown : {i : ℕ} → fault ≡ KnownSecret i → Formed file → FirstAt i 2 file (SecretNotKnown (certificateOf file))
+      → KnownAtom (certificateOf file) (secretOf (blockAt file i)) → RefusedWith file fault
   -- 10
-  secretNotClosed : {i : ℕ} → fault ≡ NotClosed i → Formed file → Every 2 file (Unknown (certificateOf file))
-      → FirstAt i 2 file (Closed (certificateOf file)) → Faulty file fault
+  secretNotClosed : {i : ℕ} → fault ≡ NotClosed i → Formed file → Every 2 file (SecretNotKnown (certificateOf file))
+      → FirstAt i 2 file (SecretClosed (certificateOf file)) → RefusedWith file fault
   -- 11
-  keyNotKept : {i : ℕ} → fault ≡ KeyNotKept i → Formed file → Every 2 file (Unknown (certificateOf file))
-      → Every 2 file (Closed (certificateOf file)) → FirstAt i 3 file (Kept (certificateOf file)) → Faulty file fault
+  keyNotKept : {i : ℕ} → fault ≡ KeyNotKept i → Formed file → Every 2 file (SecretNotKnown (certificateOf file))
+      → Every 2 file (SecretClosed (certificateOf file)) → FirstAt i 3 file (RootKeyKept (certificateOf file)) → RefusedWith file fault
   -- 12: the place is the entry's number in the block.
   placeUncovered : {i k : ℕ} → fault ≡ Uncovered i (firstCount (blockAt file i) + k) → Formed file
-      → Every 2 file (Unknown (certificateOf file)) → Every 2 file (Closed (certificateOf file))
-      → Every 3 file (Kept (certificateOf file)) → FirstAt i 5 file (Passing (certificateOf file))
-      → FirstUncovered (certificateOf file) (ruleOf (blockAt file i)) k → Faulty file fault
+      → Every 2 file (SecretNotKnown (certificateOf file)) → Every 2 file (SecretClosed (certificateOf file))
+      → Every 3 file (RootKeyKept (certificateOf file)) → FirstAt i 5 file (Passing (certificateOf file))
+      → FirstUncovered (certificateOf file) (ruleOf (blockAt file i)) k → RefusedWith file fault

@@ -107,11 +107,11 @@ unfoldable pub firstFault : (ℕ → Option Fault) → ℕ → ℕ → Option Fa
 firstFault judged i zero = none
 firstFault judged i (suc left) = elim (judged i) [ some f ↦ some f | none ↦ firstFault judged (suc i) left ]
 
-unfoldable pub layoutFrom : List ℕ → ℕ → ℕ → Option Fault
-layoutFrom file i left = firstFault (blockFault file) i left
+unfoldable pub formFrom : List ℕ → ℕ → ℕ → Option Fault
+formFrom file i left = firstFault (blockFault file) i left
 
-unfoldable pub layoutFault : List ℕ → Option Fault
-layoutFault file = layoutFrom file 0 (blockCount file)
+unfoldable pub formFault : List ℕ → Option Fault
+formFault file = formFrom file 0 (blockCount file)
 
 -- ---- number 4
 
@@ -189,7 +189,7 @@ certificateFault certificate file = elim (knownFault certificate file) [
 unfoldable pub faultOf : List ℕ → Option Fault
 faultOf file = elim (lengthFault file) [
   | some f ↦ some f
-  | none ↦ elim (layoutFault file) [
+  | none ↦ elim (formFault file) [
     | some f ↦ some f
     | none ↦ elim (missingFault file) [
       | some f ↦ some f
@@ -204,7 +204,7 @@ verdictOf file = elim (faultOf file) [ some f ↦ Refused f | none ↦ Accepted 
 
 -- The same, for theorems by computation: `unfolding computing` opens all that the verdict of a whole file asks.
 unfoldable pub computing : List ℕ → Verdict
-unfolding verdictOf faultOf countsOf lengthFault lengthRight layoutFault layoutFrom missingFault certificateFault
+unfolding verdictOf faultOf countsOf lengthFault lengthRight formFault formFrom missingFault certificateFault
     knownFault closedFault keyFault ruleFault kindFault onKind firstFault knownSecret unclosedSecret unkeptKey uncoveredRule
     uncovered fine? spotAt blockFault kindRight fileAtoms usedEntries entriesFault atomFault entryFault termFault
     patternFault rulePartsFault conclusionFault rootRight kindCount

@@ -8,14 +8,14 @@ ghost use Rattle.judge.specs.Laid.{Laid};
 ghost use Rattle.judge.specs.Judgement.{judgedOf, OnlyRulesFrom, Heads};
 ghost use Rattle.judge.specs.Cover.{NoHat};
 ghost use Rattle.judge.specs.Listed.{RootsOf, SharesBad, SizesIn};
-ghost use Rattle.judge.specs.CoverEntries.{AfterRule, Before, Repeats};
+ghost use Rattle.judge.specs.CoverEntries.{AfterRule, Carried, Repeats};
 ghost use Rattle.judge.specs.Verdict as verdicts;
 ghost use Rattle.judge.specs.Verdict.{onKind, uncoveredRule, ruleFault, certificateFault, faultOf, verdictOf};
 ghost use Rattle.judge.specs.Values.{verdictValues, judgingValues};
 use crate::cover;
 use crate::flag;
-use crate::layout;
-use crate::layout::Judged;
+use crate::form;
+use crate::form::Judged;
 use crate::listed;
 use crate::verdict::Fault;
 use crate::verdict::Verdict;
@@ -102,12 +102,12 @@ fn uncovered_in(
     i: usize,
 ) -> Found
     requires { ⌜ Laid (now file) × (i < blockCount (now file)) × (kindOf (blockAt (now file) i) ≡ 5) × Laid (now head) × RootsOf (now head) (now roots)
-        × Before firstEntries (NoHat (certificateOf (now head))) (now file) i (now above)
-        × Before secondEntries (SharesBad (certificateOf (now head))) (now file) i (now shared)
+        × Carried firstEntries (NoHat (certificateOf (now head))) (now file) i (now above)
+        × Carried secondEntries (SharesBad (certificateOf (now head))) (now file) i (now shared)
         × SizesIn (now head) (now sizes) ⌝ }
     ensures answer { λ r. ⌜ r ≡ verdicts.uncovered (certificateOf (now (head .entry))) (ruleOf (blockAt (now (file .entry)) i)) ⌝ }
-    ensures premise { λ _. ⌜ Before firstEntries (NoHat (certificateOf (now (head .entry)))) (now (file .entry)) (i + 1) (now (above .exit)) ⌝ }
-    ensures conclusion { λ _. ⌜ Before secondEntries (SharesBad (certificateOf (now (head .entry)))) (now (file .entry)) (i + 1) (now (shared .exit)) ⌝ }
+    ensures premise { λ _. ⌜ Carried firstEntries (NoHat (certificateOf (now (head .entry)))) (now (file .entry)) (i + 1) (now (above .exit)) ⌝ }
+    ensures conclusion { λ _. ⌜ Carried secondEntries (SharesBad (certificateOf (now (head .entry)))) (now (file .entry)) (i + 1) (now (shared .exit)) ⌝ }
 {
     flag::renew(above, repeats_premise(file, i));
     flag::renew(shared, repeats_conclusion(file, i));
@@ -125,12 +125,12 @@ fn uncovered_at(
     i: usize,
 ) -> Judged
     requires { ⌜ Laid (now file) × (i < blockCount (now file)) × Heads (now head) (now file) × RootsOf (now head) (now roots)
-        × Before firstEntries (NoHat (certificateOf (now head))) (now file) i (now above)
-        × Before secondEntries (SharesBad (certificateOf (now head))) (now file) i (now shared)
+        × Carried firstEntries (NoHat (certificateOf (now head))) (now file) i (now above)
+        × Carried secondEntries (SharesBad (certificateOf (now head))) (now file) i (now shared)
         × SizesIn (now head) (now sizes) ⌝ }
     ensures answer { λ r. ⌜ r ≡ judgedOf (onKind 5 (uncoveredRule (certificateOf (now (file .entry)))) (now (file .entry)) i) ⌝ }
-    ensures premise { λ _. ⌜ Before firstEntries (NoHat (certificateOf (now (head .entry)))) (now (file .entry)) (i + 1) (now (above .exit)) ⌝ }
-    ensures conclusion { λ _. ⌜ Before secondEntries (SharesBad (certificateOf (now (head .entry)))) (now (file .entry)) (i + 1) (now (shared .exit)) ⌝ }
+    ensures premise { λ _. ⌜ Carried firstEntries (NoHat (certificateOf (now (head .entry)))) (now (file .entry)) (i + 1) (now (above .exit)) ⌝ }
+    ensures conclusion { λ _. ⌜ Carried secondEntries (SharesBad (certificateOf (now (head .entry)))) (now (file .entry)) (i + 1) (now (shared .exit)) ⌝ }
 {
     let block = blocks::block(file, i);
     if blocks::kind(block) != 5 {
@@ -188,13 +188,13 @@ fn certificate_fault(file: &[u8]) -> Judged
 fn first_fault(file: &[u8]) -> Judged
     ensures { λ r. ⌜ r ≡ judgedOf (faultOf (now (file .entry))) ⌝ }
 {
-    if !layout::length_right(file) {
+    if !form::length_right(file) {
         return Judged::Faulty(Fault::Length);
     }
-    if let Judged::Faulty(f) = layout::layout_fault(file) {
+    if let Judged::Faulty(f) = form::form_fault(file) {
         return Judged::Faulty(f);
     }
-    if let Judged::Faulty(f) = layout::missing_fault(file) {
+    if let Judged::Faulty(f) = form::missing_fault(file) {
         return Judged::Faulty(f);
     }
     certificate_fault(file)
@@ -207,6 +207,6 @@ pub fn judge(file: &[u8]) -> Verdict
 {
     match first_fault(file) {
         Judged::Faulty(f) => Verdict::Refused(f),
-        Judged::Fine => Verdict::Accepted(layout::counts(file)),
+        Judged::Fine => Verdict::Accepted(form::counts(file)),
     }
 }

@@ -17,7 +17,7 @@ ghost use Rattle.judge.specs.File.{blockCount, certificateOf};
 ghost use Rattle.judge.specs.Laid.{Laid, TermBlock};
 ghost use Rattle.judge.specs.Conditions.{KnownAtom, WeaklyClosed, KeptKey};
 ghost use Rattle.judge.specs.Verdict.{onKind, knownSecret, unclosedSecret, unkeptKey, knownFault, closedFault, keyFault};
-ghost use Rattle.judge.specs.Listed.{HoldsAt, Searching, TermPart, matches-listed?, shares-listed?, is-secret?, faultIf, faultFound, Inside};
+ghost use Rattle.judge.specs.Listed.{HoldsAt, Searching, TermPart, matches-listed?, shares-listed?, is-secret?, faultIf, faultFound, FoundBelow};
 ghost use Rattle.judge.specs.Listed.{slotAt, FlaggedMore, RootsOf, NoRoot, ListsTerm, SizesBelow, SizesIn, SizeOf};
 ghost use Rattle.judge.specs.declared.verdict.Fault.the-variants.{KnownSecret, NotClosed, KeyNotKept};
 use terms::entry;
@@ -344,7 +344,7 @@ fn known_at(file: &[u8], i: usize) -> bool
 pub fn known_secret(file: &[u8]) -> Found
     requires { ⌜ Laid (now file) ⌝ }
     ensures fault { λ r. ⌜ faultFound KnownSecret r ≡ knownFault (certificateOf (now (file .entry))) (now (file .entry)) ⌝ }
-    ensures inside { λ r. ⌜ Inside (blockCount (now (file .entry))) r ⌝ }
+    ensures inside { λ r. ⌜ FoundBelow (blockCount (now (file .entry))) r ⌝ }
 {
     let count = file.len() / 512;
     let mut i = 0;
@@ -395,7 +395,7 @@ fn unclosed_at(file: &[u8], i: usize) -> bool
 pub fn not_closed(file: &[u8]) -> Found
     requires { ⌜ Laid (now file) ⌝ }
     ensures fault { λ r. ⌜ faultFound NotClosed r ≡ closedFault (certificateOf (now (file .entry))) (now (file .entry)) ⌝ }
-    ensures inside { λ r. ⌜ Inside (blockCount (now (file .entry))) r ⌝ }
+    ensures inside { λ r. ⌜ FoundBelow (blockCount (now (file .entry))) r ⌝ }
 {
     let count = file.len() / 512;
     let mut i = 0;
@@ -445,7 +445,7 @@ fn unkept_at(file: &[u8], i: usize) -> bool
 pub fn key_not_kept(file: &[u8]) -> Found
     requires { ⌜ Laid (now file) ⌝ }
     ensures fault { λ r. ⌜ faultFound KeyNotKept r ≡ keyFault (certificateOf (now (file .entry))) (now (file .entry)) ⌝ }
-    ensures inside { λ r. ⌜ Inside (blockCount (now (file .entry))) r ⌝ }
+    ensures inside { λ r. ⌜ FoundBelow (blockCount (now (file .entry))) r ⌝ }
 {
     let count = file.len() / 512;
     let mut i = 0;

@@ -29,8 +29,8 @@ atomsOf (kind ∷ known ∷ low ∷ high ∷ rest) = record { kind = kind; known
 unfoldable pub atomAt : List Atom → ℕ → Atom
 atomAt atoms n = getD atoms n (record { kind = 0; known = 0; partner = 0 })
 
-abbrev pub kindOf : List Atom → ℕ → ℕ
-kindOf atoms n = atomAt atoms n .kind
+abbrev pub atomKind : List Atom → ℕ → ℕ
+atomKind atoms n = atomAt atoms n .kind
 
 abbrev pub knownOf : List Atom → ℕ → ℕ
 knownOf atoms n = atomAt atoms n .known
@@ -40,25 +40,25 @@ partnerOf atoms n = atomAt atoms n .partner
 
 -- A key: public, private or symmetric.
 pub data IsKey (atoms : List Atom) (n : ℕ) : Type 0 where
-  isPublic : kindOf atoms n ≡ 3 → IsKey atoms n
-  isPrivate : kindOf atoms n ≡ 4 → IsKey atoms n
-  isSymmetric : kindOf atoms n ≡ 5 → IsKey atoms n
+  isPublic : atomKind atoms n ≡ 3 → IsKey atoms n
+  isPrivate : atomKind atoms n ≡ 4 → IsKey atoms n
+  isSymmetric : atomKind atoms n ≡ 5 → IsKey atoms n
 
 -- That is, a kind from 3 to 5.
-pub key-kind : {atoms : List Atom} {n : ℕ} → IsKey atoms n → (3 ≤ kindOf atoms n) × (kindOf atoms n ≤ 5)
+pub key-kind : {atoms : List Atom} {n : ℕ} → IsKey atoms n → (3 ≤ atomKind atoms n) × (atomKind atoms n ≤ 5)
 key-kind (isPublic e) = (omega arith, omega arith)
 key-kind (isPrivate e) = (omega arith, omega arith)
 key-kind (isSymmetric e) = (omega arith, omega arith)
 
-pub kind-key : {atoms : List Atom} {n : ℕ} → 3 ≤ kindOf atoms n → kindOf atoms n ≤ 5 → IsKey atoms n
-kind-key {atoms} {n} low high = elim (ℕ-discrete (kindOf atoms n) 3) [
+pub kind-key : {atoms : List Atom} {n : ℕ} → 3 ≤ atomKind atoms n → atomKind atoms n ≤ 5 → IsKey atoms n
+kind-key {atoms} {n} low high = elim (ℕ-discrete (atomKind atoms n) 3) [
   | yes p ↦ isPublic p
-  | no p ↦ elim (ℕ-discrete (kindOf atoms n) 4) [ yes q ↦ isPrivate q | no q ↦ isSymmetric (omega arith) ]
+  | no p ↦ elim (ℕ-discrete (atomKind atoms n) 4) [ yes q ↦ isPrivate q | no q ↦ isSymmetric (omega arith) ]
 ]
 
 unfoldable pub isKey? : (atoms : List Atom) (n : ℕ) → Dec (IsKey atoms n)
 unfolding atomAt decLe dec-map dec-and
-isKey? atoms n = dec-map (λ h. kind-key (h .0) (h .1)) key-kind (dec-and (decLe 3 (kindOf atoms n)) (λ l. decLe (kindOf atoms n) 5))
+isKey? atoms n = dec-map (λ h. kind-key (h .0) (h .1)) key-kind (dec-and (decLe 3 (atomKind atoms n)) (λ l. decLe (atomKind atoms n) 5))
 
 -- A key is listed.
 pub key-listed : {atoms : List Atom} {n : ℕ} → IsKey atoms n → n < length atoms
@@ -68,23 +68,23 @@ key-listed {atoms} {n} k = elim (decLt n (length atoms)) [
   | no ge ↦ absurd (away (ap (λ (a : Atom). a .kind) (List·getD-eq-default atoms _ (omega arith))))
 ]
   where
-    away : kindOf atoms n ≡ 0 → ⊥
+    away : atomKind atoms n ≡ 0 → ⊥
     away z = let b = key-kind k in omega arith
 
 -- A public and a private key name each other: the partner is an entry of the other kind whose partner field is this
 -- entry's number. Of the partner's entry only its kind and its partner field count.
 pub record NamedBack (atoms : List Atom) (n other : ℕ) : Type 0 where
   pub there : partnerOf atoms n < length atoms
-  pub kind : kindOf atoms (partnerOf atoms n) ≡ other
+  pub kind : atomKind atoms (partnerOf atoms n) ≡ other
   pub back : partnerOf atoms (partnerOf atoms n) ≡ n
 
 -- Partner: zero for kinds 1 and 2; a public and a private key name each other; a symmetric key names itself.
 pub data PartnerRight (atoms : List Atom) (n : ℕ) : Type 0 where
-  principal : kindOf atoms n ≡ 1 → partnerOf atoms n ≡ 0 → PartnerRight atoms n
-  nonce : kindOf atoms n ≡ 2 → partnerOf atoms n ≡ 0 → PartnerRight atoms n
-  publicKey : kindOf atoms n ≡ 3 → NamedBack atoms n 4 → PartnerRight atoms n
-  privateKey : kindOf atoms n ≡ 4 → NamedBack atoms n 3 → PartnerRight atoms n
-  symmetricKey : kindOf atoms n ≡ 5 → partnerOf atoms n ≡ n → PartnerRight atoms n
+  principal : atomKind atoms n ≡ 1 → partnerOf atoms n ≡ 0 → PartnerRight atoms n
+  nonce : atomKind atoms n ≡ 2 → partnerOf atoms n ≡ 0 → PartnerRight atoms n
+  publicKey : atomKind atoms n ≡ 3 → NamedBack atoms n 4 → PartnerRight atoms n
+  privateKey : atomKind atoms n ≡ 4 → NamedBack atoms n 3 → PartnerRight atoms n
+  symmetricKey : atomKind atoms n ≡ 5 → partnerOf atoms n ≡ n → PartnerRight atoms n
 
 -- Number 6: the atom entry is right: known is 0 or 1, and the kind, one of 1 to 5, has the partner that it asks for.
 pub record AtomRight (atoms : List Atom) (n : ℕ) : Type 0 where
@@ -103,7 +103,7 @@ module _ (atoms : List Atom) (n : ℕ) where
   Wanted (suc (suc (suc (suc (suc zero))))) = partnerOf atoms n ≡ n
   Wanted (suc (suc (suc (suc (suc (suc k)))))) = ⊥
 
-  pub partner-wanted : PartnerRight atoms n → Wanted (kindOf atoms n)
+  pub partner-wanted : PartnerRight atoms n → Wanted (atomKind atoms n)
   unfolding Wanted
   partner-wanted (principal k p) = rw k p
   partner-wanted (nonce k p) = rw k p
@@ -111,7 +111,7 @@ module _ (atoms : List Atom) (n : ℕ) where
   partner-wanted (privateKey k p) = rw k p
   partner-wanted (symmetricKey k p) = rw k p
 
-  pub partner-right : (k : ℕ) → kindOf atoms n ≡ k → Wanted k → PartnerRight atoms n
+  pub partner-right : (k : ℕ) → atomKind atoms n ≡ k → Wanted k → PartnerRight atoms n
   unfolding Wanted
   partner-right zero e w = absurd w
   partner-right (suc zero) e w = principal e w
@@ -125,7 +125,7 @@ module _ (atoms : List Atom) (n : ℕ) where
   unfolding atomAt ℕ-discrete decLt dec-map dec-and
   namedBack? other = dec-map (λ h. record { there = h .0; kind = h .1 .0; back = h .1 .1 }) (λ r. (r .there, (r .kind, r .back)))
       (dec-and (decLt (partnerOf atoms n) (length atoms))
-      (λ l. dec-and (ℕ-discrete (kindOf atoms (partnerOf atoms n)) other) (λ k. ℕ-discrete (partnerOf atoms (partnerOf atoms n)) n)))
+      (λ l. dec-and (ℕ-discrete (atomKind atoms (partnerOf atoms n)) other) (λ k. ℕ-discrete (partnerOf atoms (partnerOf atoms n)) n)))
 
   wanted? : (k : ℕ) → Dec (Wanted k)
   unfolding Wanted namedBack? ℕ-discrete atomAt
@@ -140,8 +140,8 @@ module _ (atoms : List Atom) (n : ℕ) where
   -- Is the atom entry right?
   unfoldable pub atomRight? : Dec (AtomRight atoms n)
   unfolding atomAt wanted? decLe dec-map dec-and
-  atomRight? = dec-map (λ h. record { known = h .0; partner = partner-right (kindOf atoms n) refl (h .1) }) (λ r. (r .known, partner-wanted (r .partner)))
-      (dec-and (decLe (knownOf atoms n) 1) (λ l. wanted? (kindOf atoms n)))
+  atomRight? = dec-map (λ h. record { known = h .0; partner = partner-right (atomKind atoms n) refl (h .1) }) (λ r. (r .known, partner-wanted (r .partner)))
+      (dec-and (decLe (knownOf atoms n) 1) (λ l. wanted? (atomKind atoms n)))
 
 -- The first atom entry that is not right.
 unfoldable pub wrongAtom : List Atom → Found

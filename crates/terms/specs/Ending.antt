@@ -13,7 +13,7 @@ use Rattle.terms.specs.Term.{Message}
 use Rattle.terms.specs.Entry.{size}
 use Rattle.terms.specs.Graph.{IsSymbol, Child, Valid, Respects, Finite, finite}
 use Rattle.terms.specs.GraphLaws.{falls, child-symbol}
-use Rattle.terms.specs.TermGraph.{TwoTerms, Inside, AtHome, HasChild, nodeTag, nodeBy, nodeOf, firstChild, secondChild, nodeValue}
+use Rattle.terms.specs.TermGraph.{TwoTerms, OwnEntry, AtHome, HasChild, nodeTag, nodeBy, nodeOf, firstChild, secondChild, nodeValue}
 use Rattle.terms.specs.TermGraphLaws.{past-free, home-symbol, symbol-inside}
 use Rattle.terms.specs.UniteLaws.{node-by}
 use Rattle.terms.specs.Names.{nameOf, Linked, name-named, name-home}
@@ -50,7 +50,7 @@ zeros [] = 0
 zeros (x ∷ m) = unmarked x + zeros m
 
 -- The marks n after a walk that began with the marks m: sound, no more zeros, and no mark 1 that was none before.
-pub record Kept (s t c m n : List ℕ) : Type 0 where
+pub record MarksKept (s t c m n : List ℕ) : Type 0 where
   pub sound : Sound s t c n
   pub fewer : zeros n ≤ zeros m
   pub open-before : (a : ℕ) → a < 128 → getD n a 0 ≡ 1 → getD m a 0 ≡ 1
@@ -58,7 +58,7 @@ pub record Kept (s t c m n : List ℕ) : Type 0 where
 -- The answer r of a walk: yes, and what it looked for, P, holds; no, and no valid valuation respects the classes.
 pub record Walked (s t c m n : List ℕ) (P : Type 0) (r : Bool) : Type 0 where
   pub long : length n ≡ 128
-  pub ends : r ≡ true → P × Kept s t c m n
+  pub ends : r ≡ true → P × MarksKept s t c m n
   pub never : r ≡ false → (v : ℕ → Message) → Valid (nodeOf s t) v → Respects (nameOf c) v → ⊥
 
 -- P holds from `low` up to `high`.
@@ -114,11 +114,11 @@ module _ (s t : List ℕ) (i : ℕ) where
 -- ---- answers
 
 -- Yes, with the marks kept.
-pub yes-kept : {s t c m n : List ℕ} {P : Type 0} → length n ≡ 128 → Kept s t c m n → P → Walked s t c m n P true
+pub yes-kept : {s t c m n : List ℕ} {P : Type 0} → length n ≡ 128 → MarksKept s t c m n → P → Walked s t c m n P true
 yes-kept long kept p = record { long = long; ends = λ e. (p, kept); never = λ e. absurd (true≢false e) }
 
 -- Nothing was marked on the way.
-pub kept-same : {s t c m : List ℕ} → Sound s t c m → Kept s t c m m
+pub kept-same : {s t c m : List ℕ} → Sound s t c m → MarksKept s t c m m
 kept-same sound = record { sound = sound; fewer = omega arith; open-before = λ a h q. q }
 
 pub yes-at-once : {s t c m : List ℕ} {P : Type 0} → length m ≡ 128 → Sound s t c m → P → Walked s t c m m P true
@@ -180,7 +180,7 @@ module _ {s t c m : List ℕ} {a : ℕ} (inside : a < length m) where
 
 -- Mark 2 on a, once its children have ended: n are the marks that their walk left.
 module _ {s t c m n : List ℕ} {a : ℕ} (low : a < 128) (inside : a < length m) (unmet : getD m a 0 ≡ 0) (long : length n ≡ 128) where
-  closed-kept : ChildrenEnd s t c a → Kept s t c (set m a 1) n → Kept s t c m (set n a 2)
+  closed-kept : ChildrenEnd s t c a → MarksKept s t c (set m a 1) n → MarksKept s t c m (set n a 2)
   closed-kept all kept = record {
     sound = record {
       ends = λ b h more. elim (ℕ-discrete b a) [ yes e ↦ rw e all | no o ↦ kept .sound .ends b h (rw (getD-set-other n a b 2 0 o) at more) ];
@@ -192,17 +192,17 @@ module _ {s t c m n : List ℕ} {a : ℕ} (low : a < 128) (inside : a < length m
     ];
   }
 
-  pub closed : (i : ℕ) → a ≡ nameOf c i → ChildrenEnd s t c a × Kept s t c (set m a 1) n → Walked s t c m (set n a 2) (Finite (nodeOf s t) (nameOf c) i) true
+  pub closed : (i : ℕ) → a ≡ nameOf c i → ChildrenEnd s t c a × MarksKept s t c (set m a 1) n → Walked s t c m (set n a 2) (Finite (nodeOf s t) (nameOf c) i) true
   closed i is done = yes-kept (rw length-set long) (closed-kept (done .0) (done .1)) (class-ends i is (done .0))
 
 -- ---- at the children of node a
 
 -- After a walk a node is still below.
-pub below-kept : {s t c m n : List ℕ} {i : ℕ} → Kept s t c m n → Below s t c m i → Below s t c n i
+pub below-kept : {s t c m n : List ℕ} {i : ℕ} → MarksKept s t c m n → Below s t c m i → Below s t c n i
 below-kept kept below = record { smaller = λ v valid respects a h one. below .smaller v valid respects a h (kept .open-before a h one) }
 
 -- One walk after another.
-pub kept-both : {s t c m n o : List ℕ} → Kept s t c m n → Kept s t c n o → Kept s t c m o
+pub kept-both : {s t c m n o : List ℕ} → MarksKept s t c m n → MarksKept s t c n o → MarksKept s t c m o
 kept-both first then = record {
   sound = then .sound;
   fewer = let p = first .fewer in let q = then .fewer in omega arith;
@@ -239,7 +239,7 @@ module _ {s t c : List ℕ} {a : ℕ} where
 
   -- The first half has ended; the second half answers for both.
   pub halves-walked : {m n o : List ℕ} {x y : ℕ} {r : Bool} → nodeTag s t a ≡ 2 → x ≡ firstChild s t a → y ≡ secondChild s t a
-      → Finite (nodeOf s t) (nameOf c) x × Kept s t c m n → Walked s t c n o (Finite (nodeOf s t) (nameOf c) y) r → Walked s t c m o (ChildrenEnd s t c a) r
+      → Finite (nodeOf s t) (nameOf c) x × MarksKept s t c m n → Walked s t c n o (Finite (nodeOf s t) (nameOf c) y) r → Walked s t c m o (ChildrenEnd s t c a) r
   halves-walked two is-first is-second first w = record {
     long = w .long;
     ends = λ e. (halves-end two is-first is-second (first .0) (w .ends e .0), kept-both (first .1) (w .ends e .1));
@@ -249,7 +249,7 @@ module _ {s t c : List ℕ} {a : ℕ} where
 -- ---- over all entries
 
 -- An entry with children is at home.
-pub parent-home : {s t : List ℕ} {k : ℕ} → Inside s t k → HasChild s t k → AtHome s t k
+pub parent-home : {s t : List ℕ} {k : ℕ} → OwnEntry s t k → HasChild s t k → AtHome s t k
 unfolding nodeBy
 parent-home {s} {t} {k} there has = record {
   small = omega (arith, there .low);
@@ -273,12 +273,12 @@ module _ (s t c m : List ℕ) (none : (a : ℕ) → a < 128 → getD m a 0 ≡ 0
 
 -- The entries of each side stand at its nodes.
 module _ (s t : List ℕ) (two : TwoTerms s t) where
-  pub left-entries : EachFrom (Inside s t) 0 (length s / 4)
+  pub left-entries : EachFrom (OwnEntry s t) 0 (length s / 4)
   left-entries = record {
     each = λ k h g. record { low = omega (arith, two .left-short); left = λ l. omega arith; right = λ l. absurd (omega (arith, two .left-short)) };
   }
 
-  pub right-entries : EachFrom (Inside s t) 64 (64 + length t / 4)
+  pub right-entries : EachFrom (OwnEntry s t) 64 (64 + length t / 4)
   right-entries = record {
     each = λ k h g. record { low = omega (arith, two .right-short); left = λ l. absurd (omega arith); right = λ l. omega arith };
   }
@@ -286,7 +286,7 @@ module _ (s t : List ℕ) (two : TwoTerms s t) where
 -- A node with children is an entry of one of the terms.
 parent-inside : {s t : List ℕ} → TwoTerms s t → (a j : ℕ) → Child j (nodeOf s t a) → (a < length s / 4) ⊎ ((64 ≤ a) × (a < 64 + length t / 4))
 parent-inside {s} {t} two a j child =
-    let there : Inside s t a = symbol-inside two {i = a} (child-symbol (nodeOf s t a) j child) in
+    let there : OwnEntry s t a = symbol-inside two {i = a} (child-symbol (nodeOf s t a) j child) in
     elim (decLt a 64) [ yes l ↦ inl (omega (arith, there .left l)) | no n ↦ inr (omega arith, omega (arith, there .right (omega arith))) ]
 
 -- Where every way down from the entries ends, every way down does.

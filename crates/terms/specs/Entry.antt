@@ -44,11 +44,11 @@ unfoldable pub entryOf : Symbol → List ℕ
 entryOf s = tagOf s ∷ 0 ∷ valueOf s % 256 ∷ valueOf s / 256 ∷ []
 
 -- The entries of a term: parents before children, left before right.
-unfoldable pub entriesOf : Term Variable → List ℕ
-entriesOf (variable x) = entryOf (variableSymbol x)
-entriesOf (atom a) = entryOf (atomSymbol a)
-entriesOf (pair t u) = entryOf pairSymbol ++ (entriesOf t ++ entriesOf u)
-entriesOf (encrypted k t) = entryOf (encryptionSymbol k) ++ entriesOf t
+unfoldable pub termEntries : Term Variable → List ℕ
+termEntries (variable x) = entryOf (variableSymbol x)
+termEntries (atom a) = entryOf (atomSymbol a)
+termEntries (pair t u) = entryOf pairSymbol ++ (termEntries t ++ termEntries u)
+termEntries (encrypted k t) = entryOf (encryptionSymbol k) ++ termEntries t
 
 -- How many entries a term has.
 unfoldable pub size : {X : Type 0} → Term X → ℕ

@@ -42,7 +42,7 @@ pub record Respects (name : ℕ → ℕ) (v : ℕ → Message) : Type 0 where
   pub same : (i : ℕ) → v i ≡ v (name i)
 
 -- The classes are closed for it if every symbol node makes what its class's name makes.
-pub record Closed (node : ℕ → Node) (name : ℕ → ℕ) (v : ℕ → Message) : Type 0 where
+pub record ClosedFor (node : ℕ → Node) (name : ℕ → ℕ) (v : ℕ → Message) : Type 0 where
   pub makes : (i : ℕ) → IsSymbol (node i) → made v (node i) ≡ made v (node (name i))
 
 -- Names name themselves, and a symbol node's class is named by a symbol node.
@@ -53,12 +53,12 @@ pub record Classes (node : ℕ → Node) (name : ℕ → ℕ) : Type 0 where
 -- A step took the classes `name` to the classes `next`, in which the equations P hold: what respects the old classes
 -- and meets P respects the new ones, and the other way round. Q is what the step may suppose of a valuation to say that
 -- P holds.
-pub record Step (node : ℕ → Node) (Q : (ℕ → Message) → Type 0) (name next : ℕ → ℕ) (P : (ℕ → Message) → Type 0) : Type 0 where
+pub record ClassStep (node : ℕ → Node) (Q : (ℕ → Message) → Type 0) (name next : ℕ → ℕ) (P : (ℕ → Message) → Type 0) : Type 0 where
   pub classes : Classes node next
   pub forth : (v : ℕ → Message) → Valid node v → Respects name v → P v → Respects next v
   pub back : (v : ℕ → Message) → Respects next v → Respects name v
   pub holds : (v : ℕ → Message) → Respects next v → Q v → P v
-  pub closes : (v : ℕ → Message) → Respects next v → Closed node name v → Closed node next v
+  pub closes : (v : ℕ → Message) → Respects next v → ClosedFor node name v → ClosedFor node next v
 
 -- No valid valuation that respects the classes meets P.
 pub record Clash (node : ℕ → Node) (name : ℕ → ℕ) (P : (ℕ → Message) → Type 0) : Type 0 where
@@ -66,7 +66,7 @@ pub record Clash (node : ℕ → Node) (name : ℕ → ℕ) (P : (ℕ → Messag
 
 -- The answer r of a step: yes, and the step was made; no, and there is a clash.
 pub record Outcome (node : ℕ → Node) (Q : (ℕ → Message) → Type 0) (name next : ℕ → ℕ) (P : (ℕ → Message) → Type 0) (r : Bool) : Type 0 where
-  pub stepped : r ≡ true → Step node Q name next P
+  pub stepped : r ≡ true → ClassStep node Q name next P
   pub clashed : r ≡ false → Clash node name P
 
 -- A node from which every way down over the classes ends.

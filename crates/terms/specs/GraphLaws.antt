@@ -8,7 +8,7 @@ use lib.Dec.{eqb}
 use borrow.Author.Tests.{eqb-true, eqb-false, eq-eqb, ne-eqb}
 use Rattle.terms.specs.Term.{Message, atom, pair, encrypted}
 use Rattle.terms.specs.Entry.{size}
-use Rattle.terms.specs.Graph.{Node, free, atomNode, pairNode, encryptionNode, IsSymbol, made, Child, Valid, Respects, Closed, Classes, Step}
+use Rattle.terms.specs.Graph.{Node, free, atomNode, pairNode, encryptionNode, IsSymbol, made, Child, Valid, Respects, ClosedFor, Classes, ClassStep}
 use Rattle.terms.specs.Graph.{Clash, Outcome, Finite, finite}
 
 -- a is renamed to b.
@@ -61,7 +61,7 @@ module _ (node : ℕ → Node) (name : ℕ → ℕ) (cs : Classes node name) (a 
         go i (hit q m) = r .same i ∙ ap v m ∙ sym (merged-joins r) ∙ ap v (sym q)
         go i (miss q m) = r .same i ∙ ap v m
 
-    merged-closed : Closed node name v → (IsSymbol (node a) → made v (node a) ≡ made v (node b)) → Closed node (merge a b name) v
+    merged-closed : ClosedFor node name v → (IsSymbol (node a) → made v (node a) ≡ made v (node b)) → ClosedFor node (merge a b name) v
     merged-closed c e = record { makes = λ i s. go i s (renamed a b (name i)) }
       where
         go : (i : ℕ) → IsSymbol (node i) → Renamed a b (name i) → made v (node i) ≡ made v (node (merge a b name i))
@@ -86,11 +86,11 @@ module _ (node : ℕ → Node) (name : ℕ → ℕ) (cs : Classes node name) (a 
 
 -- Steps one after the other.
 module _ (node : ℕ → Node) (Q : (ℕ → Message) → Type 0) where
-  pub stay : {name : ℕ → ℕ} → Classes node name → Step node Q name name (λ v. Unit {0})
+  pub stay : {name : ℕ → ℕ} → Classes node name → ClassStep node Q name name (λ v. Unit {0})
   stay cs = record { classes = cs; forth = λ v x r q. r; back = λ v r. r; holds = λ v r q. tt; closes = λ v r c. c }
 
   module _ {name mid : ℕ → ℕ} {P : (ℕ → Message) → Type 0} where
-    pub both : {next : ℕ → ℕ} {P′ : (ℕ → Message) → Type 0} → Step node Q name mid P → Step node Q mid next P′ → Step node Q name next (λ v. P v × P′ v)
+    pub both : {next : ℕ → ℕ} {P′ : (ℕ → Message) → Type 0} → ClassStep node Q name mid P → ClassStep node Q mid next P′ → ClassStep node Q name next (λ v. P v × P′ v)
     both s t = record {
       classes = t .classes;
       forth = λ v x r q. t .forth v x (s .forth v x r (q .0)) (q .1);
@@ -99,7 +99,7 @@ module _ (node : ℕ → Node) (Q : (ℕ → Message) → Type 0) where
       closes = λ v r c. t .closes v r (s .closes v (t .back v r) c);
     }
 
-    pub second-clash : {P′ : (ℕ → Message) → Type 0} → Step node Q name mid P → Clash node mid P′ → Clash node name (λ v. P v × P′ v)
+    pub second-clash : {P′ : (ℕ → Message) → Type 0} → ClassStep node Q name mid P → Clash node mid P′ → Clash node name (λ v. P v × P′ v)
     second-clash s t = record { never = λ v x r q. t .never v x (s .forth v x r (q .0)) (q .1) }
 
 pub first-clash : {node : ℕ → Node} {name : ℕ → ℕ} {P P′ : (ℕ → Message) → Type 0} → Clash node name P → Clash node name (λ v. P v × P′ v)
@@ -107,7 +107,7 @@ first-clash t = record { never = λ v x r q. t .never v x r (q .0) }
 
 -- The same step for equations that say the same.
 pub restate : {node : ℕ → Node} {Q : (ℕ → Message) → Type 0} {name next : ℕ → ℕ} {P P′ : (ℕ → Message) → Type 0}
-    → ((v : ℕ → Message) → Valid node v → P′ v → P v) → ((v : ℕ → Message) → Q v → P v → P′ v) → Step node Q name next P → Step node Q name next P′
+    → ((v : ℕ → Message) → Valid node v → P′ v → P v) → ((v : ℕ → Message) → Q v → P v → P′ v) → ClassStep node Q name next P → ClassStep node Q name next P′
 restate to of s = record {
   classes = s .classes;
   forth = λ v x r q. s .forth v x r (to v x q);
@@ -121,7 +121,7 @@ pub restate-clash : {node : ℕ → Node} {name : ℕ → ℕ} {P P′ : (ℕ �
 restate-clash to t = record { never = λ v x r q. t .never v x r (to v x q) }
 
 -- A step made, a clash found.
-pub done : {node : ℕ → Node} {Q : (ℕ → Message) → Type 0} {name next : ℕ → ℕ} {P : (ℕ → Message) → Type 0} → Step node Q name next P
+pub done : {node : ℕ → Node} {Q : (ℕ → Message) → Type 0} {name next : ℕ → ℕ} {P : (ℕ → Message) → Type 0} → ClassStep node Q name next P
     → Outcome node Q name next P true
 done s = record { stepped = λ e. s; clashed = λ e. absurd (true≢false e) }
 
@@ -135,7 +135,7 @@ Any v = Unit {0}
 -- Uniting the classes of i and j.
 module _ (node : ℕ → Node) (name : ℕ → ℕ) (cs : Classes node name) (i j : ℕ) where
   -- ... which are one already.
-  pub already : name i ≡ name j → Step node Any name name (λ v. v i ≡ v j)
+  pub already : name i ≡ name j → ClassStep node Any name name (λ v. v i ≡ v j)
   already e = record { classes = cs; forth = λ v x r q. r; back = λ v r. r; holds = λ v r q. r .same i ∙ ap v e ∙ sym (r .same j); closes = λ v r c. c }
 
   -- The messages of i and j are those of their classes' names.
@@ -146,7 +146,7 @@ module _ (node : ℕ → Node) (name : ℕ → ℕ) (cs : Classes node name) (i 
   -- hold, without which no valid valuation gives the names one message, and with which they make one message.
   pub united : {next : ℕ → ℕ} {P : (ℕ → Message) → Type 0} → ((v : ℕ → Message) → Valid node v → v (name i) ≡ v (name j) → P v)
       → ((v : ℕ → Message) → P v → IsSymbol (node (name i)) → made v (node (name i)) ≡ made v (node (name j)))
-      → Step node Any (merge (name i) (name j) name) next P → Step node Any name next (λ v. v i ≡ v j)
+      → ClassStep node Any (merge (name i) (name j) name) next P → ClassStep node Any name next (λ v. v i ≡ v j)
   united needed enough s = record {
     classes = s .classes;
     forth = λ v x r q. s .forth v x (merged-forth node name cs (name i) (name j) (cs .named i) (cs .named j) v r (of-names r q)) (needed v x (of-names r q));
@@ -232,14 +232,14 @@ module _ (node : ℕ → Node) (name : ℕ → ℕ) where
     value-respects : Respects name value
     value-respects = record { same = λ i. build-same (ends i) (ends (name i)) (sym (cs .named i)) }
 
-    value-valid : Closed node name value → Valid node value
+    value-valid : ClosedFor node name value → Valid node value
     value-valid c = record { makes = λ i s. build-made (ends i) ∙ sym (c .makes i s) }
 
 -- A valuation that respects the classes, and is valid where they are closed.
 pub record Valued (node : ℕ → Node) (name : ℕ → ℕ) : Type 0 where
   pub v : ℕ → Message
   pub respects : Respects name v
-  pub valid : Closed node name v → Valid node v
+  pub valid : ClosedFor node name v → Valid node v
 
 pub valued : {node : ℕ → Node} {name : ℕ → ℕ} → Classes node name → ((i : ℕ) → Finite node name i) → Valued node name
 valued {node} {name} cs ends = record { v = value node name cs ends; respects = value-respects node name cs ends; valid = value-valid node name cs ends }
@@ -274,5 +274,5 @@ moved {node} {Q} {name} {next} {r = r} e f o = subst₂ (λ (a b : ℕ). Outcome
 
 -- The answers of two steps, the first of which was made.
 pub both-answer : {node : ℕ → Node} {Q : (ℕ → Message) → Type 0} {name mid next : ℕ → ℕ} {P P′ : (ℕ → Message) → Type 0} {r : Bool}
-    → Step node Q name mid P → Outcome node Q mid next P′ r → Outcome node Q name next (λ v. P v × P′ v) r
+    → ClassStep node Q name mid P → Outcome node Q mid next P′ r → Outcome node Q name next (λ v. P v × P′ v) r
 both-answer {node} {Q} s o = record { stepped = λ e. both node Q s (o .stepped e); clashed = λ e. second-clash node Q s (o .clashed e) }

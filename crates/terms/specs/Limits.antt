@@ -14,14 +14,14 @@ use Rattle.terms.specs.WalkLaws.{from}
 use Rattle.terms.specs.GraphLaws.{pick}
 use Rattle.terms.specs.Solve.{Says, says-same}
 use Rattle.terms.specs.Decisions.{says-yes, says-no}
-use Rattle.terms.specs.Atom.{Atom, atomsOf, atomAt, kindOf, IsKey, key-kind, kind-key, key-listed, length-atoms}
+use Rattle.terms.specs.Atom.{Atom, atomsOf, atomAt, atomKind, IsKey, key-kind, kind-key, key-listed, length-atoms}
 use Rattle.terms.specs.TermEntry.{EntryRight, Asked, asked, tagRight}
 use Rattle.terms.specs.Each.{EntryIs}
 use Rattle.terms.specs.ValidLaws.{kind-byte}
 
 -- The kind of an atom, 1 to 5; 0 for no atom and for no kind.
 unfoldable pub listedKind : List Atom → ℕ → ℕ
-listedKind atoms n = pick (ltb (kindOf atoms n) 6) (kindOf atoms n) 0
+listedKind atoms n = pick (ltb (atomKind atoms n) 6) (atomKind atoms n) 0
 
 -- How many plain and how many marked variables a block of this kind may have.
 unfoldable pub plainLimit : ℕ → ℕ
@@ -38,7 +38,7 @@ abbrev pub leastKinds : List ℕ
 leastKinds = 0 ∷ 0 ∷ 0 ∷ 3 ∷ 0 ∷ 0 ∷ []
 
 -- The entry that stands first is right by these tables.
-pub record Within (atoms : List Atom) (limits least e : List ℕ) : Type 0 where
+pub record ByTables (atoms : List Atom) (limits least e : List ℕ) : Type 0 where
   pub blank : getD e 1 0 ≡ 0
   pub below : valueAt e < getD limits (tagAt e) 0
   pub kept : getD least (tagAt e) 0 ≤ listedKind atoms (valueAt e)
@@ -47,7 +47,7 @@ pub record Within (atoms : List Atom) (limits least e : List ℕ) : Type 0 where
 module _ (b : List ℕ) (n : ℕ) where
   pub kind-away : length b / 4 ≤ n → 0 ≡ listedKind (atomsOf b) n
   unfolding listedKind atomAt
-  kind-away far = let none-there : kindOf (atomsOf b) n ≡ 0 = ap (λ (a : Atom). a .kind) (List·getD-eq-default (atomsOf b) _ (omega (arith, length-atoms b))) in
+  kind-away far = let none-there : atomKind (atomsOf b) n ≡ 0 = ap (λ (a : Atom). a .kind) (List·getD-eq-default (atomsOf b) _ (omega (arith, length-atoms b))) in
       rw none-there
 
   pub kind-low : n < length b / 4 → getD b (4 * n) 0 < 6 → getD b (4 * n) 0 ≡ listedKind (atomsOf b) n
@@ -80,15 +80,15 @@ module _ {kind : ℕ} where
 module _ (atoms : List Atom) (kind value : ℕ) where
   kind-key-listed : 3 ≤ listedKind atoms value → IsKey atoms value
   unfolding listedKind
-  kind-key-listed = go (ltb (kindOf atoms value) 6) refl
+  kind-key-listed = go (ltb (atomKind atoms value) 6) refl
     where
-      go : (t : Bool) → ltb (kindOf atoms value) 6 ≡ t → 3 ≤ pick t (kindOf atoms value) 0 → IsKey atoms value
-      go true e h = let l = ltb-true (kindOf atoms value) 6 e in kind-key h (omega arith)
+      go : (t : Bool) → ltb (atomKind atoms value) 6 ≡ t → 3 ≤ pick t (atomKind atoms value) 0 → IsKey atoms value
+      go true e h = let l = ltb-true (atomKind atoms value) 6 e in kind-key h (omega arith)
       go false e h = absurd (omega arith)
 
   key-kind-listed : IsKey atoms value → 3 ≤ listedKind atoms value
   unfolding listedKind
-  key-kind-listed k = let b = key-kind k in rw (lt-ltb (kindOf atoms value) 6 (omega arith)) (b .0)
+  key-kind-listed k = let b = key-kind k in rw (lt-ltb (atomKind atoms value) 6 (omega arith)) (b .0)
 
   within-asked : (tag : ℕ) → value < getD (limitsOf kind (length atoms)) tag 0 → getD leastKinds tag 0 ≤ listedKind atoms value
       → Asked atoms kind value tag
@@ -124,8 +124,8 @@ abbrev Right : List ℕ → ℕ → List ℕ → Type 0
 Right b kind e = EntryRight (atomsOf b) kind (tagAt e) (getD e 1 0) (valueAt e)
 
 within-right : (b : List ℕ) (kind : ℕ) (e : List ℕ) {limits : List ℕ} → limits ≡ limitsOf kind (length b / 4)
-    → (r : Bool) → Says r (Within (atomsOf b) limits leastKinds e) → Says r (Right b kind e)
-within-right b kind e {limits} is r says = says-same {P = Within (atomsOf b) limits leastKinds e} r
+    → (r : Bool) → Says r (ByTables (atomsOf b) limits leastKinds e) → Says r (Right b kind e)
+within-right b kind e {limits} is r says = says-same {P = ByTables (atomsOf b) limits leastKinds e} r
     (λ w. record {
       blank = w .blank;
       tagged = tagRight (atomsOf b) kind (valueAt e) (tagAt e) (within-asked (atomsOf b) kind (valueAt e) (tagAt e)
@@ -139,7 +139,7 @@ within-right b kind e {limits} is r says = says-same {P = Within (atomsOf b) lim
 
 -- What is said of entry n by the tables is said by number 7.
 module _ (b : List ℕ) (kind : ℕ) (e : List ℕ) {limits : List ℕ} (is : limits ≡ limitsOf kind (length b / 4)) (n : ℕ) (r : Bool)
-    (says : Says r (Within (atomsOf b) limits leastKinds (from (4 * n) e))) where
+    (says : Says r (ByTables (atomsOf b) limits leastKinds (from (4 * n) e))) where
   right-there : Says r (Right b kind (from (4 * n) e))
   right-there = within-right b kind (from (4 * n) e) is r says
 
@@ -151,17 +151,17 @@ module _ (b : List ℕ) (kind : ℕ) (e : List ℕ) {limits : List ℕ} (is : li
 
 -- The steps of the test.
 module _ {atoms : List Atom} {limits least e : List ℕ} {tag : ℕ} (is-tag : tag ≡ tagAt e) where
-  pub past-tables : length limits ≡ 6 → 5 < tag → ¬ Within atoms limits least e
+  pub past-tables : length limits ≡ 6 → 5 < tag → ¬ ByTables atoms limits least e
   past-tables long far w = let z : getD limits (tagAt e) 0 ≡ 0 = List·getD-eq-default limits 0 (omega arith) in let h = w .below in omega arith
 
   module _ {n : ℕ} (is-value : n ≡ valueAt e) where
-    pub past-limit : getD limits tag 0 ≤ n → ¬ Within atoms limits least e
+    pub past-limit : getD limits tag 0 ≤ n → ¬ ByTables atoms limits least e
     past-limit far w = let h = w .below in let k = rw (is-tag, is-value) at far in omega arith
 
     module _ {k : ℕ} (is-kind : k ≡ listedKind atoms n) where
-      pub less-kind : k < getD least tag 0 → ¬ Within atoms limits least e
+      pub less-kind : k < getD least tag 0 → ¬ ByTables atoms limits least e
       less-kind low w = let h = w .kept in let l = rw (is-kind, is-tag, is-value) at low in omega arith
 
-      pub within : getD e 1 0 ≡ 0 → n < getD limits tag 0 → getD least tag 0 ≤ k → Within atoms limits least e
+      pub within : getD e 1 0 ≡ 0 → n < getD limits tag 0 → getD least tag 0 ≤ k → ByTables atoms limits least e
       within blank below kept =
           record { blank = blank; below = rw (is-tag, is-value) at below; kept = rw (is-kind, is-tag, is-value) at kept }

@@ -18,15 +18,15 @@ pub record Symbols (s t : List ℕ) (a b : ℕ) : Type 0 where
 
 -- What each answer says of the nodes a and b: a is a variable's; or both are symbols, which differ, or are equal atoms,
 -- encryptions under one key, or pairs.
-abbrev pub Meets : List ℕ → List ℕ → ℕ → ℕ → How → Type 0
-Meets s t a b Free = 128 ≤ a
-Meets s t a b Differ =
+abbrev pub MeetAs : List ℕ → List ℕ → ℕ → ℕ → How → Type 0
+MeetAs s t a b Free = 128 ≤ a
+MeetAs s t a b Differ =
     Symbols s t a b × ((nodeTag s t a ≡ nodeTag s t b → ⊥) ⊎
     ((nodeTag s t a ≡ nodeTag s t b) × (nodeTag s t a ≡ 2 → ⊥) × (nodeValue s t a ≡ nodeValue s t b → ⊥)))
-Meets s t a b Atoms =
+MeetAs s t a b Atoms =
     Symbols s t a b × (nodeTag s t a ≡ nodeTag s t b) × (nodeTag s t a ≡ 2 → ⊥) × (nodeTag s t a ≡ 3 → ⊥) × (nodeValue s t a ≡ nodeValue s t b)
-Meets s t a b Encryptions = Symbols s t a b × (nodeTag s t a ≡ nodeTag s t b) × (nodeTag s t a ≡ 3) × (nodeValue s t a ≡ nodeValue s t b)
-Meets s t a b Pairs = Symbols s t a b × (nodeTag s t a ≡ nodeTag s t b) × (nodeTag s t a ≡ 2)
+MeetAs s t a b Encryptions = Symbols s t a b × (nodeTag s t a ≡ nodeTag s t b) × (nodeTag s t a ≡ 3) × (nodeValue s t a ≡ nodeValue s t b)
+MeetAs s t a b Pairs = Symbols s t a b × (nodeTag s t a ≡ nodeTag s t b) × (nodeTag s t a ≡ 2)
 
 -- Where a is no variable's node, neither is b.
 pub both-symbols : {s t : List ℕ} {a b : ℕ} → AtHome s t a → AtHome s t b → b < a → a < 128 → Symbols s t a b

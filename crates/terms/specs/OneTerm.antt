@@ -8,7 +8,7 @@ use native.Mathlib.Decide.{ℕ-discrete}
 use borrow.Author.Tests.{lt-ltb}
 use lib.ListN.{getD}
 use Rattle.terms.specs.Term.{Term, Variable, variable, atom, pair, encrypted, plain, marked}
-use Rattle.terms.specs.Entry.{Symbol, pairSymbol, tagOf, valueOf, symbolOf, before, beforeAll, withZero, entryOf, entriesOf, termsOf, Reads}
+use Rattle.terms.specs.Entry.{Symbol, pairSymbol, tagOf, valueOf, symbolOf, before, beforeAll, withZero, entryOf, termEntries, termsOf, Reads}
 use Rattle.terms.specs.EntryLaws.{First, first-atom, first-pair, first-encrypted, first-plain, first-marked, first, none≢some, never-empty}
 
 -- The variables of a file's terms are numbered 0 to 7.
@@ -23,7 +23,7 @@ Numbered (encrypted k t) = Numbered t
 pub record OneTerm (e : List ℕ) : Type 0 where
   pub term : Term Variable
   pub numbers : Numbered term
-  pub is : e ≡ entriesOf term
+  pub is : e ≡ termEntries term
 
 -- The entry has a symbol, as number 7 asks. Where each entry has one, the numbers of the variables need not be said
 -- (`some-term` of TermLaws).
@@ -32,14 +32,14 @@ pub record HasSymbol (tag zeroByte value : ℕ) : Type 0 where
   pub is : withZero zeroByte (symbolOf tag value) ≡ some symbol
 
 -- A term's entries are read as the term, whatever follows.
-pub entries-read : (t : Term Variable) → Numbered t → {r : List ℕ} {l : List (Term Variable)} → Reads r l → Reads (entriesOf t ++ r) (t ∷ l)
-unfolding Numbered entriesOf entryOf tagOf valueOf termsOf withZero symbolOf beforeAll before
+pub entries-read : (t : Term Variable) → Numbered t → {r : List ℕ} {l : List (Term Variable)} → Reads r l → Reads (termEntries t ++ r) (t ∷ l)
+unfolding Numbered termEntries entryOf tagOf valueOf termsOf withZero symbolOf beforeAll before
 entries-read (variable (plain x)) n {r} {l} q = let value : x % 256 + 256 * (x / 256) ≡ x = omega arith in record { is = rw (value, lt-ltb x 8 n, q .is) }
 entries-read (variable (marked x)) n {r} {l} q = let value : x % 256 + 256 * (x / 256) ≡ x = omega arith in record { is = rw (value, lt-ltb x 8 n, q .is) }
 entries-read (atom a) n {r} {l} q = let value : a % 256 + 256 * (a / 256) ≡ a = omega arith in record { is = rw (q .is, value) }
 entries-read (pair t u) n {r} {l} q =
     let halves = entries-read t (n .0) (entries-read u (n .1) q) in
-    record { is = ap (beforeAll (some pairSymbol)) (ap termsOf (append-assoc (entriesOf t) (entriesOf u) r) ∙ halves .is) }
+    record { is = ap (beforeAll (some pairSymbol)) (ap termsOf (append-assoc (termEntries t) (termEntries u) r) ∙ halves .is) }
 entries-read (encrypted k t) n {r} {l} q =
     let value : k % 256 + 256 * (k / 256) ≡ k = omega arith in
     let below = entries-read t n q in record { is = rw (below .is, value) }
@@ -47,7 +47,7 @@ entries-read (encrypted k t) n {r} {l} q =
 -- The entries of terms, one after the other.
 unfoldable pub entriesAll : List (Term Variable) → List ℕ
 entriesAll [] = []
-entriesAll (t ∷ l) = entriesOf t ++ entriesAll l
+entriesAll (t ∷ l) = termEntries t ++ entriesAll l
 
 -- Q holds of each of the terms.
 unfoldable pub AllOf : (Term Variable → Type 0) → List (Term Variable) → Type 0
@@ -72,7 +72,7 @@ pub record Written (e : List ℕ) (l : List (Term Variable)) : Type 0 where
   pub same : ((i : ℕ) → getD e i 0 < 256) → e ≡ entriesAll l
 
 pub read-entries : (e : List ℕ) (l : List (Term Variable)) → Reads e l → Written e l
-unfolding termsOf AllOf entriesAll entriesOf entryOf tagOf valueOf Numbered
+unfolding termsOf AllOf entriesAll termEntries entryOf tagOf valueOf Numbered
 read-entries [] l r = let same : [] ≡ l = cc in rw (← same) (record { numbers = tt; same = λ all. refl })
 read-entries (a ∷ []) l r = absurd (none≢some _ (r .is))
 read-entries (a ∷ b ∷ []) l r = absurd (none≢some _ (r .is))
@@ -90,7 +90,7 @@ read-entries (a ∷ b ∷ c ∷ d ∷ e) (t ∷ l) r = go (first r) (zero-byte b
     go (first-pair {t = u} {u = v} {m} g n q k) z ih = let w = ih (u ∷ v ∷ m) k in
         rw q (record {
           numbers = ((w .numbers .0, w .numbers .1 .0), w .numbers .1 .1);
-          same = λ all. rw (append-assoc (entriesOf u) (entriesOf v) (entriesAll m)) (entry-bytes g z n (all 2) (w .same (later all)));
+          same = λ all. rw (append-assoc (termEntries u) (termEntries v) (entriesAll m)) (entry-bytes g z n (all 2) (w .same (later all)));
         })
     go (first-encrypted {t = u} {m} g q k) z ih = let w = ih (u ∷ m) k in
         rw q (record { numbers = w .numbers; same = λ all. entry-bytes g z refl (all 2) (w .same (later all)) })
@@ -104,12 +104,12 @@ pub one-reads : {e : List ℕ} (o : OneTerm e) → Reads e (o .term ∷ [])
 unfolding termsOf
 one-reads {e} o =
     let r = entries-read (o .term) (o .numbers) {r = []} {l = []} (record { is = refl }) in
-    let same : entriesOf (o .term) ++ [] ≡ e = append-nil (entriesOf (o .term)) ∙ sym (o .is) in rw same at r
+    let same : termEntries (o .term) ++ [] ≡ e = append-nil (termEntries (o .term)) ∙ sym (o .is) in rw same at r
 
 pub reads-one : {e : List ℕ} {t : Term Variable} → Reads e (t ∷ []) → ((i : ℕ) → getD e i 0 < 256) → OneTerm e
 unfolding AllOf entriesAll
 reads-one {e} {t} r all =
-    let w = read-entries e (t ∷ []) r in record { term = t; numbers = w .numbers .0; is = w .same all ∙ append-nil (entriesOf t) }
+    let w = read-entries e (t ∷ []) r in record { term = t; numbers = w .numbers .0; is = w .same all ∙ append-nil (termEntries t) }
 
 -- Are two lists of bytes the same?
 same? : (l m : List ℕ) → Dec (l ≡ m)
@@ -124,13 +124,13 @@ same? (a ∷ l) (b ∷ m) = elim (ℕ-discrete a b) [
 
 -- Are the entries exactly one term?
 oneOf : (e : List ℕ) (o : Option (List (Term Variable))) → termsOf e ≡ o → Dec (OneTerm e)
-unfolding same? entriesOf entryOf tagOf valueOf AllOf
+unfolding same? termEntries entryOf tagOf valueOf AllOf
 oneOf e none q = no (λ w. none≢some _ (sym q ∙ one-reads w .is))
 oneOf e (some []) q = no (λ w. (let r = one-reads w .is in let z : _≡_ {A = ℕ} 0 1 = cc in omega arith))
 oneOf e (some (t ∷ u ∷ l)) q = no (λ w. (let r = one-reads w .is in let z : _≡_ {A = ℕ} 0 1 = cc in omega arith))
-oneOf e (some (t ∷ [])) q = elim (same? e (entriesOf t)) [
+oneOf e (some (t ∷ [])) q = elim (same? e (termEntries t)) [
   | yes p ↦ yes (record { term = t; numbers = read-entries e (t ∷ []) (record { is = q }) .numbers .0; is = p })
-  | no n ↦ no (λ w. n (let r = one-reads w .is in let same : w .term ≡ t = cc in w .is ∙ ap entriesOf same))
+  | no n ↦ no (λ w. n (let r = one-reads w .is in let same : w .term ≡ t = cc in w .is ∙ ap termEntries same))
 ]
 
 unfoldable pub oneTerm? : (e : List ℕ) → Dec (OneTerm e)

@@ -18,7 +18,7 @@ use Rattle.terms.specs.Entry.{termOf, Begins}
 use Rattle.terms.specs.EntryLaws.{termOf-reads, suffix}
 use Rattle.terms.specs.WalkLaws.{from}
 use Rattle.terms.specs.RunLaws.{share-alike, alike-share}
-use Rattle.terms.specs.Graph.{free, IsSymbol, made, Valid, Respects, Classes, Step, Clash, Outcome, Finite}
+use Rattle.terms.specs.Graph.{free, IsSymbol, made, Valid, Respects, Classes, ClassStep, Clash, Outcome, Finite}
 use Rattle.terms.specs.GraphLaws.{Any, valued, stay, both, restate, restate-clash, second-clash}
 use Rattle.terms.specs.TermGraph.{home, nodeBy, third, region, nodeTag, nodeOf, TwoTerms}
 use Rattle.terms.specs.TermGraphLaws.{values, home-value, side-makes, left-side, right-side}
@@ -168,7 +168,7 @@ module _ (s t : List ℕ) (bs : Begins s) (bt : Begins t) (ss : length s ≤ 252
         given-left-value f g _ (r .noted .left k l) ∙ equal-down f g _ _ (all .each k l .same) ∙ sym (given-right-value f g _ (r .noted .right k l))
 
     -- What uniting and the test for finite classes answer, together.
-    sharing-yes : {next : ℕ → ℕ} → Step (nodeOf s t) Any (λ i. i) next (AllEqual s t m n) → ((i : ℕ) → Finite (nodeOf s t) next i) → Share (termOf s) (termOf t)
+    sharing-yes : {next : ℕ → ℕ} → ClassStep (nodeOf s t) Any (λ i. i) next (AllEqual s t m n) → ((i : ℕ) → Finite (nodeOf s t) next i) → Share (termOf s) (termOf t)
     sharing-yes step ends =
         let w = valued (step .classes) ends in
         let closed = step .closes (w .v) (w .respects) (record { makes = λ i is. refl }) in
@@ -177,7 +177,7 @@ module _ (s t : List ℕ) (bs : Begins s) (bt : Begins t) (ss : length s ≤ 252
     sharing-no : Clash (nodeOf s t) (λ i. i) (AllEqual s t m n) → Share (termOf s) (termOf t) → ⊥
     sharing-no clash h = clash .never _ (given-valid (h .left .by) (h .right .by)) (record { same = λ i. refl }) (all-of h)
 
-    sharing-endless : {next : ℕ → ℕ} → Step (nodeOf s t) Any (λ i. i) next (AllEqual s t m n)
+    sharing-endless : {next : ℕ → ℕ} → ClassStep (nodeOf s t) Any (λ i. i) next (AllEqual s t m n)
         → ((v : ℕ → Message) → Valid (nodeOf s t) v → Respects next v → ⊥) → Share (termOf s) (termOf t) → ⊥
     sharing-endless step never h =
         let valid = given-valid (h .left .by) (h .right .by) in
@@ -213,10 +213,10 @@ apart-answer t u off = says-answer false (λ h. off _ _ (share-alike h)) (share?
 -- ---- uniting the noted entries, one after the other
 
 -- None yet.
-pub united-none : (s t m : List ℕ) {name : ℕ → ℕ} → Classes (nodeOf s t) name → Step (nodeOf s t) Any name name (AllEqual s t m 0)
+pub united-none : (s t m : List ℕ) {name : ℕ → ℕ} → Classes (nodeOf s t) name → ClassStep (nodeOf s t) Any name name (AllEqual s t m 0)
 united-none s t m cs = restate (λ v x e. tt) (λ v q e k h. absurd (omega arith)) (stay (nodeOf s t) Any cs)
 
-module _ (s t m : List ℕ) (k : ℕ) {name mid : ℕ → ℕ} (step : Step (nodeOf s t) Any name mid (AllEqual s t m k)) where
+module _ (s t m : List ℕ) (k : ℕ) {name mid : ℕ → ℕ} (step : ClassStep (nodeOf s t) Any name mid (AllEqual s t m k)) where
   -- One more.
   module _ {i j : ℕ} (is : i ≡ home s 0 128 (getD m k 0)) (is′ : j ≡ home t 64 144 (getD m (64 + k) 0)) where
     split : (v : ℕ → Message) → AllEqual s t m (k + 1) v → AllEqual s t m k v × (v i ≡ v j)
@@ -228,7 +228,7 @@ module _ (s t m : List ℕ) (k : ℕ) {name mid : ℕ → ℕ} (step : Step (nod
       | no off ↦ all .0 l (omega arith)
     ]
 
-    pub united-more : {next : ℕ → ℕ} → Step (nodeOf s t) Any mid next (λ v. v i ≡ v j) → Step (nodeOf s t) Any name next (AllEqual s t m (k + 1))
+    pub united-more : {next : ℕ → ℕ} → ClassStep (nodeOf s t) Any mid next (λ v. v i ≡ v j) → ClassStep (nodeOf s t) Any name next (AllEqual s t m (k + 1))
     united-more more = restate (λ v x all. split v all) (λ v q all. joined v all) (both (nodeOf s t) Any step more)
 
     pub united-clash : {n : ℕ} → k < n → Clash (nodeOf s t) mid (λ v. v i ≡ v j) → Clash (nodeOf s t) name (AllEqual s t m n)

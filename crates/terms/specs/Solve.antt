@@ -162,26 +162,26 @@ record Fits {Z : Type 0} (l : List Z) (x : Z) (t : Term Z) : Type 0 where
   proper : ¬ Self x t
 
 -- Every equation is so.
-Within : {Z : Type 0} → List Z → Equations Z → Type 0
-Within l clash = Unit {0}
-Within l done = Unit {0}
-Within l (more x t e) = Fits l x t × Within l e
+Over : {Z : Type 0} → List Z → Equations Z → Type 0
+Over l clash = Unit {0}
+Over l done = Unit {0}
+Over l (more x t e) = Fits l x t × Over l e
 
 -- Such an equation may be put in front.
 put-within : {Z : Type 0} (l : List Z) (x : Z) (t : Term Z) (e : Equations Z) → List·Memᴰ x l → Among l t → ¬ Self x t
-    → Within l e → Within l (put x t e)
-unfolding Within put
+    → Over l e → Over l (put x t e)
+unfolding Over put
 put-within l x t clash m a p w = tt
 put-within l x t done m a p w = (record { alive = m; among = a; proper = p }, w)
 put-within l x t (more y u e) m a p w = (record { alive = m; among = a; proper = p }, w)
 
 module _ {Z : Type 0} (d : Discrete Z) (l : List Z) where
   -- The equations of terms over the listed variables are such.
-  equate-within : (s t : Term Z) (e : Equations Z) → Among l s → Among l t → Within l e → Within l (equate d s t e)
-  unfolding Occurs Self Within equate
+  equate-within : (s t : Term Z) (e : Equations Z) → Among l s → Among l t → Over l e → Over l (equate d s t e)
+  unfolding Occurs Self Over equate
   equate-within (variable x) (variable y) e a b w = go (d x y)
     where
-      go : (q : Dec (x ≡ y)) → Within l (elim q [ yes p ↦ e | no n ↦ put x (variable y) e ])
+      go : (q : Dec (x ≡ y)) → Over l (elim q [ yes p ↦ e | no n ↦ put x (variable y) e ])
       go (yes p) = w
       go (no n) = put-within l x (variable y) e (a x refl) b n w
   equate-within (variable x) (atom c) e a b w = put-within l x _ e (a x refl) b (λ p. p) w
@@ -190,7 +190,7 @@ module _ {Z : Type 0} (d : Discrete Z) (l : List Z) where
   equate-within (atom c) (variable y) e a b w = put-within l y _ e (b y refl) a (λ p. p) w
   equate-within (atom c) (atom b′) e a b w = go (ℕ-discrete c b′)
     where
-      go : (q : Dec (c ≡ b′)) → Within l (elim q [ yes p ↦ e | no n ↦ clash ])
+      go : (q : Dec (c ≡ b′)) → Over l (elim q [ yes p ↦ e | no n ↦ clash ])
       go (yes p) = w
       go (no n) = tt
   equate-within (atom c) (pair t u) e a b w = tt
@@ -206,7 +206,7 @@ module _ {Z : Type 0} (d : Discrete Z) (l : List Z) where
   equate-within (encrypted k s) (pair t u) e a b w = tt
   equate-within (encrypted k s) (encrypted l′ t) e a b w = go (ℕ-discrete k l′) (equate-within s t e a b w)
     where
-      go : (q : Dec (k ≡ l′)) → Within l (equate d s t e) → Within l (elim q [ yes p ↦ equate d s t e | no n ↦ clash ])
+      go : (q : Dec (k ≡ l′)) → Over l (equate d s t e) → Over l (elim q [ yes p ↦ equate d s t e | no n ↦ clash ])
       go (yes p) v = v
       go (no n) v = tt
 
@@ -222,9 +222,9 @@ module _ {Z : Type 0} (d : Discrete Z) where
       go (no n) o = f .keeps z (rw o m) (λ e. n (e ∙ o))
 
   -- So are the equations.
-  without-within : (l : List Z) (x : Z) (t : Term Z) (e : Equations Z) (f : Fewer x l) → Among l t → ¬ Occurs x t → Within l e
-      → Within (f .rest) (without d x t e)
-  unfolding Within without
+  without-within : (l : List Z) (x : Z) (t : Term Z) (e : Equations Z) (f : Fewer x l) → Among l t → ¬ Occurs x t → Over l e
+      → Over (f .rest) (without d x t e)
+  unfolding Over without
   without-within l x t clash f a off w = tt
   without-within l x t done f a off w = tt
   without-within l x t (more y u e) f a off w =
@@ -262,8 +262,8 @@ module _ {Z : Type 0} (d : Discrete Z) where
       go y (no n) = refl
 
   -- The solving says truly, if n is at least the number of the variables.
-  solve-says : (n : ℕ) (e : Equations Z) (l : List Z) → length l ≤ n → Within l e → Says (solve d n e) (Solvable e)
-  unfolding Solves Within solve
+  solve-says : (n : ℕ) (e : Equations Z) (l : List Z) → length l ≤ n → Over l e → Says (solve d n e) (Solvable e)
+  unfolding Solves Over solve
   solve-says zero clash l small w = λ s. s .solves
   solve-says zero done l small w = record { by = λ z. atom 1000; solves = tt }
   solve-says zero (more x t e) l small w = absurd (omega (arith, fewer (w .0 .alive) .shorter))
@@ -293,7 +293,7 @@ pub record Unifies {Z : Type 0} (s t : Term Z) : Type 0 where
 
 -- Unification says truly whether there are any.
 pub unify-says : {Z : Type 0} (d : Discrete Z) (s t : Term Z) → Says (unify d s t) (Unifies s t)
-unfolding unify Solves Within
+unfolding unify Solves Over
 unify-says d s t = let l = names s ++ names t in says-same (unify d s t)
     (λ r. record { by = r .by; same = equate-solves d (r .by) s t done .0 (r .solves) .0 })
     (λ r. record { by = r .by; solves = equate-solves d (r .by) s t done .1 (r .same, tt) })

@@ -97,7 +97,7 @@ pub record AtHome (s t : List ℕ) (i : ℕ) : Type 0 where
   pub is : (128 ≤ i) ⊎ IsSymbol (nodeOf s t i)
 
 -- The node is an entry's own.
-pub record Inside (s t : List ℕ) (i : ℕ) : Type 0 where
+pub record OwnEntry (s t : List ℕ) (i : ℕ) : Type 0 where
   pub low : i < 128
   pub left : i < 64 → 4 * (i + 1) ≤ length s
   pub right : 64 ≤ i → 4 * (i - 64 + 1) ≤ length t

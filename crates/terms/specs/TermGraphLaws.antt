@@ -20,7 +20,7 @@ use Rattle.terms.specs.WalkLaws.{from, pair-first, encryption-first}
 use borrow.Rule.Slice.PartAt.{part-to-end}
 use Rattle.terms.specs.Graph.{Node, free, atomNode, pairNode, encryptionNode, IsSymbol, made, Valid}
 use Rattle.terms.specs.TermGraph.{tagIn, valueIn, homeBy, home, rightIn, nodeBy, nodeTag, nodeValue, firstChild, secondChild, nodeOf}
-use Rattle.terms.specs.TermGraph.{TwoTerms, sizeIn, SizesOf, AtHome, Inside, HasChild}
+use Rattle.terms.specs.TermGraph.{TwoTerms, sizeIn, SizesOf, AtHome, OwnEntry, HasChild}
 
 -- The first entry of what is left from entry k on is entry k.
 pub tag-in : (e : List ℕ) (k : ℕ) → tagIn e k ≡ tagAt (drop (4 * k) e)
@@ -359,7 +359,7 @@ some-tag {e} k b some = go (tagIn e k) refl some
     go (suc n) g h = whole-entry k b (tag-inside e k g)
 
 module _ {s t : List ℕ} (both : TwoTerms s t) {i : ℕ} where
-  pub tag-at-entry : 0 < nodeTag s t i → Inside s t i
+  pub tag-at-entry : 0 < nodeTag s t i → OwnEntry s t i
   tag-at-entry some = elim (decLt i 128) [
     | yes l ↦ record {
       low = l;
@@ -369,7 +369,7 @@ module _ {s t : List ℕ} (both : TwoTerms s t) {i : ℕ} where
     | no n ↦ let none = past-tag s t {i = i} (omega arith) in absurd (omega arith)
   ]
 
-  pub symbol-inside : IsSymbol (nodeOf s t i) → Inside s t i
+  pub symbol-inside : IsSymbol (nodeOf s t i) → OwnEntry s t i
   symbol-inside is = tag-at-entry (some-symbol s t i is)
 
 -- A node at home that is no variable's is a symbol's.
@@ -393,7 +393,7 @@ first-fits k b (inl two) = whole-entry (k + 1) b (pair-there k b two .is .left-f
 first-fits k b (inr three) = whole-entry (k + 1) b (encryption-there k b three .is .content-fits)
 
 -- The children of a node, on each side.
-pub child-inside : {s t : List ℕ} {i : ℕ} → TwoTerms s t → HasChild s t i → Inside s t i
+pub child-inside : {s t : List ℕ} {i : ℕ} → TwoTerms s t → HasChild s t i → OwnEntry s t i
 child-inside both (inl two) = tag-at-entry both (omega arith)
 child-inside both (inr three) = tag-at-entry both (omega arith)
 

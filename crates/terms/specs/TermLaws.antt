@@ -16,7 +16,7 @@ use Rattle.terms.specs.Occurs.{Occurs}
 use Rattle.terms.specs.Instance.{Share}
 use Rattle.terms.specs.Proper.{Built, BuiltShare, built-share}
 use Rattle.terms.specs.Entry.{Symbol, atomSymbol, pairSymbol, encryptionSymbol, variableSymbol, tagOf, valueOf, symbolOf, numbered, withZero}
-use Rattle.terms.specs.Entry.{entryOf, entriesOf, termsOf, termOf, size, Reads, Begins}
+use Rattle.terms.specs.Entry.{entryOf, termEntries, termsOf, termOf, size, Reads, Begins}
 use Rattle.terms.specs.EntryLaws.{First, first-atom, first-pair, first-encrypted, first-plain, first-marked, first, none≢some, begins}
 use Rattle.terms.specs.EntryLaws.{termOf-reads, never-empty}
 use Rattle.terms.specs.First.{first-none}
@@ -59,7 +59,7 @@ one-alone o = one-reads o .is ∙ ap (λ (t : Term Variable). some (t ∷ [])) (
 
 -- Encoding and decoding are inverse to each other: a term's entries are read as it, and bytes are exactly one term if
 -- and only if they are read as one.
-pub entries-alone : (t : Term Variable) → Numbered t → termsOf (entriesOf t) ≡ some (t ∷ [])
+pub entries-alone : (t : Term Variable) → Numbered t → termsOf (termEntries t) ≡ some (t ∷ [])
 entries-alone t n = one-reads (record { term = t; numbers = n; is = refl }) .is
 
 pub one-iff-read : {e : List ℕ} → ((i : ℕ) → getD e i 0 < 256) → OneTerm e ↔ ((t : Term Variable) × (termsOf e ≡ some (t ∷ [])))
@@ -76,22 +76,22 @@ small v x {s} e = go (ltb v 8) refl e
     go true q r = ltb-true v 8 q
     go false q r = absurd (none≢some _ r)
 
-symbols-numbered : (t : Term Variable) {r : List ℕ} → Each HasSymbol (entriesOf t ++ r) → Numbered t × Each HasSymbol r
-unfolding Numbered entriesOf entryOf tagOf valueOf withZero symbolOf
+symbols-numbered : (t : Term Variable) {r : List ℕ} → Each HasSymbol (termEntries t ++ r) → Numbered t × Each HasSymbol r
+unfolding Numbered termEntries entryOf tagOf valueOf withZero symbolOf
 symbols-numbered (variable (plain x)) each = let f = each-first each in let s = small (x % 256 + 256 * (x / 256)) _ (f .0 .is) in (omega arith, f .1)
 symbols-numbered (variable (marked x)) each = let f = each-first each in let s = small (x % 256 + 256 * (x / 256)) _ (f .0 .is) in (omega arith, f .1)
 symbols-numbered (atom a) each = (tt, each-first each .1)
 symbols-numbered (pair t u) {r} each =
-    let f = symbols-numbered t (rw (append-assoc (entriesOf t) (entriesOf u) r) at (each-first each .1)) in
+    let f = symbols-numbered t (rw (append-assoc (termEntries t) (termEntries u) r) at (each-first each .1)) in
     let g = symbols-numbered u (f .1) in ((f .0, g .0), g .1)
 symbols-numbered (encrypted k t) each = symbols-numbered t (each-first each .1)
 
-pub some-term : {e : List ℕ} → Each HasSymbol e → (t : Term Variable) → e ≡ entriesOf t → OneTerm e
+pub some-term : {e : List ℕ} → Each HasSymbol e → (t : Term Variable) → e ≡ termEntries t → OneTerm e
 some-term {e} each t is =
-    let same : e ≡ entriesOf t ++ [] = is ∙ sym (append-nil (entriesOf t)) in
+    let same : e ≡ termEntries t ++ [] = is ∙ sym (append-nil (termEntries t)) in
     record { term = t; numbers = symbols-numbered t (rw same at each) .0; is = is }
 
-pub one-iff-entries : {e : List ℕ} → Each HasSymbol e → OneTerm e ↔ ((t : Term Variable) × (e ≡ entriesOf t))
+pub one-iff-entries : {e : List ℕ} → Each HasSymbol e → OneTerm e ↔ ((t : Term Variable) × (e ≡ termEntries t))
 one-iff-entries each = (λ o. (o .term, o .is), λ w. some-term each (w .0) (w .1))
 
 -- A term of a block of this kind: every atom number is below the number of atoms, every key is a key, every variable
@@ -143,11 +143,11 @@ no-mark not-good (plainRight l k) x o = let z : _≡_ {A = ℕ} 0 1 = cc in omeg
 no-mark not-good (markedRight l k) x o = not-good k
 
 -- Entries that are exactly one term have its size.
-entries-length : (t : Term Variable) → length (entriesOf t) ≡ 4 * size t
-unfolding entriesOf entryOf size
+entries-length : (t : Term Variable) → length (termEntries t) ≡ 4 * size t
+unfolding termEntries entryOf size
 entries-length (variable x) = omega arith
 entries-length (atom a) = omega arith
-entries-length (pair t u) = omega (arith, length-append (entriesOf t) (entriesOf u), entries-length t, entries-length u)
+entries-length (pair t u) = omega (arith, length-append (termEntries t) (termEntries u), entries-length t, entries-length u)
 entries-length (encrypted k t) = omega (arith, entries-length t)
 
 pub one-whole : {e : List ℕ} → OneTerm e → 4 * size (termOf e) ≡ length e

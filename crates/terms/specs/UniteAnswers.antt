@@ -13,7 +13,7 @@ use Rattle.terms.specs.Graph.{Node, Classes, Respects, Outcome}
 use Rattle.terms.specs.GraphLaws.{merge, Any, done, failed, restate, restate-clash}
 use Rattle.terms.specs.TermGraph.{nodeOf, nodeTag, freeTag, firstChild, secondChild, AtHome}
 use Rattle.terms.specs.TermGraphLaws.{past-tag}
-use Rattle.terms.specs.Meeting.{Meets}
+use Rattle.terms.specs.Meeting.{MeetAs}
 use Rattle.terms.specs.Names.{nameOf, Linked, classCount, classes-of, joined-linked, joined-names, joined-fewer, name-home, name-named}
 use Rattle.terms.specs.UniteLaws.{one-class, free-class, tags-clash, values-clash, equal-atoms, equal-encryptions, equal-pairs}
 
@@ -31,8 +31,8 @@ two-names linked first second first-named second-named above =
     record { linked = linked; first = first; second = second; first-named = first-named; second-named = second-named; above = above }
 
 -- The answer of the meeting.
-pub met-as : (s t : List ℕ) (a b : ℕ) {met h : How} → Meets s t a b met → met ≡ h → Meets s t a b h
-met-as s t a b m told = subst (Meets s t a b) told m
+pub met-as : (s t : List ℕ) (a b : ℕ) {met h : How} → MeetAs s t a b met → met ≡ h → MeetAs s t a b h
+met-as s t a b m told = subst (MeetAs s t a b) told m
 
 module _ {s t c : List ℕ} {a b : ℕ} (w : TwoNames s t c a b) where
   cs : Classes (nodeOf s t) (nameOf c)
@@ -47,7 +47,7 @@ module _ {s t c : List ℕ} {a b : ℕ} (w : TwoNames s t c a b) where
   apart : a ≡ b → ⊥
   apart e = omega (arith, w .above)
 
-  pub differ-answer : Meets s t a b Differ → Outcome (nodeOf s t) Any (nameOf c) (nameOf c) (λ v. v a ≡ v b) false
+  pub differ-answer : MeetAs s t a b Differ → Outcome (nodeOf s t) Any (nameOf c) (nameOf c) (λ v. v a ≡ v b) false
   differ-answer m = ⊎-elim
       (λ off. failed (tags-clash s t (nameOf c) cs a b a-is b-is (m .0 .left) (m .0 .right) off))
       (λ q. failed (values-clash s t (nameOf c) cs a b a-is b-is (m .0 .left) (m .0 .right) (q .0) (q .1) (q .2))) (m .1)
@@ -62,22 +62,22 @@ module _ {s t c : List ℕ} {a b : ℕ} (w : TwoNames s t c a b) where
   names-merged : merge a b (nameOf c) ≡ nameOf (set c a b)
   names-merged = joined-names (w .linked) (w .first) (w .second) (w .first-named) (w .second-named) (w .above)
 
-  pub free-answer : Meets s t a b Free → Outcome (nodeOf s t) Any (nameOf c) (nameOf (set c a b)) (λ v. v a ≡ v b) true
+  pub free-answer : MeetAs s t a b Free → Outcome (nodeOf s t) Any (nameOf c) (nameOf (set c a b)) (λ v. v a ≡ v b) true
   unfolding freeTag
   free-answer m =
       let none : freeTag (nodeTag s t a) ≡ true = ap freeTag (past-tag s t m) in
       done (rw names-merged at (free-class s t (nameOf c) cs a b a-is b-is apart none))
 
-  pub atoms-answer : Meets s t a b Atoms → Outcome (nodeOf s t) Any (nameOf c) (nameOf (set c a b)) (λ v. v a ≡ v b) true
+  pub atoms-answer : MeetAs s t a b Atoms → Outcome (nodeOf s t) Any (nameOf c) (nameOf (set c a b)) (λ v. v a ≡ v b) true
   atoms-answer m = done (rw names-merged at (equal-atoms s t (nameOf c) cs a b a-is b-is (m .0 .left) (m .0 .right) (m .1) apart (m .2) (m .3) (m .4)))
 
   module _ {next : ℕ → ℕ} {r : Bool} where
-    pub contents-answer : Meets s t a b Encryptions → Outcome (nodeOf s t) Any (nameOf (set c a b)) next (λ v. v (firstChild s t a) ≡ v (firstChild s t b)) r
+    pub contents-answer : MeetAs s t a b Encryptions → Outcome (nodeOf s t) Any (nameOf (set c a b)) next (λ v. v (firstChild s t a) ≡ v (firstChild s t b)) r
         → Outcome (nodeOf s t) Any (nameOf c) next (λ v. v a ≡ v b) r
     contents-answer m o =
         equal-encryptions s t (nameOf c) cs a b a-is b-is (m .0 .left) (m .0 .right) (m .1) (m .2) (m .3) (rw (← names-merged) at o)
 
-    pub halves-answer : Meets s t a b Pairs
+    pub halves-answer : MeetAs s t a b Pairs
         → Outcome (nodeOf s t) Any (nameOf (set c a b)) next
         (λ v. (v (firstChild s t a) ≡ v (firstChild s t b)) × (v (secondChild s t a) ≡ v (secondChild s t b))) r
         → Outcome (nodeOf s t) Any (nameOf c) next (λ v. v a ≡ v b) r

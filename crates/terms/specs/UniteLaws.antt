@@ -4,7 +4,7 @@ use mathlib.Core.Bool.{Bool, true, false, true≢false, false≢true}
 use mathlib.Core.List.{List}
 use Prim.Native.Nat.{ℕ, zero, suc}
 use Rattle.terms.specs.Term.{Message, variable, atom, pair, encrypted}
-use Rattle.terms.specs.Graph.{atomNode, pairNode, encryptionNode, IsSymbol, made, Valid, Classes, Step, Clash, Outcome}
+use Rattle.terms.specs.Graph.{atomNode, pairNode, encryptionNode, IsSymbol, made, Valid, Classes, ClassStep, Clash, Outcome}
 use Rattle.terms.specs.GraphLaws.{merge, Any, done, stay, already, united, united-clash, apart-clash, united-classes}
 use Rattle.terms.specs.TermGraph.{nodeTag, nodeValue, firstChild, secondChild, nodeBy, nodeOf, freeTag}
 
@@ -96,7 +96,7 @@ module _ (s t : List ℕ) (name : ℕ → ℕ) (cs : Classes (nodeOf s t) name) 
     stepped = λ e. united (nodeOf s t) name cs i j wanted
         (λ v p is. ap (λ (n : ℕ). made v (nodeOf s t n)) (sym ea) ∙ enough v p (subst (λ (n : ℕ). IsSymbol (nodeOf s t n)) (sym ea) is)
         ∙ ap (λ (n : ℕ). made v (nodeOf s t n)) eb)
-        (subst (λ (f : ℕ → ℕ). Step (nodeOf s t) Any f next P) one (o .stepped e));
+        (subst (λ (f : ℕ → ℕ). ClassStep (nodeOf s t) Any f next P) one (o .stepped e));
     clashed = λ e. united-clash (nodeOf s t) name cs i j wanted (subst (λ (f : ℕ → ℕ). Clash (nodeOf s t) f P) one (o .clashed e));
   }
     where
@@ -112,10 +112,10 @@ module _ (s t : List ℕ) (name : ℕ → ℕ) (cs : Classes (nodeOf s t) name) 
       (united-classes (nodeOf s t) name cs i j (λ e. apart (ea ∙ e ∙ sym eb))
       (λ is. subst (λ (n : ℕ). IsSymbol (nodeOf s t n)) eb (keeps (subst (λ (n : ℕ). IsSymbol (nodeOf s t n)) (sym ea) is))))
 
-  pub one-class : a ≡ b → Step (nodeOf s t) Any name name (λ v. v i ≡ v j)
+  pub one-class : a ≡ b → ClassStep (nodeOf s t) Any name name (λ v. v i ≡ v j)
   one-class e = already (nodeOf s t) name cs i j (sym ea ∙ e ∙ eb)
 
-  pub free-class : (a ≡ b → ⊥) → freeTag (nodeTag s t a) ≡ true → Step (nodeOf s t) Any name (merge a b name) (λ v. v i ≡ v j)
+  pub free-class : (a ≡ b → ⊥) → freeTag (nodeTag s t a) ≡ true → ClassStep (nodeOf s t) Any name (merge a b name) (λ v. v i ≡ v j)
   free-class apart f =
       (as-named (λ v x e. tt) (λ v p is. absurd (not-symbol s t a f is))
       (done (stay (nodeOf s t) Any (merged-names apart (λ is. absurd (not-symbol s t a f is)))))) .stepped refl
@@ -150,7 +150,7 @@ module _ (s t : List ℕ) (name : ℕ → ℕ) (cs : Classes (nodeOf s t) name) 
           ∙ made-number v (nodeTag s t b) (nodeValue s t b) (firstChild s t b) (secondChild s t b) fb (λ p. not-pair (tags ∙ p))))
 
       pub equal-atoms : (a ≡ b → ⊥) → (nodeTag s t a ≡ 2 → ⊥) → (nodeTag s t a ≡ 3 → ⊥) → nodeValue s t a ≡ nodeValue s t b
-          → Step (nodeOf s t) Any name (merge a b name) (λ v. v i ≡ v j)
+          → ClassStep (nodeOf s t) Any name (merge a b name) (λ v. v i ≡ v j)
       unfolding nodeBy
       equal-atoms apart not-pair not-encryption same =
           let one = only-atom (nodeTag s t a) fa not-pair not-encryption in

@@ -17,7 +17,7 @@ use Rattle.terms.specs.WalkLaws.{from, encryption-first}
 use Rattle.terms.specs.Solve.{Says, says-same}
 use Rattle.terms.specs.Decisions.{says-eq}
 use Rattle.terms.specs.First.{fails, holds, first-only}
-use Rattle.terms.specs.Atom.{Atom, atomsOf, kindOf, knownOf, partnerOf, NamedBack, PartnerRight}
+use Rattle.terms.specs.Atom.{Atom, atomsOf, atomKind, knownOf, partnerOf, NamedBack, PartnerRight}
 use Rattle.terms.specs.Atom.{principal, nonce, publicKey, privateKey, symmetricKey, AtomRight, Wanted, partner-wanted, partner-right}
 use Rattle.terms.specs.Atom.{atomRight?, wrongAtom, length-atoms, atom-bytes}
 use Rattle.terms.specs.TermEntry.{EntryRight, rightAt?, wrongEntry}
@@ -26,7 +26,7 @@ use Rattle.terms.specs.OneTerm.{IsEncryption}
 
 -- What the bytes of an atom entry are.
 module _ (b : List ℕ) {n : ℕ} (inside : n < length b / 4) where
-  pub kind-byte : kindOf (atomsOf b) n ≡ getD b (4 * n) 0
+  pub kind-byte : atomKind (atomsOf b) n ≡ getD b (4 * n) 0
   kind-byte = ap (λ (a : Atom). a .kind) (atom-bytes b n inside) ∙ rw (getD-drop, add-zero)
 
   pub known-byte : knownOf (atomsOf b) n ≡ getD b (4 * n + 1) 0
@@ -47,14 +47,14 @@ module _ (b : List ℕ) (n other : ℕ) (inside : n < length b / 4) {p : ℕ} (p
   back-away far w = let l = w .there in omega (arith, named, length-atoms b)
 
   pub back-other : p < length b / 4 → (getD b (4 * p) 0 ≡ other → ⊥) → ¬ NamedBack (atomsOf b) n other
-  back-other near off w = off (sym (kind-byte b near) ∙ ap (kindOf (atomsOf b)) named ∙ w .kind)
+  back-other near off w = off (sym (kind-byte b near) ∙ ap (atomKind (atomsOf b)) named ∙ w .kind)
 
   pub back-named : p < length b / 4 → getD b (4 * p) 0 ≡ other → {q : ℕ}
       → q ≡ valueAt (from (4 * p) b) → Says (eqb q n) (NamedBack (atomsOf b) n other)
   back-named near kind {q} field = says-same (eqb q n)
       (λ e. record {
         there = omega (arith, named, length-atoms b);
-        kind = ap (kindOf (atomsOf b)) (sym named) ∙ kind-byte b near ∙ kind;
+        kind = ap (atomKind (atomsOf b)) (sym named) ∙ kind-byte b near ∙ kind;
         back = ap (partnerOf (atomsOf b)) (sym named) ∙ partner-bytes b near ∙ sym field ∙ e;
       })
       (λ w. field ∙ sym (partner-bytes b near) ∙ ap (partnerOf (atomsOf b)) named ∙ w .back) (says-eq q n)
@@ -68,7 +68,7 @@ module _ (b : List ℕ) (n : ℕ) (inside : n < length b / 4) where
       → Says r (Wanted (atomsOf b) n k) → Says r (AtomRight (atomsOf b) n)
   by-kind known k kind r says =
       let q = known-byte b inside in
-      let same : kindOf (atomsOf b) n ≡ k = kind-byte b inside ∙ kind in
+      let same : atomKind (atomsOf b) n ≡ k = kind-byte b inside ∙ kind in
       says-same r (λ w. record { known = omega arith; partner = partner-right (atomsOf b) n k same w })
       (λ w. rw same at (partner-wanted (atomsOf b) n (w .partner))) says
 
@@ -97,7 +97,7 @@ module _ (b : List ℕ) (n : ℕ) (inside : n < length b / 4) where
       → (getD b (4 * n) 0 ≡ 5 → ⊥) → ¬ AtomRight (atomsOf b) n
   atom-no-kind one two three four five w = go (w .partner)
     where
-      same : getD b (4 * n) 0 ≡ kindOf (atomsOf b) n
+      same : getD b (4 * n) 0 ≡ atomKind (atomsOf b) n
       same = sym (kind-byte b inside)
 
       go : PartnerRight (atomsOf b) n → ⊥

@@ -12,7 +12,7 @@ ghost use Rattle.terms.specs.Graph.{Outcome};
 ghost use Rattle.terms.specs.GraphLaws.{Any};
 ghost use Rattle.terms.specs.TermGraph.{TwoTerms, SizesOf, AtHome, nodeOf, firstChild, secondChild, nodeTag};
 ghost use Rattle.terms.specs.Names.{nameOf, classCount, Linked};
-ghost use Rattle.terms.specs.Meeting.{Meets};
+ghost use Rattle.terms.specs.Meeting.{MeetAs};
 
 // Every node as a class by itself.
 pub fn alone() -> [u8; 256]
@@ -56,7 +56,7 @@ enum How {
 
 fn meeting(s: &[u8], t: &[u8], a: usize, b: usize) -> How
     requires { ⌜ TwoTerms (now s) (now t) × AtHome (now s) (now t) a × AtHome (now s) (now t) b × (b < a) ⌝ }
-    ensures { λ r. ⌜ Meets (now (s .entry)) (now (t .entry)) a b r ⌝ }
+    ensures { λ r. ⌜ MeetAs (now (s .entry)) (now (t .entry)) a b r ⌝ }
 {
     if 128 <= a {
         return How::Free;

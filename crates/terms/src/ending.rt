@@ -10,7 +10,7 @@ ghost use Prim.Native.Nat.{ℕ, _≤_, _<_};
 ghost use lib.ListN.{length};
 ghost use Rattle.terms.specs.Term.{Message};
 ghost use Rattle.terms.specs.Graph.{IsSymbol, Valid, Respects, Finite};
-ghost use Rattle.terms.specs.TermGraph.{TwoTerms, nodeOf, SizesOf, AtHome, Inside};
+ghost use Rattle.terms.specs.TermGraph.{TwoTerms, nodeOf, SizesOf, AtHome, OwnEntry};
 ghost use Rattle.terms.specs.Names.{nameOf, Linked};
 ghost use Rattle.terms.specs.Ending.{ChildrenEnd, ParentEnds, Sound, Below, ChildrenBelow, Walked, EachFrom};
 
@@ -90,7 +90,7 @@ fn node_ends(
     k: usize,
 ) -> bool
     requires { ⌜ TwoTerms (now s) (now t) × SizesOf (now s) (now zs) × SizesOf (now t) (now zt) × Linked (now s) (now t) (now c) × (length (now marks) ≡ 128)
-        × Inside (now s) (now t) k × Sound (now s) (now t) (now c) (now marks) × Below (now s) (now t) (now c) (now marks) k ⌝ }
+        × OwnEntry (now s) (now t) k × Sound (now s) (now t) (now c) (now marks) × Below (now s) (now t) (now c) (now marks) k ⌝ }
     ensures { λ r. ⌜ Walked (now (s .entry)) (now (t .entry)) (now (c .entry)) (now (marks .entry)) (now (marks .exit))
         (ParentEnds (now (s .entry)) (now (t .entry)) (now (c .entry)) k) r ⌝ }
 {
@@ -118,7 +118,7 @@ fn side_ends(
     high: usize,
 ) -> bool
     requires { ⌜ TwoTerms (now s) (now t) × SizesOf (now s) (now zs) × SizesOf (now t) (now zt) × Linked (now s) (now t) (now c) × (length (now marks) ≡ 128)
-        × (low ≤ high) × EachFrom (Inside (now s) (now t)) low high
+        × (low ≤ high) × EachFrom (OwnEntry (now s) (now t)) low high
         × Sound (now s) (now t) (now c) (now marks) × ((i : ℕ) → Below (now s) (now t) (now c) (now marks) i) ⌝ }
     ensures { λ r. ⌜ Walked (now (s .entry)) (now (t .entry)) (now (c .entry)) (now (marks .entry)) (now (marks .exit))
         (EachFrom (ParentEnds (now (s .entry)) (now (t .entry)) (now (c .entry))) low high) r ⌝ }

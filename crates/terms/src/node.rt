@@ -30,7 +30,7 @@ pub fn home(e: &[u8], k: usize, base: usize, slots: usize) -> usize
 
 // The tag of the entry at a node.
 pub fn tag_at(s: &[u8], t: &[u8], i: usize) -> u8
-    requires { ⌜ graph.Inside (now s) (now t) i ⌝ }
+    requires { ⌜ graph.OwnEntry (now s) (now t) i ⌝ }
     ensures { λ r. ⌜ r ≡ graph.nodeTag (now (s .entry)) (now (t .entry)) i ⌝ }
 {
     if i < 64 { s[4 * i] } else { t[4 * (i - 64)] }
@@ -38,7 +38,7 @@ pub fn tag_at(s: &[u8], t: &[u8], i: usize) -> u8
 
 // The value of the entry at a node.
 pub fn value_at(s: &[u8], t: &[u8], i: usize) -> usize
-    requires { ⌜ graph.Inside (now s) (now t) i ⌝ }
+    requires { ⌜ graph.OwnEntry (now s) (now t) i ⌝ }
     ensures { λ r. ⌜ r ≡ graph.nodeValue (now (s .entry)) (now (t .entry)) i ⌝ }
 {
     if i < 64 {

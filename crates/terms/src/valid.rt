@@ -8,7 +8,7 @@ ghost use Rattle.terms.specs.Decide.{answer};
 ghost use Rattle.terms.specs.Entry.{Begins, termOf};
 ghost use Rattle.terms.specs.Atom.{atomsOf, NamedBack, AtomRight, wrongAtom};
 ghost use Rattle.terms.specs.TermEntry.{wrongEntry};
-ghost use Rattle.terms.specs.Limits.{listedKind, plainLimit, markedLimit, limitsOf, Within};
+ghost use Rattle.terms.specs.Limits.{listedKind, plainLimit, markedLimit, limitsOf, ByTables};
 ghost use Rattle.terms.specs.Each.{Each};
 ghost use Rattle.terms.specs.OneTerm.{HasSymbol, oneTerm?, encryption?};
 ghost use Rattle.terms.specs.Count.{tagsOf, areTerms};
@@ -117,7 +117,7 @@ fn limits(kind: u8, count: usize) -> [usize; 6]
 // number has not less than its tag's least kind.
 fn right_entry(atoms: &[u8], limits: &[usize; 6], least: &[u8; 6], e: &[u8]) -> bool
     requires { ⌜ (4 ≤ length (now e)) × (length (now limits) ≡ 6) × (length (now least) ≡ 6) ⌝ }
-    ensures { λ r. ⌜ Says r (Within (atomsOf (now (atoms .entry))) (now (limits .entry)) (now (least .entry)) (now (e .entry))) ⌝ }
+    ensures { λ r. ⌜ Says r (ByTables (atomsOf (now (atoms .entry))) (now (limits .entry)) (now (least .entry)) (now (e .entry))) ⌝ }
 {
     if e[1] != 0 {
         return false;

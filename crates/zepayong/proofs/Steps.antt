@@ -10,9 +10,9 @@ use Rattle.zepayong.specs.declared.step.Step.{Step}
 use Rattle.zepayong.specs.declared.step.Step.the-variants.{Bytes, Nothing, Interrupted, Failed}
 use Rattle.zepayong.specs.declared.transfer.Input.{Input}
 use Rattle.zepayong.specs.declared.transfer.Input.the-variants.{Came}
-use Rattle.zepayong.specs.Transfer.{stepOf, Within, Inside}
+use Rattle.zepayong.specs.Transfer.{stepOf, CallWithin, InputWithin}
 
-pub within-more : (s : Step) (a b : ℕ) → Within s a → a ≤ b → Within s b
+pub within-more : (s : Step) (a b : ℕ) → CallWithin s a → a ≤ b → CallWithin s b
 within-more (Bytes n) a b w l = omega arith
 within-more Nothing a b w l = tt
 within-more Interrupted a b w l = tt
@@ -25,8 +25,8 @@ module _ (negative : Bool) (count : ℕ) (interrupted : Bool) (n : negative ≡ 
   pub bytes-said : (count ≡ 0 → ⊥) → Bytes count ≡ stepOf negative count interrupted
   bytes-said e = rw (n, ne-eqb count 0 e)
 
-pub bytes-within : (s : Step) (n most : ℕ) → s ≡ Bytes n → Within s most → n ≤ most
+pub bytes-within : (s : Step) (n most : ℕ) → s ≡ Bytes n → CallWithin s most → n ≤ most
 bytes-within s n most e w = rw e at w
 
-pub came-inside : (i : Input) (n : ℕ) (buffer : List ℕ) → i ≡ Came n → Inside i buffer → Counts n buffer
+pub came-inside : (i : Input) (n : ℕ) (buffer : List ℕ) → i ≡ Came n → InputWithin i buffer → Counts n buffer
 came-inside i n buffer e inside = rw e at inside

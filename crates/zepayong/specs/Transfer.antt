@@ -15,13 +15,13 @@ stepOf negative count interrupted =
     cond negative (cond interrupted Interrupted Failed) (cond (eqb count 0) Nothing (Bytes count))
 
 -- It moved at most so many bytes.
-abbrev pub Within : Step → ℕ → Type 0
-Within (Bytes n) most = n ≤ most
-Within Nothing most = Unit {0}
-Within Interrupted most = Unit {0}
-Within Failed most = Unit {0}
+abbrev pub CallWithin : Step → ℕ → Type 0
+CallWithin (Bytes n) most = n ≤ most
+CallWithin Nothing most = Unit {0}
+CallWithin Interrupted most = Unit {0}
+CallWithin Failed most = Unit {0}
 
 -- What came stands at the start of the buffer.
-abbrev pub Inside : Input → List ℕ → Type 0
-Inside (input.Came n) buffer = Counts n buffer
-Inside input.Failed buffer = Unit {0}
+abbrev pub InputWithin : Input → List ℕ → Type 0
+InputWithin (input.Came n) buffer = Counts n buffer
+InputWithin input.Failed buffer = Unit {0}

@@ -3,7 +3,7 @@
 mod step;
 mod transfer;
 
-ghost use Rattle.zepayong.specs.Transfer.{Inside};
+ghost use Rattle.zepayong.specs.Transfer.{InputWithin};
 use judge::judging::judge;
 use judge::line::print_line;
 use transfer::Input;
@@ -28,7 +28,7 @@ fn answer(file: &[u8]) {
 
 // Judges the bytes that came.
 fn answer_input(buf: &[u8], input: Input)
-    requires { ⌜ Inside input (now buf) ⌝ }
+    requires { ⌜ InputWithin input (now buf) ⌝ }
 {
     match input {
         Input::Came(count) => answer(&buf[..count]),

@@ -1,6 +1,6 @@
 // What one call of read or write did, as its answer says.
 ghost use mathlib.Core.Path.{_≡_};
-ghost use Rattle.zepayong.specs.Transfer.{stepOf, Within};
+ghost use Rattle.zepayong.specs.Transfer.{stepOf, CallWithin};
 
 pub enum Step {
     // It moved so many bytes.
@@ -15,7 +15,7 @@ pub enum Step {
 // What a call's answer says, by its sign, the bytes it counts, and whether the error that it left is an interruption.
 pub fn said(negative: bool, count: usize, interrupted: bool) -> Step
     ensures { λ r. ⌜ r ≡ stepOf negative count interrupted ⌝ }
-    ensures { λ r. ⌜ Within r count ⌝ }
+    ensures { λ r. ⌜ CallWithin r count ⌝ }
 {
     if negative {
         if interrupted {

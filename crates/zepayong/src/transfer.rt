@@ -1,6 +1,6 @@
 // Reading and writing to the end.
 ghost use lib.ListN.{length};
-ghost use Rattle.zepayong.specs.Transfer.{Within, Inside};
+ghost use Rattle.zepayong.specs.Transfer.{CallWithin, InputWithin};
 use crate::step::Step;
 use crate::step::said;
 use libc::STDIN_FILENO;
@@ -15,7 +15,7 @@ pub enum Input {
 
 // One read into the buffer.
 fn read_some(buf: &mut [u8]) -> Step
-    ensures { λ r. ⌜ Within r (length (now (buf .entry))) ⌝ }
+    ensures { λ r. ⌜ CallWithin r (length (now (buf .entry))) ⌝ }
 {
     let got = libc::read(STDIN_FILENO, buf);
     said(got < 0, io::count(got, buf), os::errno() == libc::EINTR)
@@ -23,7 +23,7 @@ fn read_some(buf: &mut [u8]) -> Step
 
 // One write of the bytes.
 fn write_some(bytes: &[u8]) -> Step
-    ensures { λ r. ⌜ Within r (length (now (bytes .entry))) ⌝ }
+    ensures { λ r. ⌜ CallWithin r (length (now (bytes .entry))) ⌝ }
 {
     let got = libc::write(STDOUT_FILENO, bytes);
     said(got < 0, io::count(got, bytes), os::errno() == libc::EINTR)
@@ -32,7 +32,7 @@ fn write_some(bytes: &[u8]) -> Step
 // Reads until the buffer is full or a read says that the input has ended. An interrupted read is made again; the turns
 // are counted because a loop has to end, and no run uses them up.
 pub fn read_all(buf: &mut [u8]) -> Input
-    ensures { λ r. ⌜ Inside r (now (buf .exit)) ⌝ }
+    ensures { λ r. ⌜ InputWithin r (now (buf .exit)) ⌝ }
 {
     let size = buf.len();
     let mut done = 0;

@@ -2,7 +2,7 @@
 use mathlib.Core.Path.{ap, _∙_}
 use Rattle.judge.specs.Judgement.{judgedOf}
 use Rattle.judge.specs.declared.verdict.Fault.the-variants.{KnownSecret, NotClosed, KeyNotKept}
-use Rattle.judge.proofs.LayoutLaws.{judged-some}
+use Rattle.judge.proofs.FormLaws.{judged-some}
 use Rattle.judge.proofs.JudgingLaws.{found-some, found-none, found-block, certificate-known, certificate-closed, certificate-key, certificate-rule}
 use borrow.Author.Needs.{needs}
 use Rattle.judge.proofs.judging.certificate_fault.Statement.{statement}

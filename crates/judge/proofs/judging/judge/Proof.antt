@@ -1,5 +1,5 @@
 -- `judge::judging::judge` meets its contract. Assumes nothing.
-use Rattle.judge.proofs.LayoutLaws.{fine-none, faulty-some}
+use Rattle.judge.proofs.FormLaws.{fine-none, faulty-some}
 use Rattle.judge.proofs.JudgingLaws.{fault-none, verdict-refused, verdict-accepted}
 use borrow.Author.Needs.{needs}
 use Rattle.judge.proofs.judging.judge.Statement.{statement}

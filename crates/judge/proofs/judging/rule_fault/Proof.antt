@@ -5,11 +5,11 @@ use Prim.Native.Nat.{_-_, _≤_}
 use Rattle.blocks.specs.Block.{firstEntries, secondEntries}
 use Rattle.judge.specs.Cover.{NoHat}
 use Rattle.judge.specs.Listed.{SharesBad}
-use Rattle.judge.specs.CoverEntries.{Before}
+use Rattle.judge.specs.CoverEntries.{Carried}
 use Rattle.judge.specs.File.{blockCount, certificateOf}
 use Rattle.judge.specs.Verdict.{firstFault, onKind, uncoveredRule, ruleFault}
 use Rattle.judge.proofs.Heads.{heads}
-use Rattle.judge.proofs.LayoutLaws.{fine-none, faulty-some, judged-none, judged-some, first-stop, first-more, first-end}
+use Rattle.judge.proofs.FormLaws.{fine-none, faulty-some, judged-none, judged-some, first-stop, first-more, first-end}
 use Rattle.judge.proofs.JudgingLaws.{rule-start}
 use Rattle.judge.proofs.Repeats.{nothing-before}
 use Rattle.judge.proofs.judging.rule_fault.Statement.{statement}
@@ -18,7 +18,7 @@ use Rattle.judge.proofs.judging.rule_fault.Tie as tie
 abbrev Inv-loop : tie.InvT-loop
 Inv-loop file n head roots sizes count above₀ shared₀ i₀ above shared i =
     (i ≤ blockCount file) × (firstFault (onKind 5 (uncoveredRule (certificateOf file)) file) i (blockCount file - i) ≡ ruleFault (certificateOf file) file)
-    × Before firstEntries (NoHat (certificateOf head)) file i above × Before secondEntries (SharesBad (certificateOf head)) file i shared
+    × Carried firstEntries (NoHat (certificateOf head)) file i above × Carried secondEntries (SharesBad (certificateOf head)) file i shared
 
 abbrev μ-loop : tie.MeasureT-loop
 μ-loop file n head roots sizes count above₀ shared₀ i₀ above shared i = blockCount file - i

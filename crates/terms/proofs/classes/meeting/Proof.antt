@@ -3,7 +3,7 @@ use mathlib.Core.Path.{sym, _∙_}
 use mathlib.Core.Logic.{inl, inr}
 use native.Mathlib.Omega.{arith}
 use Rattle.terms.specs.Meeting.{Symbols, both-symbols}
-use Rattle.terms.specs.TermGraph.{Inside}
+use Rattle.terms.specs.TermGraph.{OwnEntry}
 use Rattle.terms.specs.TermGraphLaws.{symbol-inside, home-symbol}
 use Rattle.terms.proofs.classes.meeting.Statement.{statement}
 use Rattle.terms.proofs.classes.meeting.Tie as tie
@@ -12,10 +12,10 @@ use Rattle.terms.proofs.classes.meeting.Tie as tie
 both : (c : tie.Else1) → let args = c .before .before .before .args in Symbols (args .s .now) (args .t .now) (args .a) (args .b)
 both c = let pre = c .before .before .before .pre in both-symbols (pre .1) (pre .2) (pre .3) (c .if1 .left)
 
-first : (c : tie.Else1) → let args = c .before .before .before .args in Inside (args .s .now) (args .t .now) (args .a)
+first : (c : tie.Else1) → let args = c .before .before .before .args in OwnEntry (args .s .now) (args .t .now) (args .a)
 first c = let pre = c .before .before .before .pre in symbol-inside (pre .0) (home-symbol (pre .1) (c .if1 .left))
 
-second : (c : tie.Else1) → let args = c .before .before .before .args in Inside (args .s .now) (args .t .now) (args .b)
+second : (c : tie.Else1) → let args = c .before .before .before .args in OwnEntry (args .s .now) (args .t .now) (args .b)
 second c = let pre = c .before .before .before .pre in symbol-inside (pre .0) (home-symbol (pre .2) (omega (arith, pre .3, c .if1 .left)))
 
 pub meeting-spec : {M : Type 1} → statement M

@@ -5,13 +5,13 @@ use native.Mathlib.Omega.{arith}
 use lib.ListN.{length}
 use borrow.Author.Tests.{not-false, not-true}
 use borrow.Author.Needs.{needs}
-use Rattle.terms.specs.Ending.{ParentEnds, Kept, EachFrom, each-none, each-down, yes-kept, no-way, kept-same, kept-both, below-kept}
+use Rattle.terms.specs.Ending.{ParentEnds, MarksKept, EachFrom, each-none, each-down, yes-kept, no-way, kept-same, kept-both, below-kept}
 use Rattle.terms.proofs.ending.side_ends.Statement.{statement}
 use Rattle.terms.proofs.ending.side_ends.Tie as tie
 
 abbrev Inv-loop : tie.InvT-loop
 Inv-loop s t zs zt c marks₀ low high left₀ marks left =
-    (low ≤ left) × (left ≤ high) × (length marks ≡ 128) × Kept s t c marks₀ marks × EachFrom (ParentEnds s t c) left high
+    (low ≤ left) × (left ≤ high) × (length marks ≡ 128) × MarksKept s t c marks₀ marks × EachFrom (ParentEnds s t c) left high
 
 abbrev μ-loop : tie.MeasureT-loop
 μ-loop s t zs zt c marks₀ low high left₀ marks left = left

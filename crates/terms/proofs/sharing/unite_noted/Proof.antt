@@ -4,7 +4,7 @@ use Prim.Native.Nat.{_≤_, _-_}
 use native.Mathlib.Omega.{arith}
 use borrow.Author.Tests.{not-false, not-true}
 use borrow.Author.Needs.{needs}
-use Rattle.terms.specs.Graph.{Step}
+use Rattle.terms.specs.Graph.{ClassStep}
 use Rattle.terms.specs.GraphLaws.{Any, done, failed}
 use Rattle.terms.specs.TermGraph.{nodeOf, home, AtHome}
 use Rattle.terms.specs.TermGraphLaws.{home-left, home-right}
@@ -15,7 +15,7 @@ use Rattle.terms.proofs.sharing.unite_noted.Statement.{statement}
 use Rattle.terms.proofs.sharing.unite_noted.Tie as tie
 
 abbrev Inv-loop : tie.InvT-loop
-Inv-loop s t zs zt m n c₀ k₀ c k = (k ≤ n) × Linked s t c × Step (nodeOf s t) Any (nameOf c₀) (nameOf c) (AllEqual s t m k)
+Inv-loop s t zs zt m n c₀ k₀ c k = (k ≤ n) × Linked s t c × ClassStep (nodeOf s t) Any (nameOf c₀) (nameOf c) (AllEqual s t m k)
 
 abbrev μ-loop : tie.MeasureT-loop
 μ-loop s t zs zt m n c₀ k₀ c k = n - k
