@@ -6,7 +6,7 @@ use Prim.Native.Nat.{ℕ, zero, suc}
 use Prim.Native.String.{String}
 use Rattle.blocks.specs.Block.{blockAt}
 use Rattle.blocks.specs.Check.{sealed}
-use Rattle.terms.specs.Term.{Term, Variable, variable, atom, pair, encrypted, plain, marked}
+use Rattle.terms.specs.Term.{Term, Variable, variable, atom, pair, encrypted, plain, marked, named}
 use Rattle.terms.specs.Entry.{termEntries, size}
 use Rattle.terms.specs.Instance.{Share}
 use Rattle.terms.specs.Decide.{yes-of, no-of, share?, variable?}
@@ -82,13 +82,13 @@ abbrev T : Term Variable
 T = atom 7
 
 abbrev x : Term Variable
-x = variable (plain 0)
+x = variable (named plain 0)
 
 abbrev y : Term Variable
-y = variable (plain 1)
+y = variable (named plain 1)
 
 abbrev s : Term Variable
-s = variable (marked 0)
+s = variable (named marked 0)
 
 -- "Secrets N and 3; good {*s}2, unless said."
 usual : List (List ℕ) → List ℕ

@@ -13,11 +13,12 @@ use lib.ListN.{length, getD, drop}
 use Rattle.blocks.specs.Block.{firstCount, secondCount, firstEntries, secondEntries}
 use Rattle.terms.specs.declared.valid.Found.{Found}
 use Rattle.terms.specs.declared.valid.Found.the-variants.{Nothing}
-use Rattle.terms.specs.Term.{Term, Variable, variable, plain, marked}
+use Rattle.terms.specs.Term.{Term, Variable, variable, named}
+use Rattle.terms.specs.Tag.{VariableTag, SymbolTag, sort-tag}
 use Rattle.terms.specs.Place.{Place}
 use Rattle.terms.specs.Entry.{size, termOf, tagAt, valueAt, Reads, Begins}
-use Rattle.terms.specs.EntryLaws.{First, first-atom, first-pair, first-encrypted, first-plain, first-marked, first, termOf-reads, fits, suffix}
-use Rattle.terms.specs.EntryLaws.{reads-plain, reads-marked}
+use Rattle.terms.specs.EntryLaws.{First, first-atom, first-pair, first-encrypted, first-variable, first, termOf-reads, fits, suffix}
+use Rattle.terms.specs.EntryLaws.{reads-variable}
 use Rattle.terms.specs.WalkLaws.{from}
 use Rattle.terms.specs.Solve.{Says, says-same}
 use Rattle.terms.specs.Decide.{answer-yes, answer-no}
@@ -74,24 +75,22 @@ module _ {e flags : List ℕ} {P : Term Variable → Type 0} where
 
 -- A risky place: a variable, or what the search for a secret says.
 module _ (c : Certificate) {t : List ℕ} (b : Begins t) where
-  pub risky-variable : 3 < tagAt t → Risky c (termOf t)
+  pub risky-variable : VariableTag (tagAt t) → Risky c (termOf t)
   risky-variable tag = go (first (b .reads))
     where
       go : First (tagAt t) (valueAt t) (drop 4 t) (b .term ∷ b .others) → Risky c (termOf t)
-      go (first-plain g n q k) = risky-is c (termOf t) .1 (inl (_, termOf-reads (rw q at (b .reads))))
-      go (first-marked g n q k) = risky-is c (termOf t) .1 (inl (_, termOf-reads (rw q at (b .reads))))
+      go (first-variable g v n q k) = risky-is c (termOf t) .1 (inl (_, termOf-reads (rw q at (b .reads))))
       go (first-atom g q k) = absurd (omega arith)
       go (first-pair g n q k) = absurd (omega arith)
       go (first-encrypted g q k) = absurd (omega arith)
 
-  no-variable : tagAt t ≤ 3 → (x : Variable) → ¬ (termOf t ≡ variable x)
+  no-variable : SymbolTag (tagAt t) → (x : Variable) → ¬ (termOf t ≡ variable x)
   no-variable tag x is = go x (term-reads b is)
     where
       go : (x : Variable) → Reads t (variable x ∷ b .others) → ⊥
-      go (plain n) r = let g = reads-plain r .0 in omega arith
-      go (marked n) r = let g = reads-marked r .0 in omega arith
+      go (named s n) r = let g = sort-tag s (reads-variable r .0) in omega arith
 
-  pub risky-secret : tagAt t ≤ 3 → (r : Bool) → Says r (SharesListed c 2 (termOf t)) → Says r (Risky c (termOf t))
+  pub risky-secret : SymbolTag (tagAt t) → (r : Bool) → Says r (SharesListed c 2 (termOf t)) → Says r (Risky c (termOf t))
   risky-secret tag r says = says-same r (λ h. risky-is c (termOf t) .1 (inr h)) (λ h. go (risky-is c (termOf t) .0 h)) says
     where
       go : ((x : Variable) × (termOf t ≡ variable x)) ⊎ SharesListed c 2 (termOf t) → SharesListed c 2 (termOf t)

@@ -17,7 +17,7 @@ use Rattle.terms.specs.Laws.{by-turns}
 use Rattle.terms.specs.Instance.{Matches, Share}
 use Rattle.terms.specs.Decisions.{dec-or}
 use Rattle.terms.specs.Proper.{Built, built-match, built-share}
-use Rattle.terms.specs.TermLaws.{TermRight, atomRight, pairRight, encryptedRight, plainRight, markedRight, MessageAtom}
+use Rattle.terms.specs.TermLaws.{TermRight, secret-bare, atomRight, pairRight, encryptedRight, variableRight, MessageAtom}
 use Rattle.judge.specs.Certificate.{Certificate, Rule, Listed}
 use Rattle.judge.specs.File.{patternOf, secretOf, ruleOf, certificateOf, fileAtoms}
 use Rattle.judge.specs.Meaning.{Formed}
@@ -35,8 +35,7 @@ unfolding Built
 right-built (atomRight l) = l
 right-built (pairRight w v) = (right-built w, right-built v)
 right-built (encryptedRight i w) = (i, right-built w)
-right-built (plainRight l k) = tt
-right-built (markedRight l k) = tt
+right-built (variableRight l k) = tt
 
 secret-built : {atoms : List Atom} {kind : ℕ} {t : Term Variable} → kind ≡ 2 → TermRight atoms kind t
     → Built (λ a. a < length atoms) (IsKey atoms) (instance (λ x. atom 0) t)
@@ -44,8 +43,7 @@ unfolding Built replace
 secret-built k (atomRight l) = l
 secret-built k (pairRight w v) = (secret-built k w, secret-built k v)
 secret-built k (encryptedRight i w) = (i, secret-built k w)
-secret-built k (plainRight l n) = absurd (n k)
-secret-built k (markedRight l n) = absurd (omega arith)
+secret-built k (variableRight {s = s} l n) = absurd (secret-bare s k n)
 
 -- Of other atoms and keys.
 module _ {A B K L : ℕ → Type 0} (atoms : (a : ℕ) → A a → B a) (keys : (k : ℕ) → K k → L k) where

@@ -7,11 +7,12 @@ use Prim.Native.Nat.{ℕ, _+_, _*_, _<_, _≤_}
 use native.Mathlib.Omega.{arith}
 use borrow.Rule.Slice.PartAt.{part-to-end}
 use lib.ListN.{length, drop, length-drop}
-use Rattle.terms.specs.Term.{Term, Variable, variable, atom, pair, encrypted, plain, marked, replace}
+use Rattle.terms.specs.Term.{Term, Variable, variable, atom, pair, encrypted, Sort, plain, marked, named, replace}
+use Rattle.terms.specs.Tag.{pairTag, encryptionTag, markedTag, sortTag}
 use Rattle.terms.specs.Place.{Turn, Place, left, right, inside, subtermAt}
 use Rattle.terms.specs.Instance.{Matches}
 use Rattle.terms.specs.Entry.{size, termOf, tagAt, valueAt, Reads, Begins}
-use Rattle.terms.specs.EntryLaws.{First, first-atom, first-pair, first-encrypted, first-plain, first-marked, first, termOf-reads, begins, fits}
+use Rattle.terms.specs.EntryLaws.{First, first-atom, first-pair, first-encrypted, first-variable, first, termOf-reads, begins, fits}
 use Rattle.terms.specs.WalkLaws.{from, PairFirst, pair-first, right-begins, EncryptionFirst, encryption-first}
 use Rattle.terms.specs.OneTerm.{IsEncryption}
 use Rattle.terms.specs.TermGraph.{rightIn}
@@ -25,7 +26,7 @@ use Rattle.judge.proofs.Flags.{painted-raised, raised-none, raised-as, 
 
 -- What stands at a place is a marked variable: not at the root of another term.
 module _ {h k : ℕ} where
-  pub mark-marked : (x : ℕ) (u : Term Variable) → MarkOver (variable (marked x)) u h k ↔ ((h ≤ k) × (k < h + size u))
+  pub mark-marked : (x : ℕ) (u : Term Variable) → MarkOver (variable (named marked x)) u h k ↔ ((h ≤ k) × (k < h + size u))
   unfolding subtermAt entryAt
   mark-marked x u = (
     λ m. to (m .place) (m .stands) (m .under) (m .low) (m .high),
@@ -40,18 +41,18 @@ module _ {h k : ℕ} where
     },
   )
     where
-      to : (p : Place) {n : ℕ} {s : Term Variable} → subtermAt p (variable (marked x)) ≡ some (variable (marked n)) → subtermAt p u ≡ some s
+      to : (p : Place) {n : ℕ} {s : Term Variable} → subtermAt p (variable (named marked x)) ≡ some (variable (named marked n)) → subtermAt p u ≡ some s
           → h + entryAt p u ≤ k → k < h + entryAt p u + size s → (h ≤ k) × (k < h + size u)
       to [] {n} {s} e f l g = let same : s ≡ u = cc in let is : size s ≡ size u = ap size same in (omega arith, omega arith)
       to (left ∷ p) e f l g = absurd (Option·none-ne-some _ e)
       to (right ∷ p) e f l g = absurd (Option·none-ne-some _ e)
       to (inside ∷ p) e f l g = absurd (Option·none-ne-some _ e)
 
-  pub mark-plain : (x : ℕ) (u : Term Variable) → ¬ MarkOver (variable (plain x)) u h k
+  pub mark-plain : (x : ℕ) (u : Term Variable) → ¬ MarkOver (variable (named plain x)) u h k
   unfolding subtermAt
   mark-plain x u m = go (m .place) (m .stands)
     where
-      go : (p : Place) → subtermAt p (variable (plain x)) ≡ some (variable (marked (m .number))) → ⊥
+      go : (p : Place) → subtermAt p (variable (named plain x)) ≡ some (variable (named marked (m .number))) → ⊥
       go [] e = let z : _≡_ {A = ℕ} 0 1 = cc in omega arith
       go (left ∷ p) e = Option·none-ne-some _ e
       go (right ∷ p) e = Option·none-ne-some _ e
@@ -61,7 +62,7 @@ module _ {h k : ℕ} where
   unfolding subtermAt
   mark-atom a u m = go (m .place) (m .stands)
     where
-      go : (p : Place) → subtermAt p (atom a) ≡ some (variable (marked (m .number))) → ⊥
+      go : (p : Place) → subtermAt p (atom a) ≡ some (variable (named marked (m .number))) → ⊥
       go [] e = let z : _≡_ {A = ℕ} 0 1 = cc in omega arith
       go (left ∷ p) e = Option·none-ne-some _ e
       go (right ∷ p) e = Option·none-ne-some _ e
@@ -88,7 +89,7 @@ module _ {h k : ℕ} where
     turned inside (λ p. refl) (λ p. refl) (λ p. omega arith),
   )
     where
-      to : (p : Place) {n : ℕ} {s : Term Variable} → subtermAt p (encrypted i a) ≡ some (variable (marked n)) → subtermAt p (encrypted j c) ≡ some s
+      to : (p : Place) {n : ℕ} {s : Term Variable} → subtermAt p (encrypted i a) ≡ some (variable (named marked n)) → subtermAt p (encrypted j c) ≡ some s
           → h + entryAt p (encrypted j c) ≤ k → k < h + entryAt p (encrypted j c) + size s → MarkOver a c (h + 1) k
       to [] e f l g = let z : _≡_ {A = ℕ} 0 1 = cc in absurd (omega arith)
       to (left ∷ p) e f l g = absurd (Option·none-ne-some _ e)
@@ -99,7 +100,7 @@ module _ {h k : ℕ} where
   unfolding subtermAt entryAt
   mark-pair a b c d = (λ m. to (m .place) (m .stands) (m .under) (m .low) (m .high), back)
     where
-      to : (p : Place) {n : ℕ} {s : Term Variable} → subtermAt p (pair a b) ≡ some (variable (marked n)) → subtermAt p (pair c d) ≡ some s
+      to : (p : Place) {n : ℕ} {s : Term Variable} → subtermAt p (pair a b) ≡ some (variable (named marked n)) → subtermAt p (pair c d) ≡ some s
           → h + entryAt p (pair c d) ≤ k → k < h + entryAt p (pair c d) + size s → MarkOver a c (h + 1) k ⊎ MarkOver b d (h + 1 + size c) k
       to [] e f l g = let z : _≡_ {A = ℕ} 0 1 = cc in absurd (omega arith)
       to (inside ∷ p) e f l g = absurd (Option·none-ne-some _ e)
@@ -116,7 +117,7 @@ mark-place {t} {u} {s} {good} {h} {k} {q} {p} high low match = (to, back)
   where
     to : Mark good q p → MarkOver good u h k
     to m =
-        let v = replace (match .by) (variable (marked (m .number))) in
+        let v = replace (match .by) (variable (named marked (m .number))) in
         let under : subtermAt (m .place) u ≡ some v = rw (match .same) at (subtermAt-replace (match .by) (m .place) good (m .stands)) in
         let b = at-or-above-entry (placed-below high (placed (m .place) u under)) low .0 (m .above) in
         record { number = m .number; place = m .place; subterm = v; stands = m .stands; under = under; low = b .0; high = b .1 }
@@ -184,7 +185,7 @@ module _ {p e : List ℕ} {h : ℕ} (l : Laying p e h) where
     pub left-match : Matches (first .left) c
     pub right-match : Matches (first .right) d
 
-  pub pair-laid : tagAt p ≡ 2 → PairLaid
+  pub pair-laid : tagAt p ≡ pairTag → PairLaid
   unfolding replace
   pair-laid tag =
       let f = pair-first (l .pattern) tag in
@@ -259,7 +260,7 @@ module _ {p e : List ℕ} {h : ℕ} (l : Laying p e h) where
     pub content-term : Reads (drop (4 * (h + 1)) e) (c ∷ more)
     pub content-match : Matches (first .content) c
 
-  pub encryption-laid : tagAt p ≡ 3 → EncryptionLaid
+  pub encryption-laid : tagAt p ≡ encryptionTag → EncryptionLaid
   unfolding replace
   encryption-laid tag =
       let f = encryption-first (l .pattern) tag in
@@ -292,25 +293,34 @@ module _ {p e : List ℕ} {h : ℕ} (l : Laying p e h) where
             rw (termOf-reads (w .first .below), termOf-reads (w .first .whole), content-is, w .term) (m .1, m .0)
 
   -- A mark: every entry of the term is at or below it.
-  pub mark-raised : tagAt p ≡ 5 → {a b : List ℕ} {r : ℕ} → r ≡ size (subAt e h) → Painted a b h (h + r) 1 → Raised a b (MarkOver (termOf p) (subAt e h) h)
+  pub mark-raised : tagAt p ≡ markedTag → {a b : List ℕ} {r : ℕ} → r ≡ size (subAt e h) → Painted a b h (h + r) 1 → Raised a b (MarkOver (termOf p) (subAt e h) h)
+  unfolding sortTag
   mark-raised tag {a} {b} {r} is painted = raised-as (painted-raised painted) (λ k. go k (first (l .pattern .reads)))
     where
+      marked-sort : (s : Sort) → tagAt p ≡ sortTag s → s ≡ marked
+      marked-sort plain g = absurd (omega arith)
+      marked-sort marked g = refl
+
       go : (k : ℕ) → First (tagAt p) (valueAt p) (drop 4 p) (l .pattern .term ∷ l .pattern .others)
           → ((h ≤ k) × (k < h + r)) ↔ MarkOver (termOf p) (subAt e h) h k
-      go k (first-marked g n q m) =
-          let w = mark-marked {h = h} {k = k} (valueAt p) (subAt e h) in rw (termOf-reads (rw q at (l .pattern .reads)), is) (w .1, w .0)
+      go k (first-variable {s = s} g v n q m) =
+          let w = mark-marked {h = h} {k = k} (valueAt p) (subAt e h) in
+          rw (termOf-reads (rw q at (l .pattern .reads)), marked-sort s g, is) (w .1, w .0)
       go k (first-atom g q m) = absurd (omega arith)
       go k (first-pair g n q m) = absurd (omega arith)
       go k (first-encrypted g q m) = absurd (omega arith)
-      go k (first-plain g n q m) = absurd (omega arith)
 
   -- Any other symbol has no mark.
-  pub no-mark : ¬ (tagAt p ≡ 2) → ¬ (tagAt p ≡ 3) → ¬ (tagAt p ≡ 5) → {a : List ℕ} → length a ≡ 64 → Raised a a (MarkOver (termOf p) (subAt e h) h)
+  pub no-mark : ¬ (tagAt p ≡ pairTag) → ¬ (tagAt p ≡ encryptionTag) → ¬ (tagAt p ≡ markedTag) → {a : List ℕ} → length a ≡ 64 → Raised a a (MarkOver (termOf p) (subAt e h) h)
+  unfolding sortTag
   no-mark no-pair no-encryption no-marked {a} long = raised-none long (λ k. go k (first (l .pattern .reads)))
     where
+      plain-sort : (s : Sort) → tagAt p ≡ sortTag s → s ≡ plain
+      plain-sort plain g = refl
+      plain-sort marked g = absurd (no-marked g)
+
       go : (k : ℕ) → First (tagAt p) (valueAt p) (drop 4 p) (l .pattern .term ∷ l .pattern .others) → ¬ MarkOver (termOf p) (subAt e h) h k
-      go k (first-marked g n q m) = absurd (no-marked g)
       go k (first-atom g q m) = rw (termOf-reads (rw q at (l .pattern .reads))) (mark-atom {h = h} {k = k} (valueAt p) (subAt e h))
       go k (first-pair g n q m) = absurd (no-pair g)
       go k (first-encrypted g q m) = absurd (no-encryption g)
-      go k (first-plain g n q m) = rw (termOf-reads (rw q at (l .pattern .reads))) (mark-plain {h = h} {k = k} (valueAt p) (subAt e h))
+      go k (first-variable {s = s} g v n q m) = rw (termOf-reads (rw q at (l .pattern .reads)), plain-sort s g) (mark-plain {h = h} {k = k} (valueAt p) (subAt e h))

@@ -14,8 +14,9 @@ use lib.ListN.{length, getD, drop, List·getD-eq-default}
 use borrow.Author.Tests.{eq-eqb, ne-eqb}
 use Rattle.blocks.specs.Block.{blockAt, kindOf, firstEntries}
 use Rattle.terms.specs.Term.{Term, Message, Variable, variable, atom, pair, encrypted, replace, asTerm}
+use Rattle.terms.specs.Tag.{atomTag, pairTag, encryptionTag}
 use Rattle.terms.specs.Entry.{Begins, Reads, termsOf, termOf, symbolOf, withZero, before, beforeAll, tagAt, valueAt, size}
-use Rattle.terms.specs.EntryLaws.{First, first-atom, first-pair, first-encrypted, first-plain, first-marked, first}
+use Rattle.terms.specs.EntryLaws.{First, first-atom, first-pair, first-encrypted, first-variable, first}
 use Rattle.terms.specs.EntryLaws.{reads-atom, reads-pair, reads-encrypted, termOf-reads}
 use Rattle.terms.specs.WalkLaws.{from, pair-first, encryption-first, right-begins}
 use Rattle.terms.specs.Atom.{Atom, atomsOf, atomAt, knownOf, length-atoms}
@@ -65,15 +66,14 @@ encrypted-message (encrypted j n) {k} e = let same : k ≡ j = cc in (n, rw same
 read : {e : List ℕ} (b : Begins e) {t : Term Variable} → termOf e ≡ t → Reads e (t ∷ b .others)
 read b is = let same = sym (termOf-reads (b .reads)) ∙ is in rw same at (b .reads)
 
-atom-first : {e : List ℕ} → Begins e → tagAt e ≡ 1 → termOf e ≡ atom (valueAt e)
+atom-first : {e : List ℕ} → Begins e → tagAt e ≡ atomTag → termOf e ≡ atom (valueAt e)
 atom-first {e} b is = go (first (b .reads))
   where
     go : First (tagAt e) (valueAt e) (drop 4 e) (b .term ∷ b .others) → termOf e ≡ atom (valueAt e)
     go (first-atom g q k) = termOf-reads (rw q at (b .reads))
     go (first-pair g n q k) = absurd (omega arith)
     go (first-encrypted g q k) = absurd (omega arith)
-    go (first-plain g n q k) = absurd (omega arith)
-    go (first-marked g n q k) = absurd (omega arith)
+    go (first-variable g v n q k) = absurd (omega arith)
 
 -- The entry of an atom, alone.
 pub one-atom : (a : ℕ) → Reads (1 ∷ 0 ∷ a % 256 ∷ a / 256 ∷ []) (atom a ∷ [])
@@ -107,7 +107,7 @@ module _ (c : Certificate) where
 
   module _ {e : List ℕ} (b : Begins e) (m : Message) (message : termOf e ≡ asTerm m) where
     -- With a pair: the left half, and then the right one.
-    module _ (tag : tagAt e ≡ 2) {t : Bool} (left : t ≡ answer (is-secret? c (termOf (from 4 e)))) where
+    module _ (tag : tagAt e ≡ pairTag) {t : Bool} (left : t ≡ answer (is-secret? c (termOf (from 4 e)))) where
       abbrev halves : (l : Message) × (r : Message) × (m ≡ pair l r) × (pair-first b tag .left ≡ asTerm l) × (pair-first b tag .right ≡ asTerm r)
       halves = pair-message m (sym (termOf-reads (pair-first b tag .whole)) ∙ message)
 
@@ -125,7 +125,7 @@ module _ (c : Certificate) where
           (says-no t left-says h) (secret-says (from (4 * (1 + r)) e) (halves .1) (there ∙ halves .4) u right)
 
     -- With {m}k: the content, and then the key.
-    module _ (tag : tagAt e ≡ 3) {t : Bool} (content : t ≡ answer (is-secret? c (termOf (from 4 e)))) where
+    module _ (tag : tagAt e ≡ encryptionTag) {t : Bool} (content : t ≡ answer (is-secret? c (termOf (from 4 e)))) where
       abbrev inner : (n : Message) × (m ≡ encrypted (valueAt e) n) × (encryption-first b tag .content ≡ asTerm n)
       inner = encrypted-message m (sym (termOf-reads (encryption-first b tag .whole)) ∙ message)
 
@@ -141,12 +141,12 @@ module _ (c : Certificate) where
           second u (λ w. w .ofEncrypted (inner .0) k is) (closed-encrypted is) (says-no t content-says h) key
 
     -- 9: no other tag is an atom's.
-    pub known-other : ¬ (tagAt e ≡ 1) → ¬ KnownAtom c m
+    pub known-other : ¬ (tagAt e ≡ atomTag) → ¬ KnownAtom c m
     unfolding asTerm replace
     known-other off w = off (reads-atom (read b (message ∙ ap asTerm (w .same))) .0)
 
     -- 10: with an atom there is nothing to ask.
-    pub closed-atom : ¬ (tagAt e ≡ 2) → ¬ (tagAt e ≡ 3) → WeaklyClosed c m
+    pub closed-atom : ¬ (tagAt e ≡ pairTag) → ¬ (tagAt e ≡ encryptionTag) → WeaklyClosed c m
     unfolding asTerm replace
     closed-atom off off′ = record {
       ofPair = λ l r is. absurd (off (reads-pair (read b (message ∙ ap asTerm is)) .0));
@@ -181,7 +181,7 @@ module _ (file : List ℕ) {b : List ℕ} (atoms : b ≡ firstEntries (blockAt f
     pub known-away : {n : ℕ} → n ≡ valueAt e → length b / 4 ≤ n → ¬ KnownAtom (certificateOf file) m
     known-away is away w = let k = known-number w in let v = k .1 in let l = k .2 in omega arith
 
-    pub known-says : tagAt e ≡ 1 → {n : ℕ} → n ≡ valueAt e → n < length b / 4
+    pub known-says : tagAt e ≡ atomTag → {n : ℕ} → n ≡ valueAt e → n < length b / 4
         → Says (eqb (getD b (4 * n + 1) 0) 1) (KnownAtom (certificateOf file) m)
     unfolding asTerm replace
     known-says tag {n} is inside = says-same (eqb (getD b (4 * n + 1) 0) 1)

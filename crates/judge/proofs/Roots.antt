@@ -12,12 +12,15 @@ use borrow.Rule.Slice.PartAt.{part-to-end}
 use lib.ListN.{length, getD, set, drop}
 use lib.Seq.{getD-set-same, getD-set-other, getD-drop}
 use Rattle.blocks.specs.Block.{blockAt, kindOf, firstEntries}
-use Rattle.terms.specs.Term.{Term, Message, Variable, variable, atom, pair, encrypted, plain, marked, replace, asTerm}
+use Rattle.terms.specs.Term.{Term, Message, Variable, variable, atom, pair, encrypted, Sort, named, replace, asTerm}
+use Rattle.terms.specs.Tag.{atomTag, pairTag, encryptionTag, sortTag, VariableTag, SymbolTag, sort-tag, sort-tagged}
+use Rattle.terms.specs.Tag.{Tagged, isAtom, isPair, isEncryption, isVariable, isNone, tagged}
+use Rattle.terms.specs.Slot.{slotCount}
 use Rattle.terms.specs.Instance.{Matches, Share}
 use Rattle.terms.specs.Laws.{replace-asTerm}
 use Rattle.terms.specs.Occurs.{replace-twice}
 use Rattle.terms.specs.Entry.{Begins, termOf, tagAt, valueAt}
-use Rattle.terms.specs.EntryLaws.{First, first, first-atom, first-pair, first-encrypted, first-plain, first-marked, termOf-reads, begins}
+use Rattle.terms.specs.EntryLaws.{First, first, first-atom, first-pair, first-encrypted, first-variable, termOf-reads, begins}
 use Rattle.terms.specs.WalkLaws.{from, pair-first}
 use Rattle.terms.specs.FrontLaws.{from-length}
 use Rattle.terms.specs.Roots.{tags-apart, values-apart}
@@ -27,68 +30,83 @@ use Rattle.judge.specs.Laid.{Laid, SecretBlock}
 use Rattle.terms.specs.Solve.{Says, says-same}
 use Rattle.terms.specs.Decide.{answer}
 use Rattle.judge.proofs.ListedLaws.{answer-says}
-use Rattle.judge.specs.Listed.{HoldsAt, TermPart, SharesListed, IsSecret, slotBy, slotAt, FlaggedAt, FlaggedMore, SecretSlot, RootsOf, NoRoot}
+use Rattle.judge.specs.Listed.{HoldsAt, TermPart, SharesListed, IsSecret, slotFor, slotBy, slotAt, FlaggedAt, FlaggedMore, SecretSlot, RootsOf, NoRoot}
 use Rattle.judge.proofs.Listing.{none-found, term-block}
 use Rattle.judge.proofs.Numbers.{pair-message}
 
 -- ---- slots
 
 -- Only a pair's slot depends on the entry after the root.
-slot-leaf : (tag n l m : ℕ) → (tag ≡ 2 → ⊥) → slotBy tag n l ≡ slotBy tag n m
+slot-leaf : (tag n l m : ℕ) → (tag ≡ pairTag → ⊥) → slotBy tag n l ≡ slotBy tag n m
 unfolding slotBy
-slot-leaf zero n l m off = refl
-slot-leaf (suc zero) n l m off = refl
-slot-leaf (suc (suc zero)) n l m off = absurd (off refl)
-slot-leaf (suc (suc (suc zero))) n l m off = refl
-slot-leaf (suc (suc (suc (suc tag)))) n l m off = refl
+slot-leaf tag n l m off = go (tagged tag)
+  where
+    go : (w : Tagged tag) → slotFor w n l ≡ slotFor w n m
+    go (isAtom e) = refl
+    go (isPair e) = absurd (off e)
+    go (isEncryption e) = refl
+    go (isVariable s e) = refl
+    go (isNone (inl low)) = refl
+    go (isNone (inr high)) = refl
 
 -- A root that is neither a pair's nor an encryption's: an atom's, or a variable's.
-slot-low : (tag n l : ℕ) → tag ≤ 3 → (tag ≡ 2 → ⊥) → (tag ≡ 3 → ⊥) → n % 128 ≡ slotBy tag n l
+slot-low : (tag n l : ℕ) → SymbolTag tag → (tag ≡ pairTag → ⊥) → (tag ≡ encryptionTag → ⊥) → n % 128 ≡ slotBy tag n l
 unfolding slotBy
-slot-low zero n l low no-pair no-key = refl
-slot-low (suc zero) n l low no-pair no-key = refl
-slot-low (suc (suc zero)) n l low no-pair no-key = absurd (no-pair refl)
-slot-low (suc (suc (suc zero))) n l low no-pair no-key = absurd (no-key refl)
-slot-low (suc (suc (suc (suc tag)))) n l low no-pair no-key = absurd (omega arith)
+slot-low tag n l low no-pair no-key = go (tagged tag)
+  where
+    go : (w : Tagged tag) → n % 128 ≡ slotFor w n l
+    go (isAtom e) = refl
+    go (isPair e) = absurd (no-pair e)
+    go (isEncryption e) = absurd (no-key e)
+    go (isVariable s e) = let high = sort-tag s e in absurd (omega arith)
+    go (isNone (inl none)) = refl
+    go (isNone (inr high)) = absurd (omega arith)
 
-slot-high : (tag n l : ℕ) → 3 < tag → 384 + n % 16 ≡ slotBy tag n l
+slot-high : (tag n l : ℕ) → VariableTag tag → 384 + n % slotCount ≡ slotBy tag n l
 unfolding slotBy
-slot-high zero n l high = absurd (omega arith)
-slot-high (suc zero) n l high = absurd (omega arith)
-slot-high (suc (suc zero)) n l high = absurd (omega arith)
-slot-high (suc (suc (suc zero))) n l high = absurd (omega arith)
-slot-high (suc (suc (suc (suc tag)))) n l high = refl
+slot-high tag n l high = go (tagged tag)
+  where
+    go : (w : Tagged tag) → 384 + n % slotCount ≡ slotFor w n l
+    go (isAtom e) = absurd (omega arith)
+    go (isPair e) = absurd (omega arith)
+    go (isEncryption e) = absurd (omega arith)
+    go (isVariable s e) = refl
+    go (isNone (inl low)) = absurd (omega arith)
+    go (isNone (inr high)) = refl
+
+-- A variable of any sort.
+slot-sort : (s : Sort) (n l : ℕ) → slotBy (sortTag s) n l ≡ 384 + n % slotCount
+unfolding slotBy
+slot-sort s n l = rw (sort-tagged s) refl
 
 -- The slot, as the code finds it by the tag.
 module _ (e : List ℕ) {n : ℕ} where
-  pub slot-pair : tagAt e ≡ 2 → n ≡ valueAt (from 4 e) → 128 + n % 128 ≡ slotAt e
+  pub slot-pair : tagAt e ≡ pairTag → n ≡ valueAt (from 4 e) → 128 + n % 128 ≡ slotAt e
   unfolding slotBy
   slot-pair two is =
       let left : n ≡ valueAt (drop 4 e) = is ∙ ap valueAt (part-to-end e 4) in
       ap (λ (m : ℕ). 128 + m % 128) left ∙ ap (λ (tag : ℕ). slotBy tag (valueAt e) (valueAt (drop 4 e))) (sym two)
 
-  pub slot-encryption : tagAt e ≡ 3 → n ≡ valueAt e → 256 + n % 128 ≡ slotAt e
+  pub slot-encryption : tagAt e ≡ encryptionTag → n ≡ valueAt e → 256 + n % 128 ≡ slotAt e
   unfolding slotBy
   slot-encryption three is =
       ap (λ (m : ℕ). 256 + m % 128) is ∙ ap (λ (tag : ℕ). slotBy tag (valueAt e) (valueAt (drop 4 e))) (sym three)
 
-  pub slot-atom : tagAt e ≤ 3 → (tagAt e ≡ 2 → ⊥) → (tagAt e ≡ 3 → ⊥) → n ≡ valueAt e → n % 128 ≡ slotAt e
+  pub slot-atom : SymbolTag (tagAt e) → (tagAt e ≡ pairTag → ⊥) → (tagAt e ≡ encryptionTag → ⊥) → n ≡ valueAt e → n % 128 ≡ slotAt e
   slot-atom low no-pair no-key is = ap (λ (m : ℕ). m % 128) is ∙ slot-low (tagAt e) (valueAt e) (valueAt (drop 4 e)) low no-pair no-key
 
-  pub slot-variable : 3 < tagAt e → n ≡ valueAt e → 384 + n % 16 ≡ slotAt e
-  slot-variable high is = ap (λ (m : ℕ). 384 + m % 16) is ∙ slot-high (tagAt e) (valueAt e) (valueAt (drop 4 e)) high
+  pub slot-variable : VariableTag (tagAt e) → n ≡ valueAt e → 384 + n % slotCount ≡ slotAt e
+  slot-variable high is = ap (λ (m : ℕ). 384 + m % slotCount) is ∙ slot-high (tagAt e) (valueAt e) (valueAt (drop 4 e)) high
 
 -- The value of a term's root, and its slot by the term alone: the same terms have the same slot.
 rootValue : Term Variable → ℕ
-rootValue (variable (plain x)) = x
-rootValue (variable (marked x)) = x
+rootValue (variable (named s x)) = x
 rootValue (atom a) = a
 rootValue (pair t u) = 0
 rootValue (encrypted k t) = k
 
 termSlot : Term Variable → ℕ
-termSlot (variable (plain x)) = 384 + x % 16
-termSlot (variable (marked x)) = 384 + x % 16
+termSlot (variable (named s x)) = 384 + x % slotCount
 termSlot (atom a) = a % 128
 termSlot (pair t u) = 128 + rootValue t % 128
 termSlot (encrypted k t) = 256 + k % 128
@@ -101,8 +119,7 @@ value-term {e} b = go (first (b .reads)) (termOf-reads (b .reads))
     go (first-atom g q k) is = let t : termOf e ≡ atom (valueAt e) = cc in rw t refl
     go (first-pair {t} {u} g n q k) is = let w : termOf e ≡ pair t u = cc in rw w n
     go (first-encrypted {t} g q k) is = let w : termOf e ≡ encrypted (valueAt e) t = cc in rw w refl
-    go (first-plain g l q k) is = let w : termOf e ≡ variable (plain (valueAt e)) = cc in rw w refl
-    go (first-marked g l q k) is = let w : termOf e ≡ variable (marked (valueAt e)) = cc in rw w refl
+    go (first-variable {s = s} g v l q k) is = let w : termOf e ≡ variable (named s (valueAt e)) = cc in rw w refl
 
 slot-term : {e : List ℕ} → Begins e → slotAt e ≡ termSlot (termOf e)
 unfolding termSlot slotBy
@@ -112,20 +129,20 @@ slot-term {e} b = go (first (b .reads)) (termOf-reads (b .reads))
     by-tag tag is = ap (λ (n : ℕ). slotBy n (valueAt e) (valueAt (drop 4 e))) is
 
     go : First (tagAt e) (valueAt e) (drop 4 e) (b .term ∷ b .others) → termOf e ≡ b .term → slotAt e ≡ termSlot (termOf e)
-    go (first-atom g q k) is = let w : termOf e ≡ atom (valueAt e) = cc in rw w (by-tag 1 g)
+    go (first-atom g q k) is = let w : termOf e ≡ atom (valueAt e) = cc in rw w (by-tag atomTag g)
     go (first-pair {t} {u} g n q k) is =
         let w : termOf e ≡ pair t u = cc in
         let left : valueAt (drop 4 e) ≡ rootValue t = value-term (begins k) ∙ ap rootValue (termOf-reads k) in
-        rw w (by-tag 2 g ∙ ap (λ (n : ℕ). 128 + n % 128) left)
-    go (first-encrypted {t} g q k) is = let w : termOf e ≡ encrypted (valueAt e) t = cc in rw w (by-tag 3 g)
-    go (first-plain g l q k) is = let w : termOf e ≡ variable (plain (valueAt e)) = cc in rw w (by-tag 4 g)
-    go (first-marked g l q k) is = let w : termOf e ≡ variable (marked (valueAt e)) = cc in rw w (by-tag 5 g)
+        rw w (by-tag pairTag g ∙ ap (λ (n : ℕ). 128 + n % 128) left)
+    go (first-encrypted {t} g q k) is = let w : termOf e ≡ encrypted (valueAt e) t = cc in rw w (by-tag encryptionTag g)
+    go (first-variable {s = s} g v l q k) is =
+        let w : termOf e ≡ variable (named s (valueAt e)) = cc in rw w (by-tag (sortTag s) g ∙ slot-sort s (valueAt e) (valueAt (drop 4 e)))
 
 pub slot-same : {e f : List ℕ} → Begins e → Begins f → termOf e ≡ termOf f → slotAt e ≡ slotAt f
 slot-same b d same = slot-term b ∙ ap termSlot same ∙ sym (slot-term d)
 
 -- A pair has the entry of its left half's root after its own.
-pub pair-room : {e : List ℕ} → Begins e → tagAt e ≡ 2 → 8 ≤ length e
+pub pair-room : {e : List ℕ} → Begins e → tagAt e ≡ pairTag → 8 ≤ length e
 pair-room {e} b two = let half = begins (pair-first b two .below) .room in omega (arith, from-length 4 e)
 
 pub left-tag : (e : List ℕ) → tagAt (drop 4 e) ≡ getD e 4 0
@@ -176,7 +193,7 @@ told-absent x e = rw (eq-eqb x 0 e)
 -- ---- what the flags say
 
 -- A message's root is a symbol.
-message-symbol : {e : List ℕ} → Begins e → (m : Message) → termOf e ≡ asTerm m → tagAt e ≤ 3
+message-symbol : {e : List ℕ} → Begins e → (m : Message) → termOf e ≡ asTerm m → SymbolTag (tagAt e)
 unfolding asTerm replace
 message-symbol {e} b m same = go (first (b .reads)) (termOf-reads (b .reads))
   where
@@ -186,27 +203,27 @@ message-symbol {e} b m same = go (first (b .reads)) (termOf-reads (b .reads))
     no-variable x (pair m n) e = let z : _≡_ {A = ℕ} 0 1 = cc in omega arith
     no-variable x (encrypted k m) e = let z : _≡_ {A = ℕ} 0 1 = cc in omega arith
 
-    go : {tag n : ℕ} {rest : List ℕ} → First tag n rest (b .term ∷ b .others) → termOf e ≡ b .term → tag ≤ 3
+    go : {tag n : ℕ} {rest : List ℕ} → First tag n rest (b .term ∷ b .others) → termOf e ≡ b .term → SymbolTag tag
     go (first-atom g q k) is = omega arith
     go (first-pair g n q k) is = omega arith
     go (first-encrypted g q k) is = omega arith
-    go {n = n} (first-plain g l q k) is = let t : b .term ≡ variable (plain n) = cc in absurd (no-variable (plain n) m (sym t ∙ sym is ∙ same))
-    go {n = n} (first-marked g l q k) is = let t : b .term ≡ variable (marked n) = cc in absurd (no-variable (marked n) m (sym t ∙ sym is ∙ same))
+    go {n = n} (first-variable {s = s} g v l q k) is =
+        let t : b .term ≡ variable (named s n) = cc in absurd (no-variable (named s n) m (sym t ∙ sym is ∙ same))
 
 -- The left half of a pair stands after the root, and it is a message's if the pair is.
-left-begins : {e : List ℕ} → Begins e → tagAt e ≡ 2 → Begins (drop 4 e)
+left-begins : {e : List ℕ} → Begins e → tagAt e ≡ pairTag → Begins (drop 4 e)
 left-begins {e} b two = rw (part-to-end e 4) at (begins (pair-first b two .below))
 
-left-is : {e : List ℕ} (b : Begins e) (two : tagAt e ≡ 2) → termOf (drop 4 e) ≡ pair-first b two .left
+left-is : {e : List ℕ} (b : Begins e) (two : tagAt e ≡ pairTag) → termOf (drop 4 e) ≡ pair-first b two .left
 left-is {e} b two = ap termOf (sym (part-to-end e 4)) ∙ termOf-reads (pair-first b two .below)
 
-left-message : {e : List ℕ} → Begins e → tagAt e ≡ 2 → (m : Message) → termOf e ≡ asTerm m → (l : Message) × (termOf (drop 4 e) ≡ asTerm l)
+left-message : {e : List ℕ} → Begins e → tagAt e ≡ pairTag → (m : Message) → termOf e ≡ asTerm m → (l : Message) × (termOf (drop 4 e) ≡ asTerm l)
 left-message b two m same =
     let p = pair-first b two in
     let w = pair-message m (sym (termOf-reads (p .whole)) ∙ same) in (w .0, left-is b two ∙ w .3)
 
 -- Pairs that share an instance have left halves that do.
-lefts-share : {s t : List ℕ} → Begins s → Begins t → tagAt s ≡ 2 → tagAt t ≡ 2 → Share (termOf s) (termOf t)
+lefts-share : {s t : List ℕ} → Begins s → Begins t → tagAt s ≡ pairTag → tagAt t ≡ pairTag → Share (termOf s) (termOf t)
     → Share (termOf (drop 4 s)) (termOf (drop 4 t))
 unfolding replace
 lefts-share {s} {t} left right two other share =

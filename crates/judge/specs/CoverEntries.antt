@@ -8,7 +8,7 @@ use mathlib.Core.Option.{some}
 use Prim.Native.Nat.{ℕ, _+_, _*_, _-_, _<_, _≤_}
 use lib.ListN.{length, getD}
 use Rattle.blocks.specs.Block.{blockAt, kindOf}
-use Rattle.terms.specs.Term.{Term, Variable, variable, marked}
+use Rattle.terms.specs.Term.{Term, Variable, variable, marked, named}
 use Rattle.terms.specs.Place.{Place, subtermAt}
 use Rattle.terms.specs.Instance.{Matches}
 use Rattle.terms.specs.Entry.{size, termOf, Begins}
@@ -93,7 +93,7 @@ pub record MarkOver (good u : Term Variable) (h k : ℕ) : Type 0 where
   pub number : ℕ
   pub place : Place
   pub subterm : Term Variable
-  pub stands : subtermAt place good ≡ some (variable (marked number))
+  pub stands : subtermAt place good ≡ some (variable (named marked number))
   pub under : subtermAt place u ≡ some subterm
   pub low : h + entryAt place u ≤ k
   pub high : k < h + entryAt place u + size subterm

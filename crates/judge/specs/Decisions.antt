@@ -7,8 +7,8 @@ use lib.ListN.{length}
 use Prim.Native.Nat.{ℕ}
 use native.Mathlib.Decide.{ℕ-discrete, decLt}
 use native.Mathlib.Omega.{arith}
-use Rattle.terms.specs.Term.{Term, variable, atom, pair, encrypted, Term-discrete, Message, replace, asTerm}
-use Rattle.terms.specs.Term.{Variable, plain, marked, Variable-discrete}
+use Rattle.terms.specs.Term.{Term, variable, atom, pair, encrypted, Message, replace, asTerm}
+use Rattle.terms.specs.Term.{Variable, plain, marked, named}
 use Rattle.terms.specs.Atom.{knownOf, atomAt}
 use Rattle.terms.specs.Place.{Place, subtermAt}
 use Rattle.terms.specs.Decide as decide
@@ -24,12 +24,12 @@ use Rattle.judge.specs.Cover.{sharesSecret, Covered, sureHat, inPremise,
 use Rattle.judge.specs.Conditions.{KnownAtom, WeaklyClosed, KeptKey}
 
 unfoldable pub same-term? : (t u : Term Variable) → Dec (t ≡ u)
-unfolding ℕ-discrete
-same-term? = Term-discrete (Variable-discrete ℕ-discrete) ℕ-discrete
+unfolding decide.term? decide.variable?
+same-term? = decide.term? decide.variable?
 
 unfoldable pub same-message? : (m n : Message) → Dec (m ≡ n)
-unfolding ℕ-discrete
-same-message? = Term-discrete (λ x. absurd x) ℕ-discrete
+unfolding decide.term?
+same-message? = decide.term? (λ x. absurd x)
 
 unfoldable pub secret? : (certificate : Certificate) (m : Message) → Dec (Secret certificate m)
 unfolding member? same-message?
@@ -85,9 +85,9 @@ kept-key? certificate (atom a) = no (λ h. let e = h .same in let z : _≡_ {A =
 kept-key? certificate (pair t u) = no (λ h. let e = h .same in let z : _≡_ {A = ℕ} 0 1 = cc in omega arith)
 
 -- A mark at or above the place.
-unfoldable pub marked? : (t : Term Variable) → Dec ((n : ℕ) × (t ≡ variable (marked n)))
-marked? (variable (plain n)) = no (λ w. let e = w .1 in let z : _≡_ {A = ℕ} 0 1 = cc in omega arith)
-marked? (variable (marked n)) = yes (n, refl)
+unfoldable pub marked? : (t : Term Variable) → Dec ((n : ℕ) × (t ≡ variable (named marked n)))
+marked? (variable (named plain n)) = no (λ w. let e = w .1 in let z : _≡_ {A = ℕ} 0 1 = cc in omega arith)
+marked? (variable (named marked n)) = yes (n, refl)
 marked? (atom a) = no (λ w. let e = w .1 in let z : _≡_ {A = ℕ} 0 1 = cc in omega arith)
 marked? (pair t u) = no (λ w. let e = w .1 in let z : _≡_ {A = ℕ} 0 1 = cc in omega arith)
 marked? (encrypted k t) = no (λ w. let e = w .1 in let z : _≡_ {A = ℕ} 0 1 = cc in omega arith)
@@ -102,7 +102,7 @@ unfoldable pub mark? : (good : Term Variable) (q p : Place) → Dec (Mark good q
 unfolding dec-map dec-and any-place? marked? at-or-above?
 mark? good q p =
     dec-map (λ w. record { number = w .2 .0 .0; place = w .0 .0; stands = w .1 ∙ ap some (w .2 .0 .1); above = w .2 .1 })
-    (λ h. ((h .place, variable (marked (h .number))), h .stands, ((h .number, refl), h .above)))
+    (λ h. ((h .place, variable (named marked (h .number))), h .stands, ((h .number, refl), h .above)))
     (any-place? good (λ w. dec-and (marked? (w .1)) (λ m. at-or-above? (q ++ w .0) p)))
 
 -- A pattern with its variables replaced, and a shared instance, at the variables of a file.

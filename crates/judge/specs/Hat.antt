@@ -3,7 +3,7 @@ use mathlib.Core.Path.{_≡_}
 use mathlib.Core.List.{_++_}
 use mathlib.Core.Option.{some}
 use Prim.Native.Nat.{ℕ}
-use Rattle.terms.specs.Term.{Term, variable, Message, Variable, marked}
+use Rattle.terms.specs.Term.{Term, variable, Message, Variable, marked, named}
 use Rattle.terms.specs.Place.{Place, subtermAt, StrictlyAbove, AtOrAbove}
 use Rattle.terms.specs.Instance.{Matches}
 use Rattle.judge.specs.Certificate.{Certificate, Good, Bad}
@@ -19,7 +19,7 @@ pub record Hat (certificate : Certificate) (good : Term Variable) (m : Message) 
 pub record Mark (good : Term Variable) (q p : Place) : Type 0 where
   pub number : ℕ
   pub place : Place
-  pub stands : subtermAt place good ≡ some (variable (marked number))
+  pub stands : subtermAt place good ≡ some (variable (named marked number))
   pub above : AtOrAbove (q ++ place) p
 
 -- A secret at place p of a message is protected if a hat stands strictly above it and a marked variable of that hat's

@@ -2,13 +2,15 @@
 use mathlib.Core.Path.{_≡_}
 use mathlib.Core.Bool.{Bool, true, false}
 use mathlib.Core.List.{List, [], map, List·Memᴰ}
-use mathlib.Core.Logic.{_⊎_}
+use mathlib.Core.Logic.{_⊎_, inl, inr}
 use mathlib.Core.Option.{Option, none, some}
 use Prim.Native.Nat.{ℕ, zero, suc, _+_, _*_, _%_, _<_, _≤_}
 use lib.ListN.{length, getD, drop}
 use Rattle.blocks.specs.Block.{blockAt, kindOf, firstEntries}
 use Rattle.terms.specs.Term.{Term, Variable, asTerm, replace}
 use Rattle.terms.specs.Instance.{Matches, Share}
+use Rattle.terms.specs.Tag.{pairTag, SymbolTag, Tagged, isAtom, isPair, isEncryption, isVariable, isNone, tagged}
+use Rattle.terms.specs.Slot.{slotCount}
 use Rattle.terms.specs.Entry.{Begins, termOf, size, tagAt, valueAt}
 use Rattle.terms.specs.TermGraph.{SizesOf}
 use Rattle.terms.specs.WalkLaws.{from}
@@ -92,12 +94,17 @@ pub record SizeOf (e : List ℕ) (n : ℕ) : Type 0 where
 -- The slot of a root, by its tag, its value and the value of the entry after it. Atoms, pairs and encryptions have 128
 -- slots each, by the root's value; for a pair by that of its left half's root, which is the entry after it. Variables have
 -- 16.
+abbrev pub slotFor : {tag : ℕ} → Tagged tag → ℕ → ℕ → ℕ
+slotFor (isAtom e) n left = n % 128
+slotFor (isPair e) n left = 128 + left % 128
+slotFor (isEncryption e) n left = 256 + n % 128
+slotFor (isVariable s e) n left = 384 + n % slotCount
+slotFor (isNone (inl low)) n left = n % 128
+slotFor (isNone (inr high)) n left = 384 + n % slotCount
+
 unfoldable pub slotBy : ℕ → ℕ → ℕ → ℕ
-slotBy zero n left = n % 128
-slotBy (suc zero) n left = n % 128
-slotBy (suc (suc zero)) n left = 128 + left % 128
-slotBy (suc (suc (suc zero))) n left = 256 + n % 128
-slotBy (suc (suc (suc (suc tag)))) n left = 384 + n % 16
+unfolding tagged
+slotBy tag n left = slotFor (tagged tag) n left
 
 abbrev pub slotAt : List ℕ → ℕ
 slotAt e = slotBy (tagAt e) (valueAt e) (valueAt (drop 4 e))
@@ -131,8 +138,8 @@ pub record RootsOf (file roots : List ℕ) : Type 0 where
 
 -- The term that e begins with has a symbol as its root, and so has the left half of a pair, and no secret has that slot.
 pub record NoRoot (roots e : List ℕ) : Type 0 where
-  pub symbol : tagAt e ≤ 3
-  pub left-symbol : tagAt e ≡ 2 → tagAt (drop 4 e) ≤ 3
+  pub symbol : SymbolTag (tagAt e)
+  pub left-symbol : tagAt e ≡ pairTag → SymbolTag (tagAt (drop 4 e))
   pub absent : getD roots (slotAt e) 0 ≡ 0
 
 -- Block i lists a term.

@@ -1,5 +1,6 @@
 -- Atom entries, and what number 6 asks of them (document 01, "Atom entry").
-use mathlib.Core.Path.{_≡_, refl, ap}
+use mathlib.Core.Path.{_≡_, refl, ap, _∙_}
+use mathlib.Core.Logic.{_⊎_, inl, inr}
 use mathlib.Core.List.{List, [], _∷_}
 use Prim.Native.Nat.{ℕ, zero, suc, _+_, _*_, _/_, _≤_, _<_}
 use native.Mathlib.Omega.{arith}
@@ -11,7 +12,41 @@ use Rattle.terms.specs.Entry.{tagAt, valueAt}
 use Rattle.terms.specs.Decisions.{dec-map, dec-and}
 use Rattle.terms.specs.First.{firstNot, first-none}
 
--- Kind (1 principal, 2 nonce, 3 public, 4 private, 5 symmetric key), known (0 or 1), partner (two bytes).
+-- Kinds of atoms: 1 principal, 2 nonce, 3 public, 4 private, 5 symmetric key.
+abbrev pub principalKind : ℕ
+principalKind = 1
+
+abbrev pub nonceKind : ℕ
+nonceKind = 2
+
+abbrev pub publicKind : ℕ
+publicKind = 3
+
+abbrev pub privateKind : ℕ
+privateKind = 4
+
+abbrev pub symmetricKind : ℕ
+symmetricKind = 5
+
+-- What a byte says as a kind of atoms: the one place that tells them apart.
+pub data AtomKinded (kind : ℕ) : Type 0 where
+  aPrincipal : kind ≡ principalKind → AtomKinded kind
+  aNonce : kind ≡ nonceKind → AtomKinded kind
+  aPublicKey : kind ≡ publicKind → AtomKinded kind
+  aPrivateKey : kind ≡ privateKind → AtomKinded kind
+  aSymmetricKey : kind ≡ symmetricKind → AtomKinded kind
+  noAtom : (kind < principalKind) ⊎ (symmetricKind < kind) → AtomKinded kind
+
+unfoldable pub atomKinded : (kind : ℕ) → AtomKinded kind
+atomKinded zero = noAtom (inl (omega arith))
+atomKinded (suc zero) = aPrincipal refl
+atomKinded (suc (suc zero)) = aNonce refl
+atomKinded (suc (suc (suc zero))) = aPublicKey refl
+atomKinded (suc (suc (suc (suc zero)))) = aPrivateKey refl
+atomKinded (suc (suc (suc (suc (suc zero))))) = aSymmetricKey refl
+atomKinded (suc (suc (suc (suc (suc (suc k)))))) = noAtom (inr (omega arith))
+
+-- An atom entry: kind, known (0 or 1), partner (two bytes).
 pub record Atom : Type 0 where
   pub kind : ℕ
   pub known : ℕ
@@ -40,25 +75,25 @@ partnerOf atoms n = atomAt atoms n .partner
 
 -- A key: public, private or symmetric.
 pub data IsKey (atoms : List Atom) (n : ℕ) : Type 0 where
-  isPublic : atomKind atoms n ≡ 3 → IsKey atoms n
-  isPrivate : atomKind atoms n ≡ 4 → IsKey atoms n
-  isSymmetric : atomKind atoms n ≡ 5 → IsKey atoms n
+  isPublic : atomKind atoms n ≡ publicKind → IsKey atoms n
+  isPrivate : atomKind atoms n ≡ privateKind → IsKey atoms n
+  isSymmetric : atomKind atoms n ≡ symmetricKind → IsKey atoms n
 
 -- That is, a kind from 3 to 5.
-pub key-kind : {atoms : List Atom} {n : ℕ} → IsKey atoms n → (3 ≤ atomKind atoms n) × (atomKind atoms n ≤ 5)
+pub key-kind : {atoms : List Atom} {n : ℕ} → IsKey atoms n → (publicKind ≤ atomKind atoms n) × (atomKind atoms n ≤ symmetricKind)
 key-kind (isPublic e) = (omega arith, omega arith)
 key-kind (isPrivate e) = (omega arith, omega arith)
 key-kind (isSymmetric e) = (omega arith, omega arith)
 
-pub kind-key : {atoms : List Atom} {n : ℕ} → 3 ≤ atomKind atoms n → atomKind atoms n ≤ 5 → IsKey atoms n
-kind-key {atoms} {n} low high = elim (ℕ-discrete (atomKind atoms n) 3) [
+pub kind-key : {atoms : List Atom} {n : ℕ} → publicKind ≤ atomKind atoms n → atomKind atoms n ≤ symmetricKind → IsKey atoms n
+kind-key {atoms} {n} low high = elim (ℕ-discrete (atomKind atoms n) publicKind) [
   | yes p ↦ isPublic p
-  | no p ↦ elim (ℕ-discrete (atomKind atoms n) 4) [ yes q ↦ isPrivate q | no q ↦ isSymmetric (omega arith) ]
+  | no p ↦ elim (ℕ-discrete (atomKind atoms n) privateKind) [ yes q ↦ isPrivate q | no q ↦ isSymmetric (omega arith) ]
 ]
 
 unfoldable pub isKey? : (atoms : List Atom) (n : ℕ) → Dec (IsKey atoms n)
 unfolding atomAt decLe dec-map dec-and
-isKey? atoms n = dec-map (λ h. kind-key (h .0) (h .1)) key-kind (dec-and (decLe 3 (atomKind atoms n)) (λ l. decLe (atomKind atoms n) 5))
+isKey? atoms n = dec-map (λ h. kind-key (h .0) (h .1)) key-kind (dec-and (decLe publicKind (atomKind atoms n)) (λ l. decLe (atomKind atoms n) symmetricKind))
 
 -- A key is listed.
 pub key-listed : {atoms : List Atom} {n : ℕ} → IsKey atoms n → n < length atoms
@@ -80,11 +115,11 @@ pub record NamedBack (atoms : List Atom) (n other : ℕ) : Type 0 where
 
 -- Partner: zero for kinds 1 and 2; a public and a private key name each other; a symmetric key names itself.
 pub data PartnerRight (atoms : List Atom) (n : ℕ) : Type 0 where
-  principal : atomKind atoms n ≡ 1 → partnerOf atoms n ≡ 0 → PartnerRight atoms n
-  nonce : atomKind atoms n ≡ 2 → partnerOf atoms n ≡ 0 → PartnerRight atoms n
-  publicKey : atomKind atoms n ≡ 3 → NamedBack atoms n 4 → PartnerRight atoms n
-  privateKey : atomKind atoms n ≡ 4 → NamedBack atoms n 3 → PartnerRight atoms n
-  symmetricKey : atomKind atoms n ≡ 5 → partnerOf atoms n ≡ n → PartnerRight atoms n
+  principal : atomKind atoms n ≡ principalKind → partnerOf atoms n ≡ 0 → PartnerRight atoms n
+  nonce : atomKind atoms n ≡ nonceKind → partnerOf atoms n ≡ 0 → PartnerRight atoms n
+  publicKey : atomKind atoms n ≡ publicKind → NamedBack atoms n privateKind → PartnerRight atoms n
+  privateKey : atomKind atoms n ≡ privateKind → NamedBack atoms n publicKind → PartnerRight atoms n
+  symmetricKey : atomKind atoms n ≡ symmetricKind → partnerOf atoms n ≡ n → PartnerRight atoms n
 
 -- Number 6: the atom entry is right: known is 0 or 1, and the kind, one of 1 to 5, has the partner that it asks for.
 pub record AtomRight (atoms : List Atom) (n : ℕ) : Type 0 where
@@ -94,14 +129,17 @@ pub record AtomRight (atoms : List Atom) (n : ℕ) : Type 0 where
 -- The same, decided by the kind.
 module _ (atoms : List Atom) (n : ℕ) where
   -- What an entry of this kind has to have.
+  abbrev pub WantedBy : {kind : ℕ} → AtomKinded kind → Type 0
+  WantedBy (aPrincipal e) = partnerOf atoms n ≡ 0
+  WantedBy (aNonce e) = partnerOf atoms n ≡ 0
+  WantedBy (aPublicKey e) = NamedBack atoms n privateKind
+  WantedBy (aPrivateKey e) = NamedBack atoms n publicKind
+  WantedBy (aSymmetricKey e) = partnerOf atoms n ≡ n
+  WantedBy (noAtom e) = ⊥
+
   unfoldable pub Wanted : ℕ → Type 0
-  Wanted zero = ⊥
-  Wanted (suc zero) = partnerOf atoms n ≡ 0
-  Wanted (suc (suc zero)) = partnerOf atoms n ≡ 0
-  Wanted (suc (suc (suc zero))) = NamedBack atoms n 4
-  Wanted (suc (suc (suc (suc zero)))) = NamedBack atoms n 3
-  Wanted (suc (suc (suc (suc (suc zero))))) = partnerOf atoms n ≡ n
-  Wanted (suc (suc (suc (suc (suc (suc k)))))) = ⊥
+  unfolding atomKinded
+  Wanted kind = WantedBy (atomKinded kind)
 
   pub partner-wanted : PartnerRight atoms n → Wanted (atomKind atoms n)
   unfolding Wanted
@@ -113,13 +151,15 @@ module _ (atoms : List Atom) (n : ℕ) where
 
   pub partner-right : (k : ℕ) → atomKind atoms n ≡ k → Wanted k → PartnerRight atoms n
   unfolding Wanted
-  partner-right zero e w = absurd w
-  partner-right (suc zero) e w = principal e w
-  partner-right (suc (suc zero)) e w = nonce e w
-  partner-right (suc (suc (suc zero))) e w = publicKey e w
-  partner-right (suc (suc (suc (suc zero)))) e w = privateKey e w
-  partner-right (suc (suc (suc (suc (suc zero))))) e w = symmetricKey e w
-  partner-right (suc (suc (suc (suc (suc (suc k)))))) e w = absurd w
+  partner-right k is w = go (atomKinded k) w
+    where
+      go : (c : AtomKinded k) → WantedBy c → PartnerRight atoms n
+      go (aPrincipal e) w = principal (is ∙ e) w
+      go (aNonce e) w = nonce (is ∙ e) w
+      go (aPublicKey e) w = publicKey (is ∙ e) w
+      go (aPrivateKey e) w = privateKey (is ∙ e) w
+      go (aSymmetricKey e) w = symmetricKey (is ∙ e) w
+      go (noAtom e) w = absurd w
 
   unfoldable pub namedBack? : (other : ℕ) → Dec (NamedBack atoms n other)
   unfolding atomAt ℕ-discrete decLt dec-map dec-and
@@ -129,13 +169,15 @@ module _ (atoms : List Atom) (n : ℕ) where
 
   wanted? : (k : ℕ) → Dec (Wanted k)
   unfolding Wanted namedBack? ℕ-discrete atomAt
-  wanted? zero = no (λ h. h)
-  wanted? (suc zero) = ℕ-discrete (partnerOf atoms n) 0
-  wanted? (suc (suc zero)) = ℕ-discrete (partnerOf atoms n) 0
-  wanted? (suc (suc (suc zero))) = namedBack? 4
-  wanted? (suc (suc (suc (suc zero)))) = namedBack? 3
-  wanted? (suc (suc (suc (suc (suc zero))))) = ℕ-discrete (partnerOf atoms n) n
-  wanted? (suc (suc (suc (suc (suc (suc k)))))) = no (λ h. h)
+  wanted? k = go (atomKinded k)
+    where
+      go : (c : AtomKinded k) → Dec (WantedBy c)
+      go (aPrincipal e) = ℕ-discrete (partnerOf atoms n) 0
+      go (aNonce e) = ℕ-discrete (partnerOf atoms n) 0
+      go (aPublicKey e) = namedBack? privateKind
+      go (aPrivateKey e) = namedBack? publicKind
+      go (aSymmetricKey e) = ℕ-discrete (partnerOf atoms n) n
+      go (noAtom e) = no (λ h. h)
 
   -- Is the atom entry right?
   unfoldable pub atomRight? : Dec (AtomRight atoms n)

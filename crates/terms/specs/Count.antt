@@ -9,8 +9,9 @@ use lib.Dec.{ltb, eqb}
 use lib.ListN.{length, getD, take, set, length-take, drop-of-length-le}
 use lib.Seq.{take-all, take-suc, take-suc-set, slice, slice-cons}
 use native.Mathlib.Numerals.{add-one}
-use Rattle.terms.specs.Term.{Term, Variable, variable, atom, pair, encrypted, plain, marked}
-use Rattle.terms.specs.Entry.{Symbol, atomSymbol, pairSymbol, encryptionSymbol, variableSymbol, tagOf, childrenOf, symbolOf, numbered}
+use Rattle.terms.specs.Term.{Term, Variable, variable, atom, pair, encrypted, named, Sort}
+use Rattle.terms.specs.Tag.{variables, sortTag, sort-childless, Tagged, isAtom, isPair, isEncryption, isVariable, isNone, tagged, childrenOf}
+use Rattle.terms.specs.Entry.{Symbol, atomSymbol, pairSymbol, encryptionSymbol, variableSymbol, tagOf, symbolBy, symbolOf, numbered}
 use Rattle.terms.specs.Entry.{before, beforeAll, withZero, termsOf}
 use Rattle.terms.specs.EntryLaws.{none≢some, never-empty}
 use Rattle.terms.specs.Solve.{Says, says-same}
@@ -36,22 +37,19 @@ areTerms (tag ∷ tags) (suc need) = areTerms tags (need + childrenOf tag)
 symbol-tag : (z tag value : ℕ) {s : Symbol} → withZero z (symbolOf tag value) ≡ some s → tagOf s ≡ tag
 unfolding withZero symbolOf tagOf
 symbol-tag (suc z) tag v e = absurd (none≢some _ e)
-symbol-tag zero zero v e = absurd (none≢some _ e)
-symbol-tag zero (suc zero) v {s} e = let same : s ≡ atomSymbol v = cc in rw same refl
-symbol-tag zero (suc (suc zero)) zero {s} e = let same : s ≡ pairSymbol = cc in rw same refl
-symbol-tag zero (suc (suc zero)) (suc v) e = absurd (none≢some _ e)
-symbol-tag zero (suc (suc (suc zero))) v {s} e = let same : s ≡ encryptionSymbol v = cc in rw same refl
-symbol-tag zero (suc (suc (suc (suc zero)))) v {s} e = go (ltb v 8) e
+symbol-tag zero tag v {s} e = go (tagged tag) v e
   where
-    go : (b : Bool) → numbered b (plain v) ≡ some s → tagOf s ≡ 4
-    go true q = let same : s ≡ variableSymbol (plain v) = cc in rw same refl
-    go false q = absurd (none≢some _ q)
-symbol-tag zero (suc (suc (suc (suc (suc zero))))) v {s} e = go (ltb v 8) e
-  where
-    go : (b : Bool) → numbered b (marked v) ≡ some s → tagOf s ≡ 5
-    go true q = let same : s ≡ variableSymbol (marked v) = cc in rw same refl
-    go false q = absurd (none≢some _ q)
-symbol-tag zero (suc (suc (suc (suc (suc (suc t)))))) v e = absurd (none≢some _ e)
+    variable-of : (sort : Sort) → tag ≡ sortTag sort → (v : ℕ) (b : Bool) → numbered b (named sort v) ≡ some s → tagOf s ≡ tag
+    variable-of sort g v true q = let same : s ≡ variableSymbol (named sort v) = cc in rw (same, g) refl
+    variable-of sort g v false q = absurd (none≢some _ q)
+
+    go : (w : Tagged tag) (v : ℕ) → symbolBy w v ≡ some s → tagOf s ≡ tag
+    go (isAtom g) v e = let same : s ≡ atomSymbol v = cc in rw (same, g) refl
+    go (isPair g) zero e = let same : s ≡ pairSymbol = cc in rw (same, g) refl
+    go (isPair g) (suc v) e = absurd (none≢some _ e)
+    go (isEncryption g) v e = let same : s ≡ encryptionSymbol v = cc in rw (same, g) refl
+    go (isVariable sort g) v e = variable-of sort g v (ltb v variables) e
+    go (isNone g) v e = absurd (none≢some _ e)
 
 -- So many terms were read.
 pub record Count (o : Option (List (Term Variable))) (need : ℕ) : Type 0 where
@@ -65,10 +63,8 @@ unfolding beforeAll before childrenOf tagOf
 count-down s none need r = absurd (none≢some _ (r .are))
 count-down (atomSymbol a) (some l) need r =
     let c : length (r .terms) ≡ suc (length l) = cc in let d = r .many in record { terms = l; are = refl; many = omega arith }
-count-down (variableSymbol (plain x)) (some l) need r =
-    let c : length (r .terms) ≡ suc (length l) = cc in let d = r .many in record { terms = l; are = refl; many = omega arith }
-count-down (variableSymbol (marked x)) (some l) need r =
-    let c : length (r .terms) ≡ suc (length l) = cc in let d = r .many in record { terms = l; are = refl; many = omega arith }
+count-down (variableSymbol (named s x)) (some l) need r =
+    let c : length (r .terms) ≡ suc (length l) = cc in let d = r .many in record { terms = l; are = refl; many = omega (arith, sort-childless s) }
 count-down pairSymbol (some []) need r = absurd (none≢some _ (r .are))
 count-down pairSymbol (some (t ∷ [])) need r = absurd (none≢some _ (r .are))
 count-down pairSymbol (some (t ∷ u ∷ l)) need r =
@@ -82,10 +78,8 @@ unfolding beforeAll before childrenOf tagOf
 count-up s none need r = absurd (none≢some _ (r .are))
 count-up (atomSymbol a) (some l) need r =
     let c : length (r .terms) ≡ length l = cc in let d = r .many in record { terms = atom a ∷ l; are = refl; many = omega arith }
-count-up (variableSymbol (plain x)) (some l) need r =
-    let c : length (r .terms) ≡ length l = cc in let d = r .many in record { terms = variable (plain x) ∷ l; are = refl; many = omega arith }
-count-up (variableSymbol (marked x)) (some l) need r =
-    let c : length (r .terms) ≡ length l = cc in let d = r .many in record { terms = variable (marked x) ∷ l; are = refl; many = omega arith }
+count-up (variableSymbol (named s x)) (some l) need r =
+    let c : length (r .terms) ≡ length l = cc in let d = r .many in record { terms = variable (named s x) ∷ l; are = refl; many = omega (arith, sort-childless s) }
 count-up pairSymbol (some []) need r =
     let c : length (r .terms) ≡ 0 = cc in let d = r .many in absurd (omega arith)
 count-up pairSymbol (some (t ∷ [])) need r =

@@ -5,7 +5,7 @@ use mathlib.Core.Path.{_≡_, refl, sym}
 use mathlib.Core.HLevel.{Discrete}
 use mathlib.Core.Bool.{Bool, true, false, true≢false, false≢true}
 use native.Mathlib.Decide.{ℕ-discrete}
-use Rattle.terms.specs.Term.{Term, Variable, replace, Term-discrete, Variable-discrete}
+use Rattle.terms.specs.Term.{Term, Variable, replace, Term-discrete, Sort-discrete, Variable-discrete}
 use Rattle.terms.specs.Instance.{Matches, Share}
 use Rattle.terms.specs.Seek.{found, found-is}
 use Rattle.terms.specs.Solve.{Says, decided}
@@ -47,7 +47,7 @@ answer-same (no n) e f g = sym (answer-no e (λ q. n (g q)))
 -- Are two variables of a file the same?
 unfoldable pub variable? : Discrete Variable
 unfolding ℕ-discrete
-variable? = Variable-discrete ℕ-discrete
+variable? = Variable-discrete Sort-discrete ℕ-discrete
 
 -- Are two terms the same?
 unfoldable pub term? : {X : Type 0} → Discrete X → Discrete (Term X)

@@ -1,18 +1,18 @@
 -- Worked cases of matching and sharing, by computation.
 use mathlib.Core.Path.{_≡_, refl}
 use mathlib.Core.Bool.{Bool, true, false}
-use Rattle.terms.specs.Term.{Term, variable, atom, pair, encrypted, Variable, plain, marked}
+use Rattle.terms.specs.Term.{Term, variable, atom, pair, encrypted, Variable, plain, marked, named}
 use Rattle.terms.specs.Decide.{answer, variable?, term?, match?, share?}
 
 -- x, y and x′ of the cases.
 abbrev x : Term Variable
-x = variable (plain 0)
+x = variable (named plain 0)
 
 abbrev y : Term Variable
-y = variable (plain 1)
+y = variable (named plain 1)
 
 abbrev x′ : Term Variable
-x′ = variable (marked 0)
+x′ = variable (named marked 0)
 
 -- Do two terms with variables of a file share an instance? Does a pattern match a term?
 shared : Term Variable → Term Variable → Bool

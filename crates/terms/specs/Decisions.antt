@@ -2,9 +2,9 @@
 use mathlib.Core.Path.{_≡_, refl}
 use mathlib.Core.Bool.{Bool, true, false}
 use mathlib.Core.Logic.{_⊎_, inl, inr}
-use Prim.Native.Nat.{ℕ}
-use lib.Dec.{eqb}
-use borrow.Author.Tests.{eqb-true, eqb-false}
+use Prim.Native.Nat.{ℕ, _<_}
+use lib.Dec.{eqb, ltb}
+use borrow.Author.Tests.{eqb-true, eqb-false, ltb-true, ltb-false}
 use native.Mathlib.Omega.{arith}
 use Rattle.terms.specs.Solve.{Says}
 
@@ -56,6 +56,13 @@ says-eq a b = go (eqb a b) refl
     go : (t : Bool) → eqb a b ≡ t → Says t (a ≡ b)
     go true e = eqb-true a b e
     go false e = eqb-false a b e
+
+pub says-lt : (a b : ℕ) → Says (ltb a b) (a < b)
+says-lt a b = go (ltb a b) refl
+  where
+    go : (t : Bool) → ltb a b ≡ t → Says t (a < b)
+    go true e = ltb-true a b e
+    go false e = λ h. omega (arith, ltb-false a b e)
 
 -- What a true answer says, and a false one.
 pub says-yes : {P : Type 0} (b : Bool) → Says b P → b ≡ true → P

@@ -10,10 +10,12 @@ use native.Mathlib.Decide.{decLt, ℕ-discrete}
 use lib.ListN.{length, getD, set, length-set}
 use lib.Seq.{getD-set-same, getD-set-other}
 use Rattle.terms.specs.Term.{Message}
+use Rattle.terms.specs.Tag.{pairTag, encryptionTag, Tagged, isAtom, isPair, isEncryption, isVariable, isNone, tagged}
 use Rattle.terms.specs.Entry.{size}
 use Rattle.terms.specs.Graph.{IsSymbol, Child, Valid, Respects, Finite, finite}
 use Rattle.terms.specs.GraphLaws.{falls, child-symbol}
-use Rattle.terms.specs.TermGraph.{TwoTerms, OwnEntry, AtHome, HasChild, nodeTag, nodeBy, nodeOf, firstChild, secondChild, nodeValue}
+use Rattle.terms.specs.TermGraph.{rightNodes, variableNodes}
+use Rattle.terms.specs.TermGraph.{TwoTerms, OwnEntry, AtHome, HasChild, nodeTag, nodeFor, nodeBy, nodeOf, firstChild, secondChild, nodeValue}
 use Rattle.terms.specs.TermGraphLaws.{past-free, home-symbol, symbol-inside}
 use Rattle.terms.specs.UniteLaws.{node-by}
 use Rattle.terms.specs.Names.{nameOf, Linked, name-named, name-home}
@@ -30,11 +32,11 @@ pub record ParentEnds (s t c : List ℕ) (k : ℕ) : Type 0 where
 
 -- From every class with a mark above 1 all ways down end.
 pub record Sound (s t c m : List ℕ) : Type 0 where
-  pub ends : (a : ℕ) → a < 128 → 1 < getD m a 0 → ChildrenEnd s t c a
+  pub ends : (a : ℕ) → a < variableNodes → 1 < getD m a 0 → ChildrenEnd s t c a
 
 -- Node i is below every class with mark 1: a valid valuation that respects the classes gives it a smaller message.
 pub record Below (s t c m : List ℕ) (i : ℕ) : Type 0 where
-  pub smaller : (v : ℕ → Message) → Valid (nodeOf s t) v → Respects (nameOf c) v → (a : ℕ) → a < 128 → getD m a 0 ≡ 1 → size (v i) < size (v a)
+  pub smaller : (v : ℕ → Message) → Valid (nodeOf s t) v → Respects (nameOf c) v → (a : ℕ) → a < variableNodes → getD m a 0 ≡ 1 → size (v i) < size (v a)
 
 -- Every child of node a is below every class with mark 1.
 pub record ChildrenBelow (s t c m : List ℕ) (a : ℕ) : Type 0 where
@@ -53,11 +55,11 @@ zeros (x ∷ m) = unmarked x + zeros m
 pub record MarksKept (s t c m n : List ℕ) : Type 0 where
   pub sound : Sound s t c n
   pub fewer : zeros n ≤ zeros m
-  pub open-before : (a : ℕ) → a < 128 → getD n a 0 ≡ 1 → getD m a 0 ≡ 1
+  pub open-before : (a : ℕ) → a < variableNodes → getD n a 0 ≡ 1 → getD m a 0 ≡ 1
 
 -- The answer r of a walk: yes, and what it looked for, P, holds; no, and no valid valuation respects the classes.
 pub record Walked (s t c m n : List ℕ) (P : Type 0) (r : Bool) : Type 0 where
-  pub long : length n ≡ 128
+  pub long : length n ≡ variableNodes
   pub ends : r ≡ true → P × MarksKept s t c m n
   pub never : r ≡ false → (v : ℕ → Message) → Valid (nodeOf s t) v → Respects (nameOf c) v → ⊥
 
@@ -92,40 +94,40 @@ no-more-zeros (x ∷ m) (suc a) = let ih = no-more-zeros m a in omega arith
 
 -- A node's children by its tag.
 module _ (s t : List ℕ) (i : ℕ) where
-  childless : (nodeTag s t i ≡ 2 → ⊥) → (nodeTag s t i ≡ 3 → ⊥) → (j : ℕ) → Child j (nodeOf s t i) → ⊥
+  childless : (nodeTag s t i ≡ pairTag → ⊥) → (nodeTag s t i ≡ encryptionTag → ⊥) → (j : ℕ) → Child j (nodeOf s t i) → ⊥
   unfolding nodeOf nodeBy
-  childless no-pair no-encryption = go (nodeTag s t i) no-pair no-encryption
+  childless no-pair no-encryption = go (tagged (nodeTag s t i))
     where
-      go : (n : ℕ) → (n ≡ 2 → ⊥) → (n ≡ 3 → ⊥) → (j : ℕ) → Child j (nodeBy n (nodeValue s t i) (firstChild s t i) (secondChild s t i)) → ⊥
-      go zero p q j child = child
-      go (suc zero) p q j child = child
-      go (suc (suc zero)) p q j child = p refl
-      go (suc (suc (suc zero))) p q j child = q refl
-      go (suc (suc (suc (suc n)))) p q j child = child
+      go : (w : Tagged (nodeTag s t i)) (j : ℕ) → Child j (nodeFor w (nodeValue s t i) (firstChild s t i) (secondChild s t i)) → ⊥
+      go (isAtom e) j child = child
+      go (isPair e) j child = no-pair e
+      go (isEncryption e) j child = no-encryption e
+      go (isVariable v e) j child = child
+      go (isNone e) j child = child
 
-  pair-children : nodeTag s t i ≡ 2 → (j : ℕ) → Child j (nodeOf s t i) → (j ≡ firstChild s t i) ⊎ (j ≡ secondChild s t i)
+  pair-children : nodeTag s t i ≡ pairTag → (j : ℕ) → Child j (nodeOf s t i) → (j ≡ firstChild s t i) ⊎ (j ≡ secondChild s t i)
   unfolding nodeBy
   pair-children two j child = subst (Child j) (node-by s t i two) child
 
-  content-children : nodeTag s t i ≡ 3 → (j : ℕ) → Child j (nodeOf s t i) → j ≡ firstChild s t i
+  content-children : nodeTag s t i ≡ encryptionTag → (j : ℕ) → Child j (nodeOf s t i) → j ≡ firstChild s t i
   unfolding nodeBy
   content-children three j child = subst (Child j) (node-by s t i three) child
 
 -- ---- answers
 
 -- Yes, with the marks kept.
-pub yes-kept : {s t c m n : List ℕ} {P : Type 0} → length n ≡ 128 → MarksKept s t c m n → P → Walked s t c m n P true
+pub yes-kept : {s t c m n : List ℕ} {P : Type 0} → length n ≡ variableNodes → MarksKept s t c m n → P → Walked s t c m n P true
 yes-kept long kept p = record { long = long; ends = λ e. (p, kept); never = λ e. absurd (true≢false e) }
 
 -- Nothing was marked on the way.
 pub kept-same : {s t c m : List ℕ} → Sound s t c m → MarksKept s t c m m
 kept-same sound = record { sound = sound; fewer = omega arith; open-before = λ a h q. q }
 
-pub yes-at-once : {s t c m : List ℕ} {P : Type 0} → length m ≡ 128 → Sound s t c m → P → Walked s t c m m P true
+pub yes-at-once : {s t c m : List ℕ} {P : Type 0} → length m ≡ variableNodes → Sound s t c m → P → Walked s t c m m P true
 yes-at-once long sound = yes-kept long (kept-same sound)
 
 -- A way was found that never ends.
-pub no-way : {s t c m n : List ℕ} {P : Type 0} → length n ≡ 128 → ((v : ℕ → Message) → Valid (nodeOf s t) v → Respects (nameOf c) v → ⊥)
+pub no-way : {s t c m n : List ℕ} {P : Type 0} → length n ≡ variableNodes → ((v : ℕ → Message) → Valid (nodeOf s t) v → Respects (nameOf c) v → ⊥)
     → Walked s t c m n P false
 no-way long none = record { long = long; ends = λ e. absurd (false≢true e); never = λ e. none }
 
@@ -136,12 +138,12 @@ answer-map f w = record { long = w .long; ends = λ e. (f (w .ends e .0), w .end
 -- ---- at a class: node i, whose class is named a
 
 -- A class whose name is no entry's node: nothing stands below it.
-pub past-ends : (s t c : List ℕ) (i : ℕ) {a : ℕ} → a ≡ nameOf c i → 128 ≤ a → Finite (nodeOf s t) (nameOf c) i
+pub past-ends : (s t c : List ℕ) (i : ℕ) {a : ℕ} → a ≡ nameOf c i → variableNodes ≤ a → Finite (nodeOf s t) (nameOf c) i
 past-ends s t c i is high =
-    finite (λ j child. absurd (subst (Child j) (past-free s t (nameOf c i) (subst (λ (n : ℕ). 128 ≤ n) is high)) child))
+    finite (λ j child. absurd (subst (Child j) (past-free s t (nameOf c i) (subst (λ (n : ℕ). variableNodes ≤ n) is high)) child))
 
 -- A class whose name is an entry's node: a symbol stands there.
-pub symbol-there : {s t c : List ℕ} (i : ℕ) {a : ℕ} → Linked s t c → AtHome s t i → a ≡ nameOf c i → a < 128 → IsSymbol (nodeOf s t a)
+pub symbol-there : {s t c : List ℕ} (i : ℕ) {a : ℕ} → Linked s t c → AtHome s t i → a ≡ nameOf c i → a < variableNodes → IsSymbol (nodeOf s t a)
 symbol-there {s} {t} i linked at-home is low = home-symbol (rw is (name-home linked i at-home)) low
 
 -- A class whose children end.
@@ -149,7 +151,7 @@ pub class-ends : {s t c : List ℕ} (i : ℕ) {a : ℕ} → a ≡ nameOf c i →
 class-ends {s} {t} i is all = finite (λ j child. all .child j (subst (λ (n : ℕ). Child j (nodeOf s t n)) (sym is) child))
 
 -- A way that leads back to mark 1.
-pub back-again : {s t c m : List ℕ} {i a : ℕ} → a ≡ nameOf c i → a < 128 → getD m a 0 ≡ 1 → Below s t c m i
+pub back-again : {s t c m : List ℕ} {i a : ℕ} → a ≡ nameOf c i → a < variableNodes → getD m a 0 ≡ 1 → Below s t c m i
     → (v : ℕ → Message) → Valid (nodeOf s t) v → Respects (nameOf c) v → ⊥
 back-again {i = i} {a = a} is low one below v valid respects =
     let less = below .smaller v valid respects a low one in
@@ -170,7 +172,7 @@ module _ {s t c m : List ℕ} {a : ℕ} (inside : a < length m) where
   open-below {i} is below = record { child = λ j child. record { smaller = λ v valid respects. go j child v valid respects } }
     where
       go : (j : ℕ) → Child j (nodeOf s t a) → (v : ℕ → Message) → Valid (nodeOf s t) v → Respects (nameOf c) v
-          → (b : ℕ) → b < 128 → getD (set m a 1) b 0 ≡ 1 → size (v j) < size (v b)
+          → (b : ℕ) → b < variableNodes → getD (set m a 1) b 0 ≡ 1 → size (v j) < size (v b)
       go j child v valid respects b h one =
           let down = falls (nodeOf s t) (nameOf c) v valid respects i j (subst (λ (n : ℕ). Child j (nodeOf s t n)) is child) in
           elim (ℕ-discrete b a) [
@@ -179,7 +181,7 @@ module _ {s t c m : List ℕ} {a : ℕ} (inside : a < length m) where
           ]
 
 -- Mark 2 on a, once its children have ended: n are the marks that their walk left.
-module _ {s t c m n : List ℕ} {a : ℕ} (low : a < 128) (inside : a < length m) (unmet : getD m a 0 ≡ 0) (long : length n ≡ 128) where
+module _ {s t c m n : List ℕ} {a : ℕ} (low : a < variableNodes) (inside : a < length m) (unmet : getD m a 0 ≡ 0) (long : length n ≡ variableNodes) where
   closed-kept : ChildrenEnd s t c a → MarksKept s t c (set m a 1) n → MarksKept s t c m (set n a 2)
   closed-kept all kept = record {
     sound = record {
@@ -211,25 +213,25 @@ kept-both first then = record {
 
 -- The children of node a, by its tag.
 module _ {s t c : List ℕ} {a : ℕ} where
-  pub first-below : {m : List ℕ} {x : ℕ} → nodeTag s t a ≡ 2 → x ≡ firstChild s t a → ChildrenBelow s t c m a → Below s t c m x
+  pub first-below : {m : List ℕ} {x : ℕ} → nodeTag s t a ≡ pairTag → x ≡ firstChild s t a → ChildrenBelow s t c m a → Below s t c m x
   unfolding nodeBy
   first-below two is all = rw is (all .child (firstChild s t a) (subst (Child (firstChild s t a)) (sym (node-by s t a two)) (inl refl)))
 
-  pub second-below : {m : List ℕ} {x : ℕ} → nodeTag s t a ≡ 2 → x ≡ secondChild s t a → ChildrenBelow s t c m a → Below s t c m x
+  pub second-below : {m : List ℕ} {x : ℕ} → nodeTag s t a ≡ pairTag → x ≡ secondChild s t a → ChildrenBelow s t c m a → Below s t c m x
   unfolding nodeBy
   second-below two is all = rw is (all .child (secondChild s t a) (subst (Child (secondChild s t a)) (sym (node-by s t a two)) (inr refl)))
 
-  pub content-below : {m : List ℕ} {x : ℕ} → nodeTag s t a ≡ 3 → x ≡ firstChild s t a → ChildrenBelow s t c m a → Below s t c m x
+  pub content-below : {m : List ℕ} {x : ℕ} → nodeTag s t a ≡ encryptionTag → x ≡ firstChild s t a → ChildrenBelow s t c m a → Below s t c m x
   unfolding nodeBy
   content-below three is all = rw is (all .child (firstChild s t a) (subst (Child (firstChild s t a)) (sym (node-by s t a three)) refl))
 
-  pub no-children : (nodeTag s t a ≡ 2 → ⊥) → (nodeTag s t a ≡ 3 → ⊥) → ChildrenEnd s t c a
+  pub no-children : (nodeTag s t a ≡ pairTag → ⊥) → (nodeTag s t a ≡ encryptionTag → ⊥) → ChildrenEnd s t c a
   no-children no-pair no-encryption = record { child = λ j child. absurd (childless s t a no-pair no-encryption j child) }
 
-  pub content-ends : {x : ℕ} → nodeTag s t a ≡ 3 → x ≡ firstChild s t a → Finite (nodeOf s t) (nameOf c) x → ChildrenEnd s t c a
+  pub content-ends : {x : ℕ} → nodeTag s t a ≡ encryptionTag → x ≡ firstChild s t a → Finite (nodeOf s t) (nameOf c) x → ChildrenEnd s t c a
   content-ends three is first = record { child = λ j child. subst (Finite (nodeOf s t) (nameOf c)) (is ∙ sym (content-children s t a three j child)) first }
 
-  halves-end : {x y : ℕ} → nodeTag s t a ≡ 2 → x ≡ firstChild s t a → y ≡ secondChild s t a
+  halves-end : {x y : ℕ} → nodeTag s t a ≡ pairTag → x ≡ firstChild s t a → y ≡ secondChild s t a
       → Finite (nodeOf s t) (nameOf c) x → Finite (nodeOf s t) (nameOf c) y → ChildrenEnd s t c a
   halves-end two is-first is-second first second = record { child = λ j child. go j (pair-children s t a two j child) }
     where
@@ -238,7 +240,7 @@ module _ {s t c : List ℕ} {a : ℕ} where
       go j (inr e) = subst (Finite (nodeOf s t) (nameOf c)) (is-second ∙ sym e) second
 
   -- The first half has ended; the second half answers for both.
-  pub halves-walked : {m n o : List ℕ} {x y : ℕ} {r : Bool} → nodeTag s t a ≡ 2 → x ≡ firstChild s t a → y ≡ secondChild s t a
+  pub halves-walked : {m n o : List ℕ} {x y : ℕ} {r : Bool} → nodeTag s t a ≡ pairTag → x ≡ firstChild s t a → y ≡ secondChild s t a
       → Finite (nodeOf s t) (nameOf c) x × MarksKept s t c m n → Walked s t c n o (Finite (nodeOf s t) (nameOf c) y) r → Walked s t c m o (ChildrenEnd s t c a) r
   halves-walked two is-first is-second first w = record {
     long = w .long;
@@ -260,11 +262,11 @@ parent-home {s} {t} {k} there has = record {
 pub parent-ends : {s t c : List ℕ} {k : ℕ} → Finite (nodeOf s t) (nameOf c) k → ParentEnds s t c k
 parent-ends f = record { parent = λ j child. f }
 
-pub no-parent : {s t c : List ℕ} {k : ℕ} → (nodeTag s t k ≡ 2 → ⊥) → (nodeTag s t k ≡ 3 → ⊥) → ParentEnds s t c k
+pub no-parent : {s t c : List ℕ} {k : ℕ} → (nodeTag s t k ≡ pairTag → ⊥) → (nodeTag s t k ≡ encryptionTag → ⊥) → ParentEnds s t c k
 no-parent {s} {t} {k = k} no-pair no-encryption = record { parent = λ j child. absurd (childless s t k no-pair no-encryption j child) }
 
 -- Nothing is marked at the start.
-module _ (s t c m : List ℕ) (none : (a : ℕ) → a < 128 → getD m a 0 ≡ 0) where
+module _ (s t c m : List ℕ) (none : (a : ℕ) → a < variableNodes → getD m a 0 ≡ 0) where
   pub start-sound : Sound s t c m
   start-sound = record { ends = λ a h more. let zero-there = none a h in absurd (omega arith) }
 
@@ -278,26 +280,26 @@ module _ (s t : List ℕ) (two : TwoTerms s t) where
     each = λ k h g. record { low = omega (arith, two .left-short); left = λ l. omega arith; right = λ l. absurd (omega (arith, two .left-short)) };
   }
 
-  pub right-entries : EachFrom (OwnEntry s t) 64 (64 + length t / 4)
+  pub right-entries : EachFrom (OwnEntry s t) rightNodes (rightNodes + length t / 4)
   right-entries = record {
     each = λ k h g. record { low = omega (arith, two .right-short); left = λ l. absurd (omega arith); right = λ l. omega arith };
   }
 
 -- A node with children is an entry of one of the terms.
-parent-inside : {s t : List ℕ} → TwoTerms s t → (a j : ℕ) → Child j (nodeOf s t a) → (a < length s / 4) ⊎ ((64 ≤ a) × (a < 64 + length t / 4))
+parent-inside : {s t : List ℕ} → TwoTerms s t → (a j : ℕ) → Child j (nodeOf s t a) → (a < length s / 4) ⊎ ((rightNodes ≤ a) × (a < rightNodes + length t / 4))
 parent-inside {s} {t} two a j child =
     let there : OwnEntry s t a = symbol-inside two {i = a} (child-symbol (nodeOf s t a) j child) in
-    elim (decLt a 64) [ yes l ↦ inl (omega (arith, there .left l)) | no n ↦ inr (omega arith, omega (arith, there .right (omega arith))) ]
+    elim (decLt a rightNodes) [ yes l ↦ inl (omega (arith, there .left l)) | no n ↦ inr (omega arith, omega (arith, there .right (omega arith))) ]
 
 -- Where every way down from the entries ends, every way down does.
 pub all-finite : {s t c : List ℕ} → TwoTerms s t → Linked s t c → EachFrom (ParentEnds s t c) 0 (length s / 4)
-    → EachFrom (ParentEnds s t c) 64 (64 + length t / 4) → (i : ℕ) → Finite (nodeOf s t) (nameOf c) i
+    → EachFrom (ParentEnds s t c) rightNodes (rightNodes + length t / 4) → (i : ℕ) → Finite (nodeOf s t) (nameOf c) i
 all-finite {s} {t} {c} two linked left right i = finite (λ j child. go j child (parent-inside two (nameOf c i) j child))
   where
     of-name : (j : ℕ) → Child j (nodeOf s t (nameOf c i)) → Finite (nodeOf s t) (nameOf c) (nameOf c i) → Finite (nodeOf s t) (nameOf c) j
     of-name j child (finite f) = f j (subst (λ (n : ℕ). Child j (nodeOf s t n)) (sym (name-named linked i)) child)
 
-    go : (j : ℕ) → Child j (nodeOf s t (nameOf c i)) → (nameOf c i < length s / 4) ⊎ ((64 ≤ nameOf c i) × (nameOf c i < 64 + length t / 4))
+    go : (j : ℕ) → Child j (nodeOf s t (nameOf c i)) → (nameOf c i < length s / 4) ⊎ ((rightNodes ≤ nameOf c i) × (nameOf c i < rightNodes + length t / 4))
         → Finite (nodeOf s t) (nameOf c) j
     go j child (inl l) = of-name j child (left .each (nameOf c i) (omega arith) l .parent j child)
     go j child (inr l) = of-name j child (right .each (nameOf c i) (l .0) (l .1) .parent j child)

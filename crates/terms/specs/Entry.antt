@@ -6,7 +6,8 @@ use mathlib.Core.Option.{Option, none, some}
 use Prim.Native.Nat.{ℕ, zero, suc, _+_, _*_, _/_, _%_, _≤_}
 use lib.Dec.{ltb}
 use lib.ListN.{length, getD}
-use Rattle.terms.specs.Term.{Term, Variable, variable, atom, pair, encrypted, plain, marked}
+use Rattle.terms.specs.Term.{Term, Variable, variable, atom, pair, encrypted, named}
+use Rattle.terms.specs.Tag.{atomTag, pairTag, encryptionTag, sortTag, variables, Tagged, isAtom, isPair, isEncryption, isVariable, isNone, tagged}
 
 -- What one entry says: an atom, a pair, an encryption under a key, or a variable.
 pub data Symbol : Type 0 where
@@ -15,29 +16,20 @@ pub data Symbol : Type 0 where
   encryptionSymbol : ℕ → Symbol
   variableSymbol : Variable → Symbol
 
--- Tags: 1 atom; 2 pair; 3 encryption; 4 plain variable; 5 marked variable.
+-- The tag of an entry.
 unfoldable pub tagOf : Symbol → ℕ
-tagOf (atomSymbol a) = 1
-tagOf pairSymbol = 2
-tagOf (encryptionSymbol k) = 3
-tagOf (variableSymbol (plain x)) = 4
-tagOf (variableSymbol (marked x)) = 5
+unfolding sortTag
+tagOf (atomSymbol a) = atomTag
+tagOf pairSymbol = pairTag
+tagOf (encryptionSymbol k) = encryptionTag
+tagOf (variableSymbol (named s x)) = sortTag s
 
 -- The value: an atom's number, 0 for a pair, the key's number, a variable's number.
 unfoldable pub valueOf : Symbol → ℕ
 valueOf (atomSymbol a) = a
 valueOf pairSymbol = 0
 valueOf (encryptionSymbol k) = k
-valueOf (variableSymbol (plain x)) = x
-valueOf (variableSymbol (marked x)) = x
-
--- How many children an entry of this tag has.
-unfoldable pub childrenOf : ℕ → ℕ
-childrenOf zero = 0
-childrenOf (suc zero) = 0
-childrenOf (suc (suc zero)) = 2
-childrenOf (suc (suc (suc zero))) = 1
-childrenOf (suc (suc (suc (suc n)))) = 0
+valueOf (variableSymbol (named s x)) = x
 
 -- A term entry: tag, a zero byte, value (two bytes, little-endian).
 unfoldable pub entryOf : Symbol → List ℕ
@@ -63,15 +55,17 @@ numbered true x = some (variableSymbol x)
 numbered false x = none
 
 -- The symbol of a tag and a value, if there is one.
+abbrev pub symbolBy : {tag : ℕ} → Tagged tag → ℕ → Option Symbol
+symbolBy (isAtom e) n = some (atomSymbol n)
+symbolBy (isPair e) zero = some pairSymbol
+symbolBy (isPair e) (suc n) = none
+symbolBy (isEncryption e) n = some (encryptionSymbol n)
+symbolBy (isVariable s e) n = numbered (ltb n variables) (named s n)
+symbolBy (isNone e) n = none
+
 unfoldable pub symbolOf : ℕ → ℕ → Option Symbol
-symbolOf zero n = none
-symbolOf (suc zero) n = some (atomSymbol n)
-symbolOf (suc (suc zero)) zero = some pairSymbol
-symbolOf (suc (suc zero)) (suc n) = none
-symbolOf (suc (suc (suc zero))) n = some (encryptionSymbol n)
-symbolOf (suc (suc (suc (suc zero)))) n = numbered (ltb n 8) (plain n)
-symbolOf (suc (suc (suc (suc (suc zero))))) n = numbered (ltb n 8) (marked n)
-symbolOf (suc (suc (suc (suc (suc (suc m)))))) n = none
+unfolding tagged
+symbolOf tag n = symbolBy (tagged tag) n
 
 -- A symbol put before terms takes its children from their front.
 unfoldable pub before : Symbol → List (Term Variable) → Option (List (Term Variable))

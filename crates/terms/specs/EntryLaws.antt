@@ -9,86 +9,86 @@ use lib.Dec.{ltb}
 use borrow.Author.Tests.{ltb-true}
 use lib.ListN.{getD, length, drop, length-drop}
 use lib.Seq.{drop-drop}
-use Rattle.terms.specs.Term.{Term, Variable, variable, atom, pair, encrypted, plain, marked}
-use Rattle.terms.specs.Entry.{Symbol, atomSymbol, pairSymbol, encryptionSymbol, variableSymbol, childrenOf, symbolOf, numbered, before, beforeAll}
+use Rattle.terms.specs.Term.{Term, Variable, Sort, variable, atom, pair, encrypted, named}
+use Rattle.terms.specs.Tag.{pairTag, encryptionTag, sortTag, variables, Tagged, isAtom, isPair, isEncryption, isVariable, isNone, tagged, childrenBy, childrenOf}
+use Rattle.terms.specs.Tag.{atomTag, VariableTag, sort-tag}
+use Rattle.terms.specs.Entry.{Symbol, atomSymbol, pairSymbol, encryptionSymbol, variableSymbol, symbolBy, symbolOf, numbered, before, beforeAll}
 use Rattle.terms.specs.Entry.{withZero, termsOf, termOf, firstOf, tagAt, valueAt, size, Reads, Begins}
 
 -- Any other tag than a pair's and an encryption's has no children.
-pub no-children : (tag : ℕ) → (tag ≡ 2 → ⊥) → (tag ≡ 3 → ⊥) → 0 ≡ childrenOf tag
+pub no-children : (tag : ℕ) → (tag ≡ pairTag → ⊥) → (tag ≡ encryptionTag → ⊥) → 0 ≡ childrenOf tag
 unfolding childrenOf
-no-children zero a b = refl
-no-children (suc zero) a b = refl
-no-children (suc (suc zero)) a b = absurd (a refl)
-no-children (suc (suc (suc zero))) a b = absurd (b refl)
-no-children (suc (suc (suc (suc n)))) a b = refl
+no-children tag off off′ = go (tagged tag)
+  where
+    go : (w : Tagged tag) → 0 ≡ childrenBy w
+    go (isAtom e) = refl
+    go (isPair e) = absurd (off e)
+    go (isEncryption e) = absurd (off′ e)
+    go (isVariable s e) = refl
+    go (isNone e) = refl
 
-pub two-children : {tag : ℕ} → tag ≡ 2 → 2 ≡ childrenOf tag
+pub two-children : {tag : ℕ} → tag ≡ pairTag → 2 ≡ childrenOf tag
 unfolding childrenOf
 two-children e = rw e refl
 
-pub one-child : {tag : ℕ} → tag ≡ 3 → 1 ≡ childrenOf tag
+pub one-child : {tag : ℕ} → tag ≡ encryptionTag → 1 ≡ childrenOf tag
 unfolding childrenOf
 one-child e = rw e refl
 
 -- The entry of this tag and value, before these entries, makes these terms.
 pub data First (tag n : ℕ) (rest : List ℕ) (l : List (Term Variable)) : Type 0 where
-  first-atom : {m : List (Term Variable)} → tag ≡ 1 → l ≡ atom n ∷ m → Reads rest m → First tag n rest l
-  first-pair : {t u : Term Variable} {m : List (Term Variable)} → tag ≡ 2 → n ≡ 0 → l ≡ pair t u ∷ m → Reads rest (t ∷ u ∷ m) → First tag n rest l
-  first-encrypted : {t : Term Variable} {m : List (Term Variable)} → tag ≡ 3 → l ≡ encrypted n t ∷ m → Reads rest (t ∷ m) → First tag n rest l
-  first-plain : {m : List (Term Variable)} → tag ≡ 4 → n < 8 → l ≡ variable (plain n) ∷ m → Reads rest m → First tag n rest l
-  first-marked : {m : List (Term Variable)} → tag ≡ 5 → n < 8 → l ≡ variable (marked n) ∷ m → Reads rest m → First tag n rest l
+  first-atom : {m : List (Term Variable)} → tag ≡ atomTag → l ≡ atom n ∷ m → Reads rest m → First tag n rest l
+  first-pair : {t u : Term Variable} {m : List (Term Variable)} → tag ≡ pairTag → n ≡ 0 → l ≡ pair t u ∷ m → Reads rest (t ∷ u ∷ m) → First tag n rest l
+  first-encrypted : {t : Term Variable} {m : List (Term Variable)} → tag ≡ encryptionTag → l ≡ encrypted n t ∷ m → Reads rest (t ∷ m) → First tag n rest l
+  first-variable : {s : Sort} {m : List (Term Variable)} → tag ≡ sortTag s → VariableTag tag → n < variables → l ≡ variable (named s n) ∷ m
+      → Reads rest m → First tag n rest l
 
 pub none≢some : {A : Type 0} (x : A) → none ≡ some x → ⊥
 none≢some x e = let z : _≡_ {A = ℕ} 0 1 = cc in omega arith
 
-module _ (rest : List ℕ) (l : List (Term Variable)) where
-  atomCase : (n : ℕ) (o : Option (List (Term Variable))) → termsOf rest ≡ o → beforeAll (some (atomSymbol n)) o ≡ some l → First 1 n rest l
+module _ (rest : List ℕ) (l : List (Term Variable)) {tag : ℕ} where
+  atomCase : tag ≡ atomTag → (n : ℕ) (o : Option (List (Term Variable))) → termsOf rest ≡ o → beforeAll (some (atomSymbol n)) o ≡ some l → First tag n rest l
   unfolding beforeAll before
-  atomCase n none q r = absurd (none≢some _ r)
-  atomCase n (some m) q r = first-atom {m = m} refl (cc) (record { is = q })
+  atomCase g n none q r = absurd (none≢some _ r)
+  atomCase g n (some m) q r = first-atom {m = m} g (cc) (record { is = q })
 
-  pairCase : (o : Option (List (Term Variable))) → termsOf rest ≡ o → beforeAll (some pairSymbol) o ≡ some l → First 2 0 rest l
+  pairCase : tag ≡ pairTag → (o : Option (List (Term Variable))) → termsOf rest ≡ o → beforeAll (some pairSymbol) o ≡ some l → First tag 0 rest l
   unfolding beforeAll before
-  pairCase none q r = absurd (none≢some _ r)
-  pairCase (some []) q r = absurd (none≢some _ r)
-  pairCase (some (t ∷ [])) q r = absurd (none≢some _ r)
-  pairCase (some (t ∷ u ∷ m)) q r = first-pair {t = t} {u = u} {m = m} refl refl (cc) (record { is = q })
+  pairCase g none q r = absurd (none≢some _ r)
+  pairCase g (some []) q r = absurd (none≢some _ r)
+  pairCase g (some (t ∷ [])) q r = absurd (none≢some _ r)
+  pairCase g (some (t ∷ u ∷ m)) q r = first-pair {t = t} {u = u} {m = m} g refl (cc) (record { is = q })
 
-  encryptedCase : (n : ℕ) (o : Option (List (Term Variable))) → termsOf rest ≡ o → beforeAll (some (encryptionSymbol n)) o ≡ some l → First 3 n rest l
+  encryptedCase : tag ≡ encryptionTag → (n : ℕ) (o : Option (List (Term Variable))) → termsOf rest ≡ o → beforeAll (some (encryptionSymbol n)) o ≡ some l
+      → First tag n rest l
   unfolding beforeAll before
-  encryptedCase n none q r = absurd (none≢some _ r)
-  encryptedCase n (some []) q r = absurd (none≢some _ r)
-  encryptedCase n (some (t ∷ m)) q r = first-encrypted {t = t} {m = m} refl (cc) (record { is = q })
+  encryptedCase g n none q r = absurd (none≢some _ r)
+  encryptedCase g n (some []) q r = absurd (none≢some _ r)
+  encryptedCase g n (some (t ∷ m)) q r = first-encrypted {t = t} {m = m} g (cc) (record { is = q })
 
-  plainCase : (n : ℕ) (b : Bool) (o : Option (List (Term Variable))) → termsOf rest ≡ o → ltb n 8 ≡ b → beforeAll (numbered b (plain n)) o ≡ some l
-      → First 4 n rest l
+  variableCase : (s : Sort) → tag ≡ sortTag s → (n : ℕ) (b : Bool) (o : Option (List (Term Variable))) → termsOf rest ≡ o → ltb n variables ≡ b
+      → beforeAll (numbered b (named s n)) o ≡ some l → First tag n rest l
   unfolding beforeAll before
-  plainCase n false o q b r = absurd (none≢some _ r)
-  plainCase n true none q b r = absurd (none≢some _ r)
-  plainCase n true (some m) q b r = first-plain {m = m} refl (ltb-true n 8 b) (cc) (record { is = q })
+  variableCase s g n false o q b r = absurd (none≢some _ r)
+  variableCase s g n true none q b r = absurd (none≢some _ r)
+  variableCase s g n true (some m) q b r = first-variable {s = s} {m = m} g (sort-tag s g) (ltb-true n variables b) (cc) (record { is = q })
 
-  markedCase : (n : ℕ) (b : Bool) (o : Option (List (Term Variable))) → termsOf rest ≡ o → ltb n 8 ≡ b → beforeAll (numbered b (marked n)) o ≡ some l
-      → First 5 n rest l
-  unfolding beforeAll before
-  markedCase n false o q b r = absurd (none≢some _ r)
-  markedCase n true none q b r = absurd (none≢some _ r)
-  markedCase n true (some m) q b r = first-marked {m = m} refl (ltb-true n 8 b) (cc) (record { is = q })
-
-  fromSymbol : (tag n : ℕ) → beforeAll (symbolOf tag n) (termsOf rest) ≡ some l → First tag n rest l
+  fromSymbol : (n : ℕ) → beforeAll (symbolOf tag n) (termsOf rest) ≡ some l → First tag n rest l
   unfolding symbolOf beforeAll
-  fromSymbol zero n r = absurd (none≢some _ r)
-  fromSymbol (suc zero) n r = atomCase n (termsOf rest) refl r
-  fromSymbol (suc (suc zero)) zero r = pairCase (termsOf rest) refl r
-  fromSymbol (suc (suc zero)) (suc n) r = absurd (none≢some _ r)
-  fromSymbol (suc (suc (suc zero))) n r = encryptedCase n (termsOf rest) refl r
-  fromSymbol (suc (suc (suc (suc zero)))) n r = plainCase n (ltb n 8) (termsOf rest) refl refl r
-  fromSymbol (suc (suc (suc (suc (suc zero))))) n r = markedCase n (ltb n 8) (termsOf rest) refl refl r
-  fromSymbol (suc (suc (suc (suc (suc (suc m)))))) n r = absurd (none≢some _ r)
+  fromSymbol n r = go (tagged tag) n r
+    where
+      go : (w : Tagged tag) (n : ℕ) → beforeAll (symbolBy w n) (termsOf rest) ≡ some l → First tag n rest l
+      go (isAtom e) n r = atomCase e n (termsOf rest) refl r
+      go (isPair e) zero r = pairCase e (termsOf rest) refl r
+      go (isPair e) (suc n) r = absurd (none≢some _ r)
+      go (isEncryption e) n r = encryptedCase e n (termsOf rest) refl r
+      go (isVariable s e) n r = variableCase s e n (ltb n variables) (termsOf rest) refl refl r
+      go (isNone e) n r = absurd (none≢some _ r)
 
-  fromEntry : (z tag n : ℕ) → beforeAll (withZero z (symbolOf tag n)) (termsOf rest) ≡ some l → First tag n rest l
+  fromEntry : (z n : ℕ) → beforeAll (withZero z (symbolOf tag n)) (termsOf rest) ≡ some l → First tag n rest l
   unfolding withZero beforeAll
-  fromEntry zero tag n r = fromSymbol tag n r
-  fromEntry (suc z) tag n r = absurd (none≢some _ r)
+  fromEntry zero n r = fromSymbol n r
+  fromEntry (suc z) n r = absurd (none≢some _ r)
 
 nothing-read : {A : Type 0} {t : Term Variable} {l : List (Term Variable)} → some [] ≡ some (t ∷ l) → A
 nothing-read r = let z : _≡_ {A = ℕ} 0 1 = cc in absurd (omega arith)
@@ -103,10 +103,10 @@ first {e} {t} {l} r = go e (r .is)
     go (a ∷ []) r = absurd (none≢some _ r)
     go (a ∷ b ∷ []) r = absurd (none≢some _ r)
     go (a ∷ b ∷ c ∷ []) r = absurd (none≢some _ r)
-    go (a ∷ b ∷ c ∷ d ∷ e) r = fromEntry e (t ∷ l) b a (c + 256 * d) r
+    go (a ∷ b ∷ c ∷ d ∷ e) r = fromEntry e (t ∷ l) b (c + 256 * d) r
 
 -- The second byte of an entry is zero.
-entry-zero : {r : List (Term Variable)} (z : ℕ) (s : Option Symbol) (o : Option (List (Term Variable))) → beforeAll (withZero z s) o ≡ some r → z ≡ 0
+pub entry-zero : {r : List (Term Variable)} (z : ℕ) (s : Option Symbol) (o : Option (List (Term Variable))) → beforeAll (withZero z s) o ≡ some r → z ≡ 0
 unfolding withZero beforeAll
 entry-zero zero s o r = refl
 entry-zero (suc z) s o r = absurd (none≢some _ r)
@@ -141,61 +141,52 @@ termOf-reads r = ap firstOf (r .is)
 
 -- Reading a term of a known shape: tag, value, and what is left.
 module _ {e : List ℕ} {l : List (Term Variable)} where
-  pub reads-atom : {a : ℕ} → Reads e (atom a ∷ l) → (tagAt e ≡ 1) × (valueAt e ≡ a) × Reads (drop 4 e) l
+  pub reads-atom : {a : ℕ} → Reads e (atom a ∷ l) → (tagAt e ≡ atomTag) × (valueAt e ≡ a) × Reads (drop 4 e) l
   reads-atom {a} r = go (first r)
     where
-      go : First (tagAt e) (valueAt e) (drop 4 e) (atom a ∷ l) → (tagAt e ≡ 1) × (valueAt e ≡ a) × Reads (drop 4 e) l
+      go : First (tagAt e) (valueAt e) (drop 4 e) (atom a ∷ l) → (tagAt e ≡ atomTag) × (valueAt e ≡ a) × Reads (drop 4 e) l
       go (first-atom {m} g q k) = let same : m ≡ l = cc in (g, cc, rw same at k)
       go (first-pair {t} {u} {m} g n q k) = let z : _≡_ {A = ℕ} 0 1 = cc in absurd (omega arith)
       go (first-encrypted {t} {m} g q k) = let z : _≡_ {A = ℕ} 0 1 = cc in absurd (omega arith)
-      go (first-plain {m} g n q k) = let z : _≡_ {A = ℕ} 0 1 = cc in absurd (omega arith)
-      go (first-marked {m} g n q k) = let z : _≡_ {A = ℕ} 0 1 = cc in absurd (omega arith)
+      go (first-variable g v n q k) = let z : _≡_ {A = ℕ} 0 1 = cc in absurd (omega arith)
 
-  pub reads-pair : {v w : Term Variable} → Reads e (pair v w ∷ l) → (tagAt e ≡ 2) × (valueAt e ≡ 0) × Reads (drop 4 e) (v ∷ w ∷ l)
+  pub reads-pair : {v w : Term Variable} → Reads e (pair v w ∷ l) → (tagAt e ≡ pairTag) × (valueAt e ≡ 0) × Reads (drop 4 e) (v ∷ w ∷ l)
   reads-pair {v} {w} r = go (first r)
     where
-      go : First (tagAt e) (valueAt e) (drop 4 e) (pair v w ∷ l) → (tagAt e ≡ 2) × (valueAt e ≡ 0) × Reads (drop 4 e) (v ∷ w ∷ l)
+      go : First (tagAt e) (valueAt e) (drop 4 e) (pair v w ∷ l) → (tagAt e ≡ pairTag) × (valueAt e ≡ 0) × Reads (drop 4 e) (v ∷ w ∷ l)
       go (first-atom {m} g q k) = let z : _≡_ {A = ℕ} 0 1 = cc in absurd (omega arith)
       go (first-pair {t} {u} {m} g n q k) = let same : t ∷ u ∷ m ≡ v ∷ w ∷ l = cc in (g, n, rw same at k)
       go (first-encrypted {t} {m} g q k) = let z : _≡_ {A = ℕ} 0 1 = cc in absurd (omega arith)
-      go (first-plain {m} g n q k) = let z : _≡_ {A = ℕ} 0 1 = cc in absurd (omega arith)
-      go (first-marked {m} g n q k) = let z : _≡_ {A = ℕ} 0 1 = cc in absurd (omega arith)
+      go (first-variable g v n q k) = let z : _≡_ {A = ℕ} 0 1 = cc in absurd (omega arith)
 
-  pub reads-encrypted : {k0 : ℕ} {v : Term Variable} → Reads e (encrypted k0 v ∷ l) → (tagAt e ≡ 3) × (valueAt e ≡ k0) × Reads (drop 4 e) (v ∷ l)
+  pub reads-encrypted : {k0 : ℕ} {v : Term Variable} → Reads e (encrypted k0 v ∷ l) → (tagAt e ≡ encryptionTag) × (valueAt e ≡ k0) × Reads (drop 4 e) (v ∷ l)
   reads-encrypted {k0} {v} r = go (first r)
     where
-      go : First (tagAt e) (valueAt e) (drop 4 e) (encrypted k0 v ∷ l) → (tagAt e ≡ 3) × (valueAt e ≡ k0) × Reads (drop 4 e) (v ∷ l)
+      go : First (tagAt e) (valueAt e) (drop 4 e) (encrypted k0 v ∷ l) → (tagAt e ≡ encryptionTag) × (valueAt e ≡ k0) × Reads (drop 4 e) (v ∷ l)
       go (first-atom {m} g q k) = let z : _≡_ {A = ℕ} 0 1 = cc in absurd (omega arith)
       go (first-pair {t} {u} {m} g n q k) = let z : _≡_ {A = ℕ} 0 1 = cc in absurd (omega arith)
       go (first-encrypted {t} {m} g q k) = let same : t ∷ m ≡ v ∷ l = cc in (g, cc, rw same at k)
-      go (first-plain {m} g n q k) = let z : _≡_ {A = ℕ} 0 1 = cc in absurd (omega arith)
-      go (first-marked {m} g n q k) = let z : _≡_ {A = ℕ} 0 1 = cc in absurd (omega arith)
+      go (first-variable g v n q k) = let z : _≡_ {A = ℕ} 0 1 = cc in absurd (omega arith)
 
-  pub reads-plain : {x : ℕ} → Reads e (variable (plain x) ∷ l) → (tagAt e ≡ 4) × (valueAt e ≡ x) × (x < 8) × Reads (drop 4 e) l
-  reads-plain {x} r = go (first r)
+  pub reads-variable : {s : Sort} {x : ℕ} → Reads e (variable (named s x) ∷ l)
+      → (tagAt e ≡ sortTag s) × (valueAt e ≡ x) × (x < variables) × Reads (drop 4 e) l
+  reads-variable {s} {x} r = go (first r)
     where
-      go : First (tagAt e) (valueAt e) (drop 4 e) (variable (plain x) ∷ l) → (tagAt e ≡ 4) × (valueAt e ≡ x) × (x < 8) × Reads (drop 4 e) l
+      go : First (tagAt e) (valueAt e) (drop 4 e) (variable (named s x) ∷ l)
+          → (tagAt e ≡ sortTag s) × (valueAt e ≡ x) × (x < variables) × Reads (drop 4 e) l
       go (first-atom {m} g q k) = let z : _≡_ {A = ℕ} 0 1 = cc in absurd (omega arith)
       go (first-pair {t} {u} {m} g n q k) = let z : _≡_ {A = ℕ} 0 1 = cc in absurd (omega arith)
       go (first-encrypted {t} {m} g q k) = let z : _≡_ {A = ℕ} 0 1 = cc in absurd (omega arith)
-      go (first-plain {m} g n q k) = let same : m ≡ l = cc in let number : valueAt e ≡ x = cc in (g, number, rw number at n, rw same at k)
-      go (first-marked {m} g n q k) = let z : _≡_ {A = ℕ} 0 1 = cc in absurd (omega arith)
-
-  pub reads-marked : {x : ℕ} → Reads e (variable (marked x) ∷ l) → (tagAt e ≡ 5) × (valueAt e ≡ x) × (x < 8) × Reads (drop 4 e) l
-  reads-marked {x} r = go (first r)
-    where
-      go : First (tagAt e) (valueAt e) (drop 4 e) (variable (marked x) ∷ l) → (tagAt e ≡ 5) × (valueAt e ≡ x) × (x < 8) × Reads (drop 4 e) l
-      go (first-atom {m} g q k) = let z : _≡_ {A = ℕ} 0 1 = cc in absurd (omega arith)
-      go (first-pair {t} {u} {m} g n q k) = let z : _≡_ {A = ℕ} 0 1 = cc in absurd (omega arith)
-      go (first-encrypted {t} {m} g q k) = let z : _≡_ {A = ℕ} 0 1 = cc in absurd (omega arith)
-      go (first-plain {m} g n q k) = let z : _≡_ {A = ℕ} 0 1 = cc in absurd (omega arith)
-      go (first-marked {m} g n q k) = let same : m ≡ l = cc in let number : valueAt e ≡ x = cc in (g, number, rw number at n, rw same at k)
+      go (first-variable {s = s′} {m = m} g v n q k) =
+          let same : m ≡ l = cc in
+          let number : valueAt e ≡ x = cc in
+          let sort : s′ ≡ s = cc in
+          (rw sort at g, number, rw number at n, rw same at k)
 
 -- Past a term stand the others.
 pub past : (t : Term Variable) {l : List (Term Variable)} {e : List ℕ} → Reads e (t ∷ l) → Reads (drop (4 * size t) e) l
 unfolding size
-past (variable (plain x)) r = reads-plain r .3
-past (variable (marked x)) r = reads-marked r .3
+past (variable (named s x)) r = reads-variable r .3
 past (atom a) r = reads-atom r .2
 past (pair t u) {l} {e} r =
     let right : Reads (drop (4 * size u) (drop (4 * size t) (drop 4 e))) l = past u (past t (reads-pair r .2)) in
@@ -209,8 +200,7 @@ past (encrypted k t) {l} {e} r =
 -- A term's entries fit.
 pub fits : (t : Term Variable) {l : List (Term Variable)} {e : List ℕ} → Reads e (t ∷ l) → 4 * size t ≤ length e
 unfolding size
-fits (variable (plain x)) r = four r
-fits (variable (marked x)) r = four r
+fits (variable x) r = four r
 fits (atom a) r = four r
 fits (pair t u) {l} {e} r =
     let a = fits t (reads-pair r .2) in
@@ -240,8 +230,7 @@ rest-reads {e} {t} {l} r = go (first r)
     go (first-atom {m} g q k) = (m, k)
     go (first-pair {t} {u} {m} g n q k) = (t ∷ u ∷ m, k)
     go (first-encrypted {t} {m} g q k) = (t ∷ m, k)
-    go (first-plain {m} g n q k) = (m, k)
-    go (first-marked {m} g n q k) = (m, k)
+    go (first-variable {m = m} g v n q k) = (m, k)
 
 -- An entry makes at least one term.
 pub never-empty : (s : Option Symbol) (o : Option (List (Term Variable))) → beforeAll s o ≡ some [] → ⊥

@@ -7,7 +7,9 @@ use mathlib.Core.Option.{Option, none, some}
 use Prim.Native.Nat.{ℕ, _+_, _*_, _-_, _<_, _≤_}
 use lib.Dec.{ltb}
 use lib.ListN.{length, getD, take}
-use Rattle.terms.specs.Term.{Term, Variable, variable, atom, pair, encrypted, plain, marked, replace}
+use Rattle.terms.specs.Term.{Term, Variable, replace}
+use Rattle.terms.specs.Tag.{SymbolTag}
+use Rattle.terms.specs.Slot.{slotCount, inSlot}
 use Rattle.terms.specs.Entry.{termsOf, termOf, tagAt, valueAt, Reads, Begins}
 use Rattle.terms.specs.WalkLaws.{from}
 
@@ -56,28 +58,12 @@ pub record Ran (need : ℕ) (e f : List ℕ) (count left : ℕ) : Type 0 where
 -- It goes on: a term is left, and both go on with the same symbol.
 pub record Goes (e f : List ℕ) (count left : ℕ) : Type 0 where
   pub some-left : ¬ (left ≡ 0)
-  pub symbol : tagAt (from (4 * count) e) ≤ 3
+  pub symbol : SymbolTag (tagAt (from (4 * count) e))
   pub same : SameFirst (from (4 * count) e) (from (4 * count) f)
-
--- The slot of a variable that is a term: 0 to 7 plain, 8 to 15 marked; 16 for any other term.
-unfoldable pub slotOf : Term Variable → ℕ
-slotOf (variable (plain x)) = x
-slotOf (variable (marked x)) = 8 + x
-slotOf (atom a) = 16
-slotOf (pair t u) = 16
-slotOf (encrypted k t) = 16
-
--- The variable of a slot.
-abbrev pub inHalf : Bool → ℕ → Variable
-inHalf true i = plain i
-inHalf false i = marked (i - 8)
-
-unfoldable pub inSlot : ℕ → Variable
-inSlot i = inHalf (ltb i 8) i
 
 -- Bindings: for each of 16 slots the entry of t where its variable's term stands, 255 for a variable that is not bound.
 abbrev pub Bound : List ℕ → ℕ → Type 0
-Bound bound i = (i < 16) × ¬ (getD bound i 0 ≡ 255)
+Bound bound i = (i < slotCount) × ¬ (getD bound i 0 ≡ 255)
 
 -- The replacement is the one of the bindings, where a variable is bound.
 pub record Agrees (t bound : List ℕ) (by : Variable → Term Variable) : Type 0 where

@@ -1,5 +1,5 @@
 -- Laws of the first terms of entries: what one entry, and what one term, says of them.
-use mathlib.Core.Path.{_≡_, refl, sym, ap, _∙_}
+use mathlib.Core.Path.{_≡_, refl, sym, ap, _∙_, ap₂}
 use mathlib.Core.Bool.{Bool, true, false}
 use mathlib.Core.List.{List, [], _∷_, map}
 use mathlib.Core.Option.{Option, none, some}
@@ -11,10 +11,11 @@ use borrow.Author.Tests.{eqb-true, eqb-false}
 use lib.ListN.{length, take, drop, length-drop}
 use lib.Seq.{drop-drop}
 use borrow.Rule.Slice.PartAt.{part-to-end}
-use Rattle.terms.specs.Term.{Term, Variable, variable, atom, pair, encrypted, plain, marked, replace}
+use Rattle.terms.specs.Term.{Term, Variable, variable, atom, pair, encrypted, named, replace}
 use Rattle.terms.specs.Entry.{Symbol, atomSymbol, pairSymbol, encryptionSymbol, variableSymbol, tagOf, valueOf, before, termOf, tagAt, valueAt}
-use Rattle.terms.specs.Entry.{size, childrenOf, Reads, Begins}
-use Rattle.terms.specs.EntryLaws.{First, first-atom, first-pair, first-encrypted, first-plain, first-marked, first, none≢some, termOf-reads}
+use Rattle.terms.specs.Entry.{size, Reads, Begins}
+use Rattle.terms.specs.Tag.{Tagged, isAtom, isPair, isEncryption, isVariable, isNone, tagged, sort-tagged, sort-childless, childrenOf}
+use Rattle.terms.specs.EntryLaws.{First, first-atom, first-pair, first-encrypted, first-variable, first, none≢some, termOf-reads}
 use Rattle.terms.specs.EntryLaws.{past, fits, begins, size-positive, zero-byte}
 use Rattle.terms.specs.WalkLaws.{from}
 use Rattle.terms.specs.Occurs.{replace-none}
@@ -29,24 +30,23 @@ pub from-length : (n : ℕ) (e : List ℕ) → length (from n e) ≡ length e - 
 from-length n e = rw part-to-end (length-drop n e)
 
 -- A symbol is known by its tag and its value.
-named : ℕ → ℕ → Symbol
-named zero n = pairSymbol
-named (suc zero) n = atomSymbol n
-named (suc (suc zero)) n = pairSymbol
-named (suc (suc (suc zero))) n = encryptionSymbol n
-named (suc (suc (suc (suc zero)))) n = variableSymbol (plain n)
-named (suc (suc (suc (suc (suc m))))) n = variableSymbol (marked n)
+symbolFor : {tag : ℕ} → Tagged tag → ℕ → Symbol
+symbolFor (isAtom e) n = atomSymbol n
+symbolFor (isPair e) n = pairSymbol
+symbolFor (isEncryption e) n = encryptionSymbol n
+symbolFor (isVariable s e) n = variableSymbol (named s n)
+symbolFor (isNone e) n = pairSymbol
 
-named-is : (s : Symbol) → named (tagOf s) (valueOf s) ≡ s
-unfolding named tagOf valueOf
-named-is (atomSymbol a) = refl
-named-is pairSymbol = refl
-named-is (encryptionSymbol k) = refl
-named-is (variableSymbol (plain x)) = refl
-named-is (variableSymbol (marked x)) = refl
+symbol-for : (s : Symbol) → symbolFor (tagged (tagOf s)) (valueOf s) ≡ s
+unfolding symbolFor tagged tagOf valueOf
+symbol-for (atomSymbol a) = refl
+symbol-for pairSymbol = refl
+symbol-for (encryptionSymbol k) = refl
+symbol-for (variableSymbol (named s x)) = rw (sort-tagged s) refl
 
 same-symbol : (s r : Symbol) → tagOf s ≡ tagOf r → valueOf s ≡ valueOf r → s ≡ r
-same-symbol s r t v = cc (named-is s, named-is r)
+same-symbol s r t v =
+    sym (symbol-for s) ∙ ap₂ (λ (n m : ℕ). symbolFor (tagged n) m) t v ∙ symbol-for r
 
 -- The symbol of a term that stands first, and the terms with its children in its place.
 topOf : List (Term Variable) → Option Symbol
@@ -159,14 +159,10 @@ opened (suc n) {e} f some-left = front-some f some-left (λ t l r h. go t l r h 
         let same : l ≡ m = cc in
         let long : length l ≡ length m = ap length same in
         opening (encryptionSymbol (valueAt e)) (suc n) (suc n) (t ∷ l) (v ∷ m) r k g refl (rw g (omega arith)) (omega arith) (cc)
-    go t l r h (first-plain {m} g z q k) =
+    go t l r h (first-variable {s = s} {m = m} g v z q k) =
         let same : l ≡ m = cc in
         let long : length l ≡ length m = ap length same in
-        opening (variableSymbol (plain (valueAt e))) (suc n) n (t ∷ l) m r k g refl (rw g (omega arith)) (omega arith) (cc)
-    go t l r h (first-marked {m} g z q k) =
-        let same : l ≡ m = cc in
-        let long : length l ≡ length m = ap length same in
-        opening (variableSymbol (marked (valueAt e))) (suc n) n (t ∷ l) m r k g refl (rw g (omega arith)) (omega arith) (cc)
+        opening (variableSymbol (named s (valueAt e))) (suc n) n (t ∷ l) m r k g refl (rw g (omega (arith, sort-childless s))) (omega arith) (cc)
 
 -- The first terms as the one that stands first, and those past it.
 pub record Parted (need : ℕ) (e : List ℕ) : Type 0 where

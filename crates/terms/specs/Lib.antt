@@ -4,9 +4,11 @@ pub mod Term
 pub mod Place
 pub mod Instance
 pub mod Atom
+pub mod Tag
 pub mod Entry
 pub mod TermEntry
 pub mod OneTerm
+pub mod Slot
 pub mod Each
 pub mod First
 -- The meaning, decided: sameness, matching and sharing by unification of the terms themselves.

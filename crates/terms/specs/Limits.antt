@@ -3,19 +3,23 @@
 use mathlib.Core.Path.{_≡_, refl, ap}
 use mathlib.Core.Bool.{Bool, true, false}
 use mathlib.Core.List.{List, [], _∷_}
+use mathlib.Core.Logic.{_⊎_, inl, inr}
+use native.Mathlib.Decide.{ℕ-discrete}
 use Prim.Native.Nat.{ℕ, zero, suc, _*_, _/_, _≤_, _<_}
 use native.Mathlib.Omega.{arith}
 use lib.Dec.{ltb, eqb}
 use borrow.Author.Tests.{ltb-true, eqb-true, eqb-false, lt-ltb, le-ltb, eq-eqb, ne-eqb}
 use lib.ListN.{length, getD, List·getD-eq-default}
 use borrow.Rule.Slice.PartAt.{part-to-end}
+use Rattle.terms.specs.Term.{Sort, plain, marked}
+use Rattle.terms.specs.Tag.{atomTag, markedTag, sortTag, variables, Tagged, isAtom, isPair, isEncryption, isVariable, isNone, tagged}
 use Rattle.terms.specs.Entry.{tagAt, valueAt}
 use Rattle.terms.specs.WalkLaws.{from}
 use Rattle.terms.specs.GraphLaws.{pick}
 use Rattle.terms.specs.Solve.{Says, says-same}
 use Rattle.terms.specs.Decisions.{says-yes, says-no}
-use Rattle.terms.specs.Atom.{Atom, atomsOf, atomAt, atomKind, IsKey, key-kind, kind-key, key-listed, length-atoms}
-use Rattle.terms.specs.TermEntry.{EntryRight, Asked, asked, tagRight}
+use Rattle.terms.specs.Atom.{Atom, publicKind, symmetricKind, atomsOf, atomAt, atomKind, IsKey, key-kind, kind-key, key-listed, length-atoms}
+use Rattle.terms.specs.TermEntry.{EntryRight, MayStand, AskedBy, Asked, asked, tagRight}
 use Rattle.terms.specs.Each.{EntryIs}
 use Rattle.terms.specs.ValidLaws.{kind-byte}
 
@@ -25,17 +29,17 @@ listedKind atoms n = pick (ltb (atomKind atoms n) 6) (atomKind atoms n) 0
 
 -- How many plain and how many marked variables a block of this kind may have.
 unfoldable pub plainLimit : ℕ → ℕ
-plainLimit kind = pick (eqb kind 2) 0 8
+plainLimit kind = pick (eqb kind 2) 0 variables
 
 unfoldable pub markedLimit : ℕ → ℕ
-markedLimit kind = pick (eqb kind 3) 8 0
+markedLimit kind = pick (eqb kind 3) variables 0
 
 -- The limits of the tags, with so many atoms, and their least kinds.
 unfoldable pub limitsOf : ℕ → ℕ → List ℕ
 limitsOf kind count = 0 ∷ count ∷ 1 ∷ count ∷ plainLimit kind ∷ markedLimit kind ∷ []
 
 abbrev pub leastKinds : List ℕ
-leastKinds = 0 ∷ 0 ∷ 0 ∷ 3 ∷ 0 ∷ 0 ∷ []
+leastKinds = 0 ∷ 0 ∷ 0 ∷ publicKind ∷ 0 ∷ 0 ∷ []
 
 -- The entry that stands first is right by these tables.
 pub record ByTables (atoms : List Atom) (limits least e : List ℕ) : Type 0 where
@@ -64,11 +68,11 @@ module _ {kind : ℕ} where
   unfolding plainLimit
   plain-secret e = rw (eq-eqb kind 2 e)
 
-  pub plain-other : (kind ≡ 2 → ⊥) → 8 ≡ plainLimit kind
+  pub plain-other : (kind ≡ 2 → ⊥) → variables ≡ plainLimit kind
   unfolding plainLimit
   plain-other e = rw (ne-eqb kind 2 e)
 
-  pub marked-good : kind ≡ 3 → 8 ≡ markedLimit kind
+  pub marked-good : kind ≡ 3 → variables ≡ markedLimit kind
   unfolding markedLimit
   marked-good e = rw (eq-eqb kind 3 e)
 
@@ -78,47 +82,66 @@ module _ {kind : ℕ} where
 
 -- What the tables ask of an entry is what number 7 asks, tag by tag.
 module _ (atoms : List Atom) (kind value : ℕ) where
-  kind-key-listed : 3 ≤ listedKind atoms value → IsKey atoms value
+  kind-key-listed : publicKind ≤ listedKind atoms value → IsKey atoms value
   unfolding listedKind
   kind-key-listed = go (ltb (atomKind atoms value) 6) refl
     where
-      go : (t : Bool) → ltb (atomKind atoms value) 6 ≡ t → 3 ≤ pick t (atomKind atoms value) 0 → IsKey atoms value
+      go : (t : Bool) → ltb (atomKind atoms value) 6 ≡ t → publicKind ≤ pick t (atomKind atoms value) 0 → IsKey atoms value
       go true e h = let l = ltb-true (atomKind atoms value) 6 e in kind-key h (omega arith)
       go false e h = absurd (omega arith)
 
-  key-kind-listed : IsKey atoms value → 3 ≤ listedKind atoms value
+  key-kind-listed : IsKey atoms value → publicKind ≤ listedKind atoms value
   unfolding listedKind
   key-kind-listed k = let b = key-kind k in rw (lt-ltb (atomKind atoms value) 6 (omega arith)) (b .0)
 
   within-asked : (tag : ℕ) → value < getD (limitsOf kind (length atoms)) tag 0 → getD leastKinds tag 0 ≤ listedKind atoms value
       → Asked atoms kind value tag
-  unfolding Asked limitsOf
-  within-asked zero below kept = absurd (omega arith)
-  within-asked (suc zero) below kept = below
-  within-asked (suc (suc zero)) below kept = omega arith
-  within-asked (suc (suc (suc zero))) below kept = kind-key-listed kept
-  within-asked (suc (suc (suc (suc zero)))) below kept = go (eqb kind 2) refl
+  unfolding Asked limitsOf sortTag MayStand
+  within-asked tag below kept = go (tagged tag) below kept
     where
-      go : (t : Bool) → eqb kind 2 ≡ t → (value < 8) × (kind ≡ 2 → ⊥)
-      go true e = absurd (omega (arith, plain-secret (eqb-true kind 2 e)))
-      go false e = (omega (arith, plain-other (eqb-false kind 2 e)), eqb-false kind 2 e)
-  within-asked (suc (suc (suc (suc (suc zero))))) below kept = go (eqb kind 3) refl
-    where
-      go : (t : Bool) → eqb kind 3 ≡ t → (value < 8) × (kind ≡ 3)
-      go true e = (omega (arith, marked-good (eqb-true kind 3 e)), eqb-true kind 3 e)
-      go false e = absurd (omega (arith, marked-other (eqb-false kind 3 e)))
-  within-asked (suc (suc (suc (suc (suc (suc t)))))) below kept = absurd (omega arith)
+      sorted : (s : Sort) → value < getD (limitsOf kind (length atoms)) (sortTag s) 0 → (value < variables) × MayStand s kind
+      sorted plain below = elim (ℕ-discrete kind 2) [
+        | yes e ↦ absurd (omega (arith, plain-secret e))
+        | no off ↦ (omega (arith, plain-other off), off)
+      ]
+      sorted marked below = elim (ℕ-discrete kind 3) [
+        | yes e ↦ (omega (arith, marked-good e), e)
+        | no off ↦ absurd (omega (arith, marked-other off))
+      ]
+
+      past : {n : ℕ} (l : List ℕ) → length l ≡ 6 → 5 < n → getD l n 0 ≡ 0
+      past l long far = List·getD-eq-default l 0 (omega arith)
+
+      none : (n : ℕ) → (n < atomTag) ⊎ (markedTag < n) → value < getD (limitsOf kind (length atoms)) n 0 → ⊥
+      none n (inl low) below = let z : n ≡ 0 = omega arith in let h = rw z at below in omega arith
+      none n (inr far) below = let z = past (limitsOf kind (length atoms)) refl far in omega arith
+
+      go : (w : Tagged tag) → value < getD (limitsOf kind (length atoms)) tag 0 → getD leastKinds tag 0 ≤ listedKind atoms value
+          → AskedBy atoms kind value w
+      go (isAtom e) below kept = rw e at below
+      go (isPair e) below kept = let h = rw e at below in omega arith
+      go (isEncryption e) below kept = kind-key-listed (rw e at kept)
+      go (isVariable s e) below kept = sorted s (rw e at below)
+      go (isNone e) below kept = absurd (none tag e below)
 
   asked-within : (tag : ℕ) → Asked atoms kind value tag
       → (value < getD (limitsOf kind (length atoms)) tag 0) × (getD leastKinds tag 0 ≤ listedKind atoms value)
-  unfolding Asked limitsOf
-  asked-within zero a = absurd a
-  asked-within (suc zero) a = (a, omega arith)
-  asked-within (suc (suc zero)) a = (omega arith, omega arith)
-  asked-within (suc (suc (suc zero))) a = (key-listed a, key-kind-listed a)
-  asked-within (suc (suc (suc (suc zero)))) a = (omega (arith, a .0, plain-other (a .1)), omega arith)
-  asked-within (suc (suc (suc (suc (suc zero))))) a = (omega (arith, a .0, marked-good (a .1)), omega arith)
-  asked-within (suc (suc (suc (suc (suc (suc t)))))) a = absurd a
+  unfolding Asked limitsOf sortTag MayStand
+  asked-within tag a = go (tagged tag) a
+    where
+      Within : ℕ → Type 0
+      Within n = (value < getD (limitsOf kind (length atoms)) n 0) × (getD leastKinds n 0 ≤ listedKind atoms value)
+
+      sorted : (s : Sort) → value < variables → MayStand s kind → Within (sortTag s)
+      sorted plain low off = (omega (arith, plain-other off), omega arith)
+      sorted marked low is = (omega (arith, marked-good is), omega arith)
+
+      go : (w : Tagged tag) → AskedBy atoms kind value w → Within tag
+      go (isAtom e) a = rw e (a, omega arith)
+      go (isPair e) a = rw e (omega arith, omega arith)
+      go (isEncryption e) a = rw e (key-listed a, key-kind-listed a)
+      go (isVariable s e) a = rw e (sorted s (a .0) (a .1))
+      go (isNone e) a = absurd a
 
 abbrev Right : List ℕ → ℕ → List ℕ → Type 0
 Right b kind e = EntryRight (atomsOf b) kind (tagAt e) (getD e 1 0) (valueAt e)

@@ -1,5 +1,5 @@
 -- Laws of matching by a walk over the pattern's entries left: slots of variables, bindings, and a step for each branch.
-use mathlib.Core.Path.{_≡_, refl, sym, _∙_}
+use mathlib.Core.Path.{_≡_, refl, sym, ap, _∙_}
 use mathlib.Core.Bool.{Bool, true, false, not}
 use mathlib.Core.List.{List, _∷_}
 use mathlib.Core.Logic.{_↔_}
@@ -11,46 +11,45 @@ use borrow.Author.Tests.{lt-ltb, le-ltb, ltb-false}
 use lib.ListN.{length, getD, set, drop, replicate, getD-replicate}
 use lib.Seq.{getD-set-same, getD-set-other}
 use borrow.Rule.Slice.PartAt.{part-to-end}
-use Rattle.terms.specs.Term.{Term, Variable, variable, atom, pair, encrypted, plain, marked, replace}
+use Rattle.terms.specs.Term.{Term, Variable, Sort, variable, atom, pair, encrypted, plain, marked, named, replace}
+use Rattle.terms.specs.Tag.{plainTag, markedTag, sortTag, variables, SymbolTag, childrenOf}
+use Rattle.terms.specs.Slot.{slotCount, slotIn, slotOf, inSlot, slot-in, slot-of-slot}
 use Rattle.terms.specs.Instance.{Matches}
-use Rattle.terms.specs.Entry.{childrenOf, termOf, tagAt, valueAt, size, Begins}
-use Rattle.terms.specs.EntryLaws.{First, first-atom, first-pair, first-encrypted, first-plain, first-marked, first, termOf-reads, fits}
+use Rattle.terms.specs.Entry.{termOf, tagAt, valueAt, size, Begins}
+use Rattle.terms.specs.EntryLaws.{First, first-atom, first-pair, first-encrypted, first-variable, first, termOf-reads, fits}
 use Rattle.terms.specs.WalkLaws.{from}
 use Rattle.terms.specs.Solve.{Says, says-same}
 use Rattle.terms.specs.Decide.{answer, yes-of, no-of, says-answer, variable?, term?, match?}
-use Rattle.terms.specs.Front.{Front, Takes, slotOf, inSlot, inHalf, Bound, Agrees, SameFirst, Comparable, Bindable, Ready, Made}
+use Rattle.terms.specs.Front.{Front, Takes, Bound, Agrees, SameFirst, Comparable, Bindable, Ready, Made}
 use Rattle.terms.specs.FrontLaws.{from-from, from-length, front-begins, parted, opened, next, next-term, next-symbol, other-symbol, KeepsFirst}
 use Rattle.terms.specs.FrontLaws.{none-left, front-few, one-term, same-term}
 
 -- The slot of a term that stands first, by its tag and value.
 pub record Slotted (tag n : ℕ) (t : Term Variable) : Type 0 where
-  pub plain-slot : tag ≡ 4 → n ≡ slotOf t
-  pub marked-slot : tag ≡ 5 → 8 + n ≡ slotOf t
-  pub no-slot : ¬ (tag ≡ 4) → ¬ (tag ≡ 5) → 16 ≡ slotOf t
-  pub in-slot : slotOf t < 16 → t ≡ variable (inSlot (slotOf t))
-  pub off-slot : 16 ≤ slotOf t → (x : Variable) → ¬ (t ≡ variable x)
+  pub plain-slot : tag ≡ plainTag → n ≡ slotOf t
+  pub marked-slot : tag ≡ markedTag → variables + n ≡ slotOf t
+  pub no-slot : ¬ (tag ≡ plainTag) → ¬ (tag ≡ markedTag) → slotCount ≡ slotOf t
+  pub in-slot : slotOf t < slotCount → t ≡ variable (inSlot (slotOf t))
+  pub off-slot : slotCount ≤ slotOf t → (x : Variable) → ¬ (t ≡ variable x)
 
-plain-slotted : (n : ℕ) → n < 8 → Slotted 4 n (variable (plain n))
-unfolding slotOf inSlot
-plain-slotted n small = record {
+variable-slotted : (s : Sort) (n : ℕ) → n < variables → Slotted (sortTag s) n (variable (named s n))
+unfolding slotOf slotIn sortTag
+variable-slotted plain n small = record {
   plain-slot = λ h. refl;
   marked-slot = λ h. absurd (omega arith);
   no-slot = λ h i. absurd (h refl);
-  in-slot = λ h. rw (lt-ltb n 8 small) refl;
+  in-slot = λ h. ap variable (sym (slot-in plain small));
   off-slot = λ h x. absurd (omega arith);
 }
-
-marked-slotted : (n : ℕ) → n < 8 → Slotted 5 n (variable (marked n))
-unfolding slotOf inSlot
-marked-slotted n small = record {
+variable-slotted marked n small = record {
   plain-slot = λ h. absurd (omega arith);
   marked-slot = λ h. refl;
   no-slot = λ h i. absurd (i refl);
-  in-slot = λ h. (let back : 8 + n - 8 ≡ n = omega arith in rw (le-ltb (8 + n) 8 (omega arith), back) refl);
+  in-slot = λ h. ap variable (sym (slot-in marked small));
   off-slot = λ h x. absurd (omega arith);
 }
 
-symbol-slotted : (tag n : ℕ) (t : Term Variable) → tag < 4 → slotOf t ≡ 16 → ((x : Variable) → ¬ (t ≡ variable x)) → Slotted tag n t
+symbol-slotted : (tag n : ℕ) (t : Term Variable) → SymbolTag tag → slotOf t ≡ slotCount → ((x : Variable) → ¬ (t ≡ variable x)) → Slotted tag n t
 symbol-slotted tag n t small is off = record {
   plain-slot = λ h. absurd (omega arith);
   marked-slot = λ h. absurd (omega arith);
@@ -70,13 +69,12 @@ slot-first {e} b = go (first (b .reads))
         (symbol-slotted (tagAt e) (valueAt e) (pair t u) (omega arith) refl (λ x h. (let z : _≡_ {A = ℕ} 0 1 = cc in omega arith)))
     go (first-encrypted {t} g q k) = rw (termOf-reads (rw q at (b .reads)))
         (symbol-slotted (tagAt e) (valueAt e) (encrypted (valueAt e) t) (omega arith) refl (λ x h. (let z : _≡_ {A = ℕ} 0 1 = cc in omega arith)))
-    go (first-plain g n q k) = rw (termOf-reads (rw q at (b .reads)), g) (plain-slotted (valueAt e) n)
-    go (first-marked g n q k) = rw (termOf-reads (rw q at (b .reads)), g) (marked-slotted (valueAt e) n)
+    go (first-variable {s = s} g v n q k) = rw (termOf-reads (rw q at (b .reads)), g) (variable-slotted s (valueAt e) n)
 
 -- A symbol stands first: it is no variable.
-pub symbol-slot : {e : List ℕ} → Begins e → tagAt e ≤ 3 → (x : Variable) → ¬ (termOf e ≡ variable x)
+pub symbol-slot : {e : List ℕ} → Begins e → SymbolTag (tagAt e) → (x : Variable) → ¬ (termOf e ≡ variable x)
 symbol-slot {e} b low =
-    let none : 16 ≡ slotOf (termOf e) = slot-first b .no-slot (λ z. omega arith) (λ z. omega arith) in slot-first b .off-slot (omega arith)
+    let none : slotCount ≡ slotOf (termOf e) = slot-first b .no-slot (λ z. omega arith) (λ z. omega arith) in slot-first b .off-slot (omega arith)
 
 -- What the answer of a decision says.
 answered : {P : Type 0} (b : Bool) (d : Dec P) → b ≡ answer d → Says b P
@@ -84,18 +82,10 @@ answered true d is = yes-of d (sym is)
 answered false d is = no-of d (sym is)
 
 -- Where every slot holds 255, nothing is bound.
-pub none-bound : (i : ℕ) → ¬ Bound (replicate 16 255) i
-none-bound i h = h .1 (getD-replicate 16 i 255 0 (h .0))
+pub none-bound : (i : ℕ) → ¬ Bound (replicate slotCount 255) i
+none-bound i h = h .1 (getD-replicate slotCount i 255 0 (h .0))
 
 -- The replacement of the bindings.
-slot-of-slot : (i : ℕ) → slotOf (variable (inSlot i)) ≡ i
-unfolding slotOf inSlot
-slot-of-slot i = go (ltb i 8) refl
-  where
-    go : (b : Bool) → ltb i 8 ≡ b → slotOf (variable (inHalf b i)) ≡ i
-    go true h = refl
-    go false h = omega (arith, ltb-false i 8 h)
-
 bindings : (t bound : List ℕ) → Variable → Term Variable
 bindings t bound x = termOf (from (4 * getD bound (slotOf (variable x)) 0) t)
 
@@ -125,7 +115,7 @@ pub held-slot : {t : List ℕ} {old at : ℕ} → Comparable t old at → ¬ (ol
 held-slot both off b d is = says-same b (λ h. record { same = λ o. h }) (λ h. h .same off) (answered b d is)
 
 -- Bound so, a replacement agrees if it agreed before and replaces the slot's variable by that term.
-module _ (t bound : List ℕ) (x at : ℕ) (slot : x < 16) (long : x < length bound) (entry : ¬ (at ≡ 255)) where
+module _ (t bound : List ℕ) (x at : ℕ) (slot : x < slotCount) (long : x < length bound) (entry : ¬ (at ≡ 255)) where
   still : (i : ℕ) → ¬ (i ≡ x) → getD (set bound x at) i 0 ≡ getD bound i 0
   still i off = getD-set-other bound x i at 0 off
 
@@ -141,12 +131,12 @@ module _ (t bound : List ℕ) (x at : ℕ) (slot : x < 16) (long : x < length bo
 
   bind-agrees : (by : Variable → Term Variable) → Agrees t bound by → by (inSlot x) ≡ termOf (from (4 * at) t) → Agrees t (set bound x at) by
   bind-agrees by a new = record {
-    held = λ i. bound-cases (λ k. (i < 16) × ¬ (k ≡ 255) → by (inSlot i) ≡ termOf (from (4 * k) t)) i (λ is h. rw is new) (λ off h. a .held i h);
+    held = λ i. bound-cases (λ k. (i < slotCount) × ¬ (k ≡ 255) → by (inSlot i) ≡ termOf (from (4 * k) t)) i (λ is h. rw is new) (λ off h. a .held i h);
   }
 
   bind-held : ((i : ℕ) → Bound bound i → Begins (from (4 * getD bound i 0) t)) → Begins (from (4 * at) t)
       → (i : ℕ) → Bound (set bound x at) i → Begins (from (4 * getD (set bound x at) i 0) t)
-  bind-held held b i = bound-cases (λ k. (i < 16) × ¬ (k ≡ 255) → Begins (from (4 * k) t)) i (λ is h. b) (λ off h. held i h)
+  bind-held held b i = bound-cases (λ k. (i < slotCount) × ¬ (k ≡ 255) → Begins (from (4 * k) t)) i (λ is h. b) (λ off h. held i h)
 
   bound-new : (by : Variable → Term Variable) → Agrees t (set bound x at) by → by (inSlot x) ≡ termOf (from (4 * at) t)
   bound-new by a = let is = new refl in rw is at (a .held x (slot, rw is entry))
@@ -173,13 +163,13 @@ module _ {p t bound : List ℕ} {at need : ℕ} (r : Ready p t at need bound) (s
   entry-small = omega (arith, r .inside, r .small)
 
   -- A variable stands first: past its term, with that term bound.
-  module _ {x : ℕ} (slot : x ≡ slotOf (termOf p)) (low : x < 16) (long : x < length bound) where
-    first-variable : termOf p ≡ variable (inSlot x)
-    first-variable = rw slot (slot-first pattern-begins .in-slot (rw slot at low))
+  module _ {x : ℕ} (slot : x ≡ slotOf (termOf p)) (low : x < slotCount) (long : x < length bound) where
+    variable-there : termOf p ≡ variable (inSlot x)
+    variable-there = rw slot (slot-first pattern-begins .in-slot (rw slot at low))
 
     past-variable : from (4 * size (termOf p)) p ≡ from 4 p
     unfolding size
-    past-variable = rw first-variable refl
+    past-variable = rw variable-there refl
 
     past-term : {s : ℕ} → s ≡ size (termOf (from (4 * at) t)) → from (4 * size (termOf (from (4 * at) t))) (from (4 * at) t) ≡ from (4 * (at + s)) t
     past-term {s} is = let there : 4 * at + 4 * s ≡ 4 * (at + s) = omega arith in rw (← is, from-from, there) refl
@@ -201,7 +191,7 @@ module _ {p t bound : List ℕ} {at need : ℕ} (r : Ready p t at need bound) (s
     variable-term : {s : ℕ} → s ≡ size (termOf (from (4 * at) t)) → (by : Variable → Term Variable) → Takes by need p (from (4 * at) t)
         ↔ ((by (inSlot x) ≡ termOf (from (4 * at) t)) × Takes by (need - 1) (from 4 p) (from (4 * (at + s)) t))
     unfolding replace
-    variable-term is by = rw (past-variable, past-term is, first-variable) at (next-term need (r .pattern) (r .subject) some-left by)
+    variable-term is by = rw (past-variable, past-term is, variable-there) at (next-term need (r .pattern) (r .subject) some-left by)
 
     variable-made : {s : ℕ} → s ≡ size (termOf (from (4 * at) t)) → Bindable t (getD bound x 0) at
         → Made p t at need bound ↔ Made (from 4 p) t (at + s) (need - 1) (set bound x at)
@@ -235,7 +225,7 @@ module _ {p t bound : List ℕ} {at need : ℕ} (r : Ready p t at need bound) (s
     variable-clash off m = off (record { same = λ is. sym (m .agrees .held x (low, is)) ∙ variable-term refl (m .by) .0 (m .takes) .0 })
 
   -- A symbol stands first: its children are next, or it is not the same.
-  module _ {x : ℕ} (slot : x ≡ slotOf (termOf p)) (high : 16 ≤ x) where
+  module _ {x : ℕ} (slot : x ≡ slotOf (termOf p)) (high : slotCount ≤ x) where
     keeps : (by : Variable → Term Variable) → KeepsFirst by p
     keeps by y is = absurd (slot-first pattern-begins .off-slot (rw slot at high) y is)
 
@@ -273,7 +263,7 @@ module _ {p t bound : List ℕ} {at need : ℕ} (r : Ready p t at need bound) (s
 from-none : (e : List ℕ) → from (4 * 0) e ≡ e
 from-none e = part-to-end e 0
 
-pub match-ready : {p t : List ℕ} {need : ℕ} → Begins p → Begins t → length t ≤ 252 → need ≤ 1 → Ready p t 0 need (replicate 16 255)
+pub match-ready : {p t : List ℕ} {need : ℕ} → Begins p → Begins t → length t ≤ 252 → need ≤ 1 → Ready p t 0 need (replicate slotCount 255)
 match-ready {p} {t} b d small few = record {
   pattern = front-few b few;
   subject = rw (from-none t) (front-few d few);
@@ -282,14 +272,14 @@ match-ready {p} {t} b d small few = record {
   small = small;
 }
 
-match-made : {p t : List ℕ} → Begins p → Begins t → Made p t 0 1 (replicate 16 255) ↔ Matches (termOf p) (termOf t)
+match-made : {p t : List ℕ} → Begins p → Begins t → Made p t 0 1 (replicate slotCount 255) ↔ Matches (termOf p) (termOf t)
 match-made {p} {t} b d = (
   λ m. record { by = m .by; same = one-term b d (m .by) .0 (rw (from-none t) at (m .takes)) },
   λ m. record { by = m .by; agrees = record { held = λ i h. absurd (none-bound i h) }; takes = rw (from-none t) (one-term b d (m .by) .1 (m .same)) },
 )
 
 -- The answers of the walks are those of the decisions.
-pub match-answer : {p t : List ℕ} → Begins p → Begins t → (b : Bool) → Says b (Made p t 0 1 (replicate 16 255))
+pub match-answer : {p t : List ℕ} → Begins p → Begins t → (b : Bool) → Says b (Made p t 0 1 (replicate slotCount 255))
     → b ≡ answer (match? variable? variable? (termOf p) (termOf t))
 match-answer b d r says = let m = match-made b d in says-answer r (says-same r (m .0) (m .1) says) (match? variable? variable? _ _)
 

@@ -7,7 +7,10 @@ use Prim.Native.Nat.{ℕ, _<_, _≤_}
 use native.Mathlib.Omega.{arith}
 use Rattle.terms.specs.declared.classes.How.{How}
 use Rattle.terms.specs.declared.classes.How.the-variants.{Free, Differ, Atoms, Encryptions, Pairs}
-use Rattle.terms.specs.TermGraph.{nodeTag, nodeValue, freeTag, AtHome}
+use Rattle.terms.specs.Tag.{pairTag, encryptionTag}
+use Rattle.terms.specs.TermGraph.{variableNodes}
+use Rattle.terms.specs.TermGraph.{nodeTag, nodeValue, AtHome}
+use Rattle.terms.specs.Tag.{freeTag}
 use Rattle.terms.specs.TermGraphLaws.{home-symbol}
 use Rattle.terms.specs.UniteLaws.{symbol-tag}
 
@@ -19,16 +22,16 @@ pub record Symbols (s t : List ℕ) (a b : ℕ) : Type 0 where
 -- What each answer says of the nodes a and b: a is a variable's; or both are symbols, which differ, or are equal atoms,
 -- encryptions under one key, or pairs.
 abbrev pub MeetAs : List ℕ → List ℕ → ℕ → ℕ → How → Type 0
-MeetAs s t a b Free = 128 ≤ a
+MeetAs s t a b Free = variableNodes ≤ a
 MeetAs s t a b Differ =
     Symbols s t a b × ((nodeTag s t a ≡ nodeTag s t b → ⊥) ⊎
-    ((nodeTag s t a ≡ nodeTag s t b) × (nodeTag s t a ≡ 2 → ⊥) × (nodeValue s t a ≡ nodeValue s t b → ⊥)))
+    ((nodeTag s t a ≡ nodeTag s t b) × (nodeTag s t a ≡ pairTag → ⊥) × (nodeValue s t a ≡ nodeValue s t b → ⊥)))
 MeetAs s t a b Atoms =
-    Symbols s t a b × (nodeTag s t a ≡ nodeTag s t b) × (nodeTag s t a ≡ 2 → ⊥) × (nodeTag s t a ≡ 3 → ⊥) × (nodeValue s t a ≡ nodeValue s t b)
-MeetAs s t a b Encryptions = Symbols s t a b × (nodeTag s t a ≡ nodeTag s t b) × (nodeTag s t a ≡ 3) × (nodeValue s t a ≡ nodeValue s t b)
-MeetAs s t a b Pairs = Symbols s t a b × (nodeTag s t a ≡ nodeTag s t b) × (nodeTag s t a ≡ 2)
+    Symbols s t a b × (nodeTag s t a ≡ nodeTag s t b) × (nodeTag s t a ≡ pairTag → ⊥) × (nodeTag s t a ≡ encryptionTag → ⊥) × (nodeValue s t a ≡ nodeValue s t b)
+MeetAs s t a b Encryptions = Symbols s t a b × (nodeTag s t a ≡ nodeTag s t b) × (nodeTag s t a ≡ encryptionTag) × (nodeValue s t a ≡ nodeValue s t b)
+MeetAs s t a b Pairs = Symbols s t a b × (nodeTag s t a ≡ nodeTag s t b) × (nodeTag s t a ≡ pairTag)
 
 -- Where a is no variable's node, neither is b.
-pub both-symbols : {s t : List ℕ} {a b : ℕ} → AtHome s t a → AtHome s t b → b < a → a < 128 → Symbols s t a b
+pub both-symbols : {s t : List ℕ} {a b : ℕ} → AtHome s t a → AtHome s t b → b < a → a < variableNodes → Symbols s t a b
 both-symbols {s} {t} {a} {b} first second above low =
     record { left = symbol-tag s t a (home-symbol first low); right = symbol-tag s t b (home-symbol second (omega arith)) }

@@ -13,10 +13,13 @@ use lib.Seq.{getD-set-same, getD-set-other}
 use Rattle.terms.specs.Term.{Term, Variable, variable, atom, pair, encrypted, replace}
 use Rattle.terms.specs.Instance.{Share}
 use Rattle.terms.specs.Occurs.{replace-none}
-use Rattle.terms.specs.Entry.{Begins, termOf, tagAt, size, childrenOf}
+use Rattle.terms.specs.Tag.{SymbolTag}
+use Rattle.terms.specs.Entry.{Begins, termOf, tagAt, size}
+use Rattle.terms.specs.Tag.{childrenOf}
 use Rattle.terms.specs.EntryLaws.{size-positive}
 use Rattle.terms.specs.WalkLaws.{from, leaf-first}
-use Rattle.terms.specs.Front.{Front, Alike, Ran, Goes, SameFirst, slotOf}
+use Rattle.terms.specs.Front.{Front, Alike, Ran, Goes, SameFirst}
+use Rattle.terms.specs.Slot.{slotCount, slotOf}
 use Rattle.terms.specs.FrontLaws.{from-from, from-length, front-few, front-begins, parted, alike-term, alike-one, alike-none, alike-other}
 use Rattle.terms.specs.RunLaws.{from-start, tag-from, alike-share}
 use Rattle.terms.specs.MatchLaws.{symbol-slot}
@@ -87,7 +90,7 @@ module _ {s t m : List ℕ} {n i j need : ℕ} (w : Walking s t m n i j need) wh
     )
 
     -- Different symbols.
-    pub walking-apart : tagAt (from (4 * i) s) ≤ 3 → tagAt (from (4 * j) t) ≤ 3 → Stops s t i j
+    pub walking-apart : SymbolTag (tagAt (from (4 * i) s)) → SymbolTag (tagAt (from (4 * j) t)) → Stops s t i j
         → (by by′ : Variable → Term Variable) → ¬ (replace by (termOf s) ≡ replace by′ (termOf t))
     walking-apart low low′ stops by by′ h =
         alike-other need (w .front) (w .other-front) some-left by by′ (λ x is. absurd (symbol-slot (front-begins (w .front) some-left) low x is))
@@ -187,7 +190,7 @@ pub record AVariable (t : Term Variable) : Type 0 where
   pub x : Variable
   pub is : t ≡ variable x
 
-slot-variable : (t : Term Variable) → slotOf t < 16 → AVariable t
+slot-variable : (t : Term Variable) → slotOf t < slotCount → AVariable t
 unfolding slotOf
 slot-variable (variable x) low = record { x = x; is = refl }
 slot-variable (atom a) low = absurd (omega arith)
@@ -198,7 +201,7 @@ slot-variable (encrypted k t) low = absurd (omega arith)
 pub distinct-none : (s m : List ℕ) → Distinct s m 0
 distinct-none s m = record { variables = λ k h. absurd (omega arith); apart = λ j k h l. absurd (omega arith) }
 
-pub distinct-more : {s m : List ℕ} {k : ℕ} → Distinct s m k → notedSlot s m k < 16 → ((j : ℕ) → j < k → ¬ (notedSlot s m j ≡ notedSlot s m k)) → Distinct s m (k + 1)
+pub distinct-more : {s m : List ℕ} {k : ℕ} → Distinct s m k → notedSlot s m k < slotCount → ((j : ℕ) → j < k → ¬ (notedSlot s m j ≡ notedSlot s m k)) → Distinct s m (k + 1)
 distinct-more {s} {m} {k} d low new = record {
   variables = λ j h. elim (ℕ-discrete j k) [ yes e ↦ rw e low | no off ↦ d .variables j (omega arith) ];
   apart = λ i j h l. elim (ℕ-discrete j k) [ yes e ↦ rw e (new i (omega arith)) | no off ↦ d .apart i j h (omega arith) ];

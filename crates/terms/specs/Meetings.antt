@@ -8,15 +8,18 @@ use lib.ListN.{length, getD}
 use Rattle.terms.specs.declared.sharing.Walk.{Walk}
 use Rattle.terms.specs.declared.sharing.Walk.the-variants.{Apart, Through}
 use Rattle.terms.specs.Term.{Term, Message, Variable, replace}
+use Rattle.terms.specs.Tag.{SymbolTag}
 use Rattle.terms.specs.Entry.{termOf, tagAt}
 use Rattle.terms.specs.WalkLaws.{from}
-use Rattle.terms.specs.Front.{Front, Alike, SameFirst, slotOf}
+use Rattle.terms.specs.Front.{Front, Alike, SameFirst}
+use Rattle.terms.specs.Slot.{slotCount, slotOf}
+use Rattle.terms.specs.TermGraph.{rightNodes, variableNodes, rightVariables}
 use Rattle.terms.specs.TermGraph.{home}
 
 -- Both begin with symbols, and not with the same one.
 pub record RootsDiffer (s t : List ℕ) : Type 0 where
-  pub left : tagAt s ≤ 3
-  pub right : tagAt t ≤ 3
+  pub left : SymbolTag (tagAt s)
+  pub right : SymbolTag (tagAt t)
   pub differ : ¬ SameFirst s t
 
 -- n entries of each side are noted.
@@ -38,7 +41,7 @@ notedSlot s m k = slotOf (termOf (from (4 * getD m k 0) s))
 
 -- Variables stand at the first n noted entries of the first side, each another one.
 pub record Distinct (s m : List ℕ) (n : ℕ) : Type 0 where
-  pub variables : (k : ℕ) → k < n → notedSlot s m k < 16
+  pub variables : (k : ℕ) → k < n → notedSlot s m k < slotCount
   pub apart : (j k : ℕ) → j < k → k < n → ¬ (notedSlot s m j ≡ notedSlot s m k)
 
 -- The replacements, one for each side, make the terms at entries i and j the same.
@@ -63,7 +66,7 @@ pub record Walking (s t m : List ℕ) (n i j need : ℕ) : Type 0 where
 
 -- Entries i and j are not the same symbol.
 pub record Stops (s t : List ℕ) (i j : ℕ) : Type 0 where
-  pub differ : tagAt (from (4 * i) s) ≤ 3 → ¬ SameFirst (from (4 * i) s) (from (4 * j) t)
+  pub differ : SymbolTag (tagAt (from (4 * i) s)) → ¬ SameFirst (from (4 * i) s) (from (4 * j) t)
 
 -- The two terms become the same just where the noted entries do.
 pub record Reduced (s t m : List ℕ) (n : ℕ) : Type 0 where
@@ -77,4 +80,4 @@ WalkSays s t m (Through n) = Reduced s t m n
 
 -- A valuation gives the nodes of the first n noted entries equal messages, two and two.
 abbrev pub AllEqual : List ℕ → List ℕ → List ℕ → ℕ → (ℕ → Message) → Type 0
-AllEqual s t m n v = (k : ℕ) → k < n → v (home s 0 128 (getD m k 0)) ≡ v (home t 64 144 (getD m (64 + k) 0))
+AllEqual s t m n v = (k : ℕ) → k < n → v (home s 0 variableNodes (getD m k 0)) ≡ v (home t rightNodes rightVariables (getD m (64 + k) 0))

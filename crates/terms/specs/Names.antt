@@ -12,6 +12,7 @@ use lib.ListN.{length, getD, set, length-set, List·getD-eq-default}
 use lib.Seq.{getD-set-same, getD-set-other}
 use Rattle.terms.specs.Graph.{IsSymbol, Classes}
 use Rattle.terms.specs.GraphLaws.{rename, rename-hit, rename-miss, merge}
+use Rattle.terms.specs.TermGraph.{allNodes}
 use Rattle.terms.specs.TermGraph.{nodeOf, AtHome}
 use Rattle.terms.specs.TermGraphLaws.{symbol-low, home-symbol}
 
@@ -26,11 +27,11 @@ after (suc n) c i = after n c (linkOf c i)
 
 -- The name of node i's class: no way has 256 links.
 unfoldable pub nameOf : List ℕ → ℕ → ℕ
-nameOf c i = after 256 c i
+nameOf c i = after allNodes c i
 
 -- Every node leads to itself, or to a lower one that is a variable's node or a symbol's.
 pub record Linked (s t c : List ℕ) : Type 0 where
-  pub long : length c ≡ 256
+  pub long : length c ≡ allNodes
   pub falls : (i : ℕ) → (linkOf c i ≡ i) ⊎ ((linkOf c i < i) × AtHome s t (linkOf c i))
 
 -- What stands in the array, whatever is read past its end.
@@ -52,13 +53,13 @@ after-own (suc n) c i e = ap (after n c) e ∙ after-own n c i e
 
 name-own : (c : List ℕ) (i : ℕ) → linkOf c i ≡ i → nameOf c i ≡ i
 unfolding nameOf
-name-own c i e = after-own 256 c i e
+name-own c i e = after-own allNodes c i e
 
 -- Node k is on the way from node i to its class's name, with n links at most left to follow.
 pub record OnTheWay (c : List ℕ) (i n k : ℕ) : Type 0 where
   pub leads : after n c k ≡ nameOf c i
 
-pub way-starts : (c : List ℕ) (i : ℕ) → OnTheWay c i 256 i
+pub way-starts : (c : List ℕ) (i : ℕ) → OnTheWay c i allNodes i
 unfolding nameOf
 way-starts c i = record { leads = refl }
 
@@ -105,11 +106,11 @@ module _ {s t c : List ℕ} (linked : Linked s t c) where
   -- A name leads to itself.
   name-leads : (i : ℕ) → linkOf c (nameOf c i) ≡ nameOf c i
   unfolding nameOf
-  name-leads i = elim (decLt i 256) [
-    | yes l ↦ after-stays 256 i (omega arith)
+  name-leads i = elim (decLt i allNodes) [
+    | yes l ↦ after-stays allNodes i (omega arith)
     | no n ↦
         let own = past-link c i (omega (arith, linked .long)) in
-        subst (λ (k : ℕ). linkOf c k ≡ k) (sym (after-own 256 c i own)) own
+        subst (λ (k : ℕ). linkOf c k ≡ k) (sym (after-own allNodes c i own)) own
   ]
 
   own-link : (i : ℕ) → nameOf c i ≡ i → linkOf c i ≡ i
@@ -121,11 +122,11 @@ module _ {s t c : List ℕ} (linked : Linked s t c) where
 
   pub name-low : (i : ℕ) → nameOf c i ≤ i
   unfolding nameOf
-  name-low i = after-low 256 i
+  name-low i = after-low allNodes i
 
   pub name-home : (i : ℕ) → AtHome s t i → AtHome s t (nameOf c i)
   unfolding nameOf
-  name-home i h = after-home 256 i h
+  name-home i h = after-home allNodes i h
 
   pub classes-of : Classes (nodeOf s t) (nameOf c)
   classes-of = record {
@@ -175,12 +176,12 @@ module _ {s t c : List ℕ} {a b : ℕ} (linked : Linked s t c) (first : AtHome 
 
   pub joined-names : merge a b (nameOf c) ≡ nameOf (set c a b)
   unfolding nameOf
-  joined-names = fun-ext (λ i. elim (decLt i 256) [
-    | yes l ↦ sym (after-joined 256 i (omega arith))
+  joined-names = fun-ext (λ i. elim (decLt i allNodes) [
+    | yes l ↦ sym (after-joined allNodes i (omega arith))
     | no n ↦
         let off : (i ≡ a → ⊥) = λ e. omega (arith, first .small) in
         let own : linkOf c i ≡ i = past-link c i (omega (arith, linked .long)) in
-        ap (rename a b) (after-own 256 c i own) ∙ rename-miss b off ∙ sym (after-own 256 (set c a b) i (old-link i off ∙ own))
+        ap (rename a b) (after-own allNodes c i own) ∙ rename-miss b off ∙ sym (after-own allNodes (set c a b) i (old-link i off ∙ own))
   ])
 
 -- ---- the number of classes
@@ -216,9 +217,9 @@ joined-fewer {c = c} {a = a} {b = b} linked first named above =
 
 -- ---- every node a class by itself
 
-module _ (c : List ℕ) (long : length c ≡ 256) (own : (i : ℕ) → i < 256 → getD c i 0 ≡ i) where
+module _ (c : List ℕ) (long : length c ≡ allNodes) (own : (i : ℕ) → i < allNodes → getD c i 0 ≡ i) where
   alone-link : (i : ℕ) → linkOf c i ≡ i
-  alone-link i = elim (decLt i 256) [
+  alone-link i = elim (decLt i allNodes) [
     | yes l ↦ getD-any c i i 0 (omega arith) ∙ own i l
     | no n ↦ past-link c i (omega arith)
   ]
@@ -226,7 +227,7 @@ module _ (c : List ℕ) (long : length c ≡ 256) (own : (i : ℕ) → i < 256 �
   pub names-alone : nameOf c ≡ (λ i. i)
   names-alone = fun-ext (λ i. name-own c i (alone-link i))
 
-pub alone-linked : (s t c : List ℕ) → length c ≡ 256 → ((i : ℕ) → i < 256 → getD c i 0 ≡ i) → Linked s t c
+pub alone-linked : (s t c : List ℕ) → length c ≡ allNodes → ((i : ℕ) → i < allNodes → getD c i 0 ≡ i) → Linked s t c
 alone-linked s t c long own = record { long = long; falls = λ i. inl (alone-link c long own i) }
 
 -- One turn of the loop that makes every node lead to itself.

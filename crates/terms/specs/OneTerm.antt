@@ -7,14 +7,14 @@ use native.Mathlib.Omega.{arith}
 use native.Mathlib.Decide.{ℕ-discrete}
 use borrow.Author.Tests.{lt-ltb}
 use lib.ListN.{getD}
-use Rattle.terms.specs.Term.{Term, Variable, variable, atom, pair, encrypted, plain, marked}
+use Rattle.terms.specs.Term.{Term, Variable, variable, atom, pair, encrypted, named}
+use Rattle.terms.specs.Tag.{variables, sort-tagged}
 use Rattle.terms.specs.Entry.{Symbol, pairSymbol, tagOf, valueOf, symbolOf, before, beforeAll, withZero, entryOf, termEntries, termsOf, Reads}
-use Rattle.terms.specs.EntryLaws.{First, first-atom, first-pair, first-encrypted, first-plain, first-marked, first, none≢some, never-empty}
+use Rattle.terms.specs.EntryLaws.{First, first-atom, first-pair, first-encrypted, first-variable, first, none≢some, entry-zero, never-empty}
 
 -- The variables of a file's terms are numbered 0 to 7.
 unfoldable pub Numbered : Term Variable → Type 0
-Numbered (variable (plain x)) = x < 8
-Numbered (variable (marked x)) = x < 8
+Numbered (variable (named s x)) = x < variables
 Numbered (atom a) = Unit {0}
 Numbered (pair t u) = Numbered t × Numbered u
 Numbered (encrypted k t) = Numbered t
@@ -34,8 +34,8 @@ pub record HasSymbol (tag zeroByte value : ℕ) : Type 0 where
 -- A term's entries are read as the term, whatever follows.
 pub entries-read : (t : Term Variable) → Numbered t → {r : List ℕ} {l : List (Term Variable)} → Reads r l → Reads (termEntries t ++ r) (t ∷ l)
 unfolding Numbered termEntries entryOf tagOf valueOf termsOf withZero symbolOf beforeAll before
-entries-read (variable (plain x)) n {r} {l} q = let value : x % 256 + 256 * (x / 256) ≡ x = omega arith in record { is = rw (value, lt-ltb x 8 n, q .is) }
-entries-read (variable (marked x)) n {r} {l} q = let value : x % 256 + 256 * (x / 256) ≡ x = omega arith in record { is = rw (value, lt-ltb x 8 n, q .is) }
+entries-read (variable (named s x)) n {r} {l} q =
+    let value : x % 256 + 256 * (x / 256) ≡ x = omega arith in record { is = rw (value, sort-tagged s, lt-ltb x variables n, q .is) }
 entries-read (atom a) n {r} {l} q = let value : a % 256 + 256 * (a / 256) ≡ a = omega arith in record { is = rw (q .is, value) }
 entries-read (pair t u) n {r} {l} q =
     let halves = entries-read t (n .0) (entries-read u (n .1) q) in
@@ -53,12 +53,6 @@ entriesAll (t ∷ l) = termEntries t ++ entriesAll l
 unfoldable pub AllOf : (Term Variable → Type 0) → List (Term Variable) → Type 0
 AllOf Q [] = Unit {0}
 AllOf Q (t ∷ l) = Q t × AllOf Q l
-
--- The second byte of an entry is zero.
-zero-byte : (z : ℕ) (s : Option Symbol) (o : Option (List (Term Variable))) {l : List (Term Variable)} → beforeAll (withZero z s) o ≡ some l → z ≡ 0
-unfolding withZero beforeAll
-zero-byte zero s o e = refl
-zero-byte (suc z) s o e = absurd (none≢some _ e)
 
 -- The bytes of an entry, from its value.
 entry-bytes : {a b c d tag n : ℕ} {e f : List ℕ} → a ≡ tag → b ≡ 0 → c + 256 * d ≡ n → c < 256 → e ≡ f
@@ -78,7 +72,7 @@ read-entries (a ∷ []) l r = absurd (none≢some _ (r .is))
 read-entries (a ∷ b ∷ []) l r = absurd (none≢some _ (r .is))
 read-entries (a ∷ b ∷ c ∷ []) l r = absurd (none≢some _ (r .is))
 read-entries (a ∷ b ∷ c ∷ d ∷ e) [] r = absurd (never-empty _ _ (r .is))
-read-entries (a ∷ b ∷ c ∷ d ∷ e) (t ∷ l) r = go (first r) (zero-byte b _ _ (r .is)) (λ m q. read-entries e m q)
+read-entries (a ∷ b ∷ c ∷ d ∷ e) (t ∷ l) r = go (first r) (entry-zero b _ _ (r .is)) (λ m q. read-entries e m q)
   where
     later : ((i : ℕ) → getD (a ∷ b ∷ c ∷ d ∷ e) i 0 < 256) → (i : ℕ) → getD e i 0 < 256
     later all i = all (suc (suc (suc (suc i))))
@@ -94,9 +88,7 @@ read-entries (a ∷ b ∷ c ∷ d ∷ e) (t ∷ l) r = go (first r) (zero-byte b
         })
     go (first-encrypted {t = u} {m} g q k) z ih = let w = ih (u ∷ m) k in
         rw q (record { numbers = w .numbers; same = λ all. entry-bytes g z refl (all 2) (w .same (later all)) })
-    go (first-plain {m} g n q k) z ih = let w = ih m k in
-        rw q (record { numbers = (n, w .numbers); same = λ all. entry-bytes g z refl (all 2) (w .same (later all)) })
-    go (first-marked {m} g n q k) z ih = let w = ih m k in
+    go (first-variable {m = m} g v n q k) z ih = let w = ih m k in
         rw q (record { numbers = (n, w .numbers); same = λ all. entry-bytes g z refl (all 2) (w .same (later all)) })
 
 -- Exactly one term is read as that term, and the other way round for bytes.

@@ -6,8 +6,9 @@ use native.Mathlib.Omega.{arith}
 use lib.ListN.{drop}
 use Rattle.terms.specs.Term.{Term, Message, Variable, atom, pair, encrypted, replace}
 use Rattle.terms.specs.Instance.{Share}
+use Rattle.terms.specs.Tag.{SymbolTag}
 use Rattle.terms.specs.Entry.{Begins, termOf, tagAt, valueAt}
-use Rattle.terms.specs.EntryLaws.{First, first, first-atom, first-pair, first-encrypted, first-plain, first-marked, termOf-reads}
+use Rattle.terms.specs.EntryLaws.{First, first, first-atom, first-pair, first-encrypted, first-variable, termOf-reads}
 use Rattle.terms.specs.UniteLaws.{form, number}
 
 -- Replacing variables leaves a symbol at the root as it is.
@@ -26,10 +27,9 @@ root {e} b = go (first (b .reads)) (termOf-reads (b .reads))
         let here : t ≡ pair l r = cc in record { tagged = λ h by. rw here (sym g); valued = λ h by. rw here (sym zero) }
     go {n = n} {t = t} (first-encrypted {t = c} g q k) is =
         let here : t ≡ encrypted n c = cc in record { tagged = λ h by. rw here (sym g); valued = λ h by. rw here }
-    go (first-plain g n q k) is = record { tagged = λ h by. absurd (omega arith); valued = λ h by. absurd (omega arith) }
-    go (first-marked g n q k) is = record { tagged = λ h by. absurd (omega arith); valued = λ h by. absurd (omega arith) }
+    go (first-variable g v n q k) is = record { tagged = λ h by. absurd (omega arith); valued = λ h by. absurd (omega arith) }
 
-module _ {s t : List ℕ} (left : Begins s) (right : Begins t) (symbol : tagAt s ≤ 3) (other : tagAt t ≤ 3) where
+module _ {s t : List ℕ} (left : Begins s) (right : Begins t) (symbol : SymbolTag (tagAt s)) (other : SymbolTag (tagAt t)) where
   pub tags-apart : (tagAt s ≡ tagAt t → ⊥) → Share (termOf s) (termOf t) → ⊥
   tags-apart off h = off
       (sym (root left .tagged symbol (h .left .by)) ∙ ap form (h .left .same ∙ sym (h .right .same)) ∙ root right .tagged other (h .right .by))

@@ -10,11 +10,14 @@ use lib.ListN.{length, getD, replicate}
 use Rattle.terms.specs.Term.{Term, Message, Variable, variable, atom, replace, asTerm}
 use Rattle.terms.specs.Instance.{Matches, Share}
 use Rattle.terms.specs.Occurs.{replace-twice}
-use Rattle.terms.specs.Entry.{size, termOf, tagAt, valueAt, childrenOf, Begins}
+use Rattle.terms.specs.Tag.{SymbolTag}
+use Rattle.terms.specs.Entry.{size, termOf, tagAt, valueAt, Begins}
+use Rattle.terms.specs.Tag.{childrenOf}
 use Rattle.terms.specs.EntryLaws.{size-positive}
 use Rattle.terms.specs.WalkLaws.{from, leaf-first}
 use Rattle.terms.specs.Solve.{Says, says-same}
 use Rattle.terms.specs.Decide.{answer, variable?, term?, match?, says-answer}
+use Rattle.terms.specs.Slot.{slotCount}
 use Rattle.terms.specs.Front.{Front, Takes, Alike, Ran, Goes, SameFirst, Ready, Made}
 use Rattle.terms.specs.FrontLaws.{from-from, from-length, front-few, front-begins, parted, opened, next, next-symbol, one-term}
 use Rattle.terms.specs.FrontLaws.{KeepsFirst, alike-symbol, alike-other, alike-one, same-clash}
@@ -44,10 +47,10 @@ module _ {need : ℕ} {e f : List ℕ} {k left : ℕ} (r : Ran need e f k left) 
   further : (d : List ℕ) → from 4 (from (4 * k) d) ≡ from (4 * (k + 1)) d
   further d = let there : 4 * k + 4 ≡ 4 * (k + 1) = omega arith in rw (from-from, there) refl
 
-  keeps : tagAt (from (4 * k) e) ≤ 3 → ¬ (left ≡ 0) → (by : Variable → Term Variable) → KeepsFirst by (from (4 * k) e)
+  keeps : SymbolTag (tagAt (from (4 * k) e)) → ¬ (left ≡ 0) → (by : Variable → Term Variable) → KeepsFirst by (from (4 * k) e)
   keeps low some-left by x is = absurd (symbol-slot (front-begins (r .front) some-left) low x is)
 
-  keeps-other : tagAt (from (4 * k) f) ≤ 3 → ¬ (left ≡ 0) → (by : Variable → Term Variable) → KeepsFirst by (from (4 * k) f)
+  keeps-other : SymbolTag (tagAt (from (4 * k) f)) → ¬ (left ≡ 0) → (by : Variable → Term Variable) → KeepsFirst by (from (4 * k) f)
   keeps-other low some-left by x is = absurd (symbol-slot (front-begins (r .other-front) some-left) low x is)
 
   ran-room : ¬ (left ≡ 0) → (4 * (k + 1) ≤ length e) × (4 * (k + 1) ≤ length f)
@@ -89,7 +92,7 @@ module _ {need : ℕ} {e f : List ℕ} {k left : ℕ} (r : Ran need e f k left) 
   ran-small = let room = r .other-front .room in omega (arith, from-length (4 * k) f)
 
   -- Then other symbols stand on both sides: nothing makes the terms the same.
-  module _ (some-left : ¬ (left ≡ 0)) (low : tagAt (from (4 * k) e) ≤ 3) (low′ : tagAt (from (4 * k) f) ≤ 3) (stops : ¬ Goes e f k left) where
+  module _ (some-left : ¬ (left ≡ 0)) (low : SymbolTag (tagAt (from (4 * k) e))) (low′ : SymbolTag (tagAt (from (4 * k) f))) (stops : ¬ Goes e f k left) where
     off : ¬ SameFirst (from (4 * k) e) (from (4 * k) f)
     off same = stops (record { some-left = some-left; symbol = low; same = same })
 
@@ -126,7 +129,7 @@ pub tag-from : (e : List ℕ) (k : ℕ) → getD e (4 * k) 0 ≡ tagAt (from (4 
 tag-from e k = rw part-to-end (tag-in e k)
 
 -- Matching goes on behind the run, with nothing bound.
-pub run-ready : {e f : List ℕ} {k left : ℕ} → Ran 1 e f k left → length f ≤ 252 → Ready (from (4 * k) e) f k left (replicate 16 255)
+pub run-ready : {e f : List ℕ} {k left : ℕ} → Ran 1 e f k left → length f ≤ 252 → Ready (from (4 * k) e) f k left (replicate slotCount 255)
 run-ready {e} {f} {k} {left} r small = record {
   pattern = r .front;
   subject = r .other-front;
@@ -135,14 +138,14 @@ run-ready {e} {f} {k} {left} r small = record {
   small = small;
 }
 
-pub run-answer : {e f : List ℕ} {k left : ℕ} → Begins e → Begins f → Ran 1 e f k left → (b : Bool) → Says b (Made (from (4 * k) e) f k left (replicate 16 255))
+pub run-answer : {e f : List ℕ} {k left : ℕ} → Begins e → Begins f → Ran 1 e f k left → (b : Bool) → Says b (Made (from (4 * k) e) f k left (replicate slotCount 255))
     → b ≡ answer (match? variable? variable? (termOf e) (termOf f))
 run-answer {e} {f} {k} {left} b d r t says = says-answer t (says-same t to back says) (match? variable? variable? _ _)
   where
-    to : Made (from (4 * k) e) f k left (replicate 16 255) → Matches (termOf e) (termOf f)
+    to : Made (from (4 * k) e) f k left (replicate slotCount 255) → Matches (termOf e) (termOf f)
     to m = record { by = m .by; same = one-term b d (m .by) .0 (r .takes (m .by) .1 (m .takes)) }
 
-    back : Matches (termOf e) (termOf f) → Made (from (4 * k) e) f k left (replicate 16 255)
+    back : Matches (termOf e) (termOf f) → Made (from (4 * k) e) f k left (replicate slotCount 255)
     back m = record {
       by = m .by;
       agrees = record { held = λ i h. absurd (none-bound i h) };

@@ -11,7 +11,9 @@ use lib.Dec.{ltb}
 use borrow.Author.Tests.{lt-ltb, le-ltb, ltb-true, ltb-false}
 use borrow.Rule.Slice.PartAt.{part-to-end}
 use lib.ListN.{length, getD, drop}
-use Rattle.terms.specs.Term.{Term, Message, Variable, atom, plain, marked, replace, asTerm}
+use Rattle.terms.specs.Term.{Term, Message, Variable, Sort, atom, named, replace, asTerm}
+use Rattle.terms.specs.Tag.{variables}
+use Rattle.terms.specs.Slot.{slotIn, inSlot, slot-small, slot-in}
 use Rattle.terms.specs.Instance.{Share}
 use Rattle.terms.specs.Occurs.{replace-twice, replace-none}
 use Rattle.terms.specs.Entry.{termOf, Begins}
@@ -20,6 +22,7 @@ use Rattle.terms.specs.WalkLaws.{from}
 use Rattle.terms.specs.RunLaws.{share-alike, alike-share}
 use Rattle.terms.specs.Graph.{free, IsSymbol, made, Valid, Respects, Classes, ClassStep, Clash, Outcome, Finite}
 use Rattle.terms.specs.GraphLaws.{Any, valued, stay, both, restate, restate-clash, second-clash}
+use Rattle.terms.specs.TermGraph.{rightNodes, variableNodes, rightVariables}
 use Rattle.terms.specs.TermGraph.{home, nodeBy, third, region, nodeTag, nodeOf, TwoTerms}
 use Rattle.terms.specs.TermGraphLaws.{values, home-value, side-makes, left-side, right-side}
 use Rattle.terms.specs.Solve.{Says}
@@ -28,17 +31,12 @@ use Rattle.terms.specs.Meetings.{Reduced, AllEqual}
 
 -- What a valuation puts for the variables from slots on.
 abbrev read : (ℕ → Message) → ℕ → Variable → Message
-read v slots (plain x) = v (slots + x)
-read v slots (marked x) = v (slots + 8 + x)
-
--- What replacements give the sixteen variables' nodes of one side.
-abbrev slot : (Variable → Message) → ℕ → Message
-slot by x = third (ltb x 8) (by (plain x)) (by (marked (x - 8)))
+read v slots (named s x) = v (slots + slotIn s x)
 
 -- The valuation of two replacements.
 abbrev given : List ℕ → List ℕ → (Variable → Message) → (Variable → Message) → ℕ → Message
 given s t f g i =
-    region i (replace f (termOf (drop (4 * i) s))) (replace g (termOf (drop (4 * (i - 64)) t))) (third (ltb i 144) (slot f (i - 128)) (slot g (i - 144)))
+    region i (replace f (termOf (drop (4 * i) s))) (replace g (termOf (drop (4 * (i - rightNodes)) t))) (third (ltb i rightVariables) (f (inSlot (i - variableNodes))) (g (inSlot (i - rightVariables))))
 
 -- A message read as a term, and back.
 unread : (m : Message) → replace (λ (x : Variable). atom 0) (asTerm m) ≡ m
@@ -66,97 +64,86 @@ equal-down f g t u h = sym (grounded f t) ∙ ap (replace (λ (x : Variable). at
 module _ (s t : List ℕ) (bs : Begins s) (bt : Begins t) (ss : length s ≤ 252) (st : length t ≤ 252) where
   -- What a valid valuation gives an entry's node: the instance of the term that stands there.
   module _ {v : ℕ → Message} (valid : Valid (nodeOf s t) v) where
-    left-value : (k : ℕ) → 4 * (k + 1) ≤ length s → v (home s 0 128 k) ≡ replace (read v 128) (termOf (from (4 * k) s))
+    left-value : (k : ℕ) → 4 * (k + 1) ≤ length s → v (home s 0 variableNodes k) ≡ replace (read v variableNodes) (termOf (from (4 * k) s))
     left-value k h =
         let b = suffix k bs (omega arith) in
-        values (nodeOf s t) s 0 128 ss (left-side s t) v (read v 128) (λ x l. refl) (λ x l. refl) valid (b .term) k (omega arith) (b .reads)
-        ∙ ap (replace (read v 128)) (sym (rw part-to-end (termOf-reads (b .reads))))
+        values (nodeOf s t) s 0 variableNodes ss (left-side s t) v (read v variableNodes) (λ w x l. refl) valid (b .term) k (omega arith) (b .reads)
+        ∙ ap (replace (read v variableNodes)) (sym (rw part-to-end (termOf-reads (b .reads))))
 
-    right-value : (k : ℕ) → 4 * (k + 1) ≤ length t → v (home t 64 144 k) ≡ replace (read v 144) (termOf (from (4 * k) t))
+    right-value : (k : ℕ) → 4 * (k + 1) ≤ length t → v (home t rightNodes rightVariables k) ≡ replace (read v rightVariables) (termOf (from (4 * k) t))
     right-value k h =
         let b = suffix k bt (omega arith) in
-        values (nodeOf s t) t 64 144 st (right-side s t) v (read v 144) (λ x l. refl) (λ x l. refl) valid (b .term) k (omega arith) (b .reads)
-        ∙ ap (replace (read v 144)) (sym (rw part-to-end (termOf-reads (b .reads))))
+        values (nodeOf s t) t rightNodes rightVariables st (right-side s t) v (read v rightVariables) (λ w x l. refl) valid (b .term) k (omega arith) (b .reads)
+        ∙ ap (replace (read v rightVariables)) (sym (rw part-to-end (termOf-reads (b .reads))))
 
   -- The valuation of two replacements is valid, and gives an entry's node the instance of the term that stands there.
   module _ (f g : Variable → Message) where
-    given-left : (k : ℕ) → k < 64 → given s t f g (0 + k) ≡ replace f (termOf (drop (4 * k) s))
-    given-left k h = rw zero-add (simp (lt-ltb k 64 h))
+    given-left : (k : ℕ) → k < rightNodes → given s t f g (0 + k) ≡ replace f (termOf (drop (4 * k) s))
+    given-left k h = rw zero-add (simp (lt-ltb k rightNodes h))
 
-    given-right : (k : ℕ) → k < 64 → given s t f g (64 + k) ≡ replace g (termOf (drop (4 * k) t))
+    given-right : (k : ℕ) → k < rightNodes → given s t f g (rightNodes + k) ≡ replace g (termOf (drop (4 * k) t))
     given-right k h =
-        let back : 64 + k - 64 ≡ k = omega arith in
-        simp (le-ltb (64 + k) 64 (omega arith), lt-ltb (64 + k) 128 (omega arith), back)
+        let back : rightNodes + k - rightNodes ≡ k = omega arith in
+        simp (le-ltb (rightNodes + k) rightNodes (omega arith), lt-ltb (rightNodes + k) variableNodes (omega arith), back)
 
     -- The nodes of the variables lie past the entries'.
-    given-slot : (i : ℕ) → 128 ≤ i → given s t f g i ≡ third (ltb i 144) (slot f (i - 128)) (slot g (i - 144))
-    given-slot i h = simp (le-ltb i 64 (omega arith), le-ltb i 128 h)
+    given-slot : (i : ℕ) → variableNodes ≤ i → given s t f g i ≡ third (ltb i rightVariables) (f (inSlot (i - variableNodes))) (g (inSlot (i - rightVariables)))
+    given-slot i h = simp (le-ltb i rightNodes (omega arith), le-ltb i variableNodes h)
 
-    left-plain : (x : ℕ) → x < 8 → given s t f g (128 + x) ≡ f (plain x)
-    left-plain x h =
-        let back : 128 + x - 128 ≡ x = omega arith in
-        given-slot (128 + x) (omega arith) ∙ simp (lt-ltb (128 + x) 144 (omega arith), back, lt-ltb x 8 h)
+    left-variable : (s′ : Sort) (x : ℕ) → x < variables → given s t f g (variableNodes + slotIn s′ x) ≡ f (named s′ x)
+    left-variable s′ x h =
+        let low = slot-small s′ h in
+        let back : variableNodes + slotIn s′ x - variableNodes ≡ slotIn s′ x = omega arith in
+        given-slot (variableNodes + slotIn s′ x) (omega arith) ∙ simp (lt-ltb (variableNodes + slotIn s′ x) rightVariables (omega arith), back, slot-in s′ h)
 
-    left-marked : (x : ℕ) → x < 8 → given s t f g (128 + 8 + x) ≡ f (marked x)
-    left-marked x h =
-        let back : 128 + 8 + x - 128 ≡ 8 + x = omega arith in
-        let down : 8 + x - 8 ≡ x = omega arith in
-        given-slot (128 + 8 + x) (omega arith) ∙ simp (lt-ltb (128 + 8 + x) 144 (omega arith), back, le-ltb (8 + x) 8 (omega arith), down)
-
-    right-plain : (x : ℕ) → x < 8 → given s t f g (144 + x) ≡ g (plain x)
-    right-plain x h =
-        let back : 144 + x - 144 ≡ x = omega arith in
-        given-slot (144 + x) (omega arith) ∙ simp (le-ltb (144 + x) 144 (omega arith), back, lt-ltb x 8 h)
-
-    right-marked : (x : ℕ) → x < 8 → given s t f g (144 + 8 + x) ≡ g (marked x)
-    right-marked x h =
-        let back : 144 + 8 + x - 144 ≡ 8 + x = omega arith in
-        let down : 8 + x - 8 ≡ x = omega arith in
-        given-slot (144 + 8 + x) (omega arith) ∙ simp (le-ltb (144 + 8 + x) 144 (omega arith), back, le-ltb (8 + x) 8 (omega arith), down)
+    right-variable : (s′ : Sort) (x : ℕ) → x < variables → given s t f g (rightVariables + slotIn s′ x) ≡ g (named s′ x)
+    right-variable s′ x h =
+        let back : rightVariables + slotIn s′ x - rightVariables ≡ slotIn s′ x = omega arith in
+        given-slot (rightVariables + slotIn s′ x) (omega arith) ∙ simp (le-ltb (rightVariables + slotIn s′ x) rightVariables (omega arith), back, slot-in s′ h)
 
     given-valid : Valid (nodeOf s t) (given s t f g)
     unfolding nodeOf nodeTag nodeBy
-    given-valid = record { makes = λ i is. go i is (ltb i 64) (ltb i 128) refl refl }
+    given-valid = record { makes = λ i is. go i is (ltb i rightNodes) (ltb i variableNodes) refl refl }
       where
         Made : ℕ → Type 0
         Made i = IsSymbol (nodeOf s t i) → given s t f g i ≡ made (given s t f g) (nodeOf s t i)
 
-        on-left : (k : ℕ) → k < 64 → Made (0 + k)
-        on-left = side-makes (nodeOf s t) s 0 128 ss (left-side s t) (given s t f g) f left-plain left-marked given-left bs
+        on-left : (k : ℕ) → k < rightNodes → Made (0 + k)
+        on-left = side-makes (nodeOf s t) s 0 variableNodes ss (left-side s t) (given s t f g) f left-variable given-left bs
 
-        on-right : (k : ℕ) → k < 64 → Made (64 + k)
-        on-right = side-makes (nodeOf s t) t 64 144 st (right-side s t) (given s t f g) g right-plain right-marked given-right bt
+        on-right : (k : ℕ) → k < rightNodes → Made (rightNodes + k)
+        on-right = side-makes (nodeOf s t) t rightNodes rightVariables st (right-side s t) (given s t f g) g right-variable given-right bt
 
-        past-entries : (i : ℕ) → ltb i 64 ≡ false → ltb i 128 ≡ false → nodeOf s t i ≡ free
+        past-entries : (i : ℕ) → ltb i rightNodes ≡ false → ltb i variableNodes ≡ false → nodeOf s t i ≡ free
         past-entries i p q = simp (p, q)
 
-        go : (i : ℕ) → IsSymbol (nodeOf s t i) → (a b : Bool) → ltb i 64 ≡ a → ltb i 128 ≡ b → given s t f g i ≡ made (given s t f g) (nodeOf s t i)
-        go i is true b p q = (rw zero-add at (on-left i (ltb-true i 64 p))) is
+        go : (i : ℕ) → IsSymbol (nodeOf s t i) → (a b : Bool) → ltb i rightNodes ≡ a → ltb i variableNodes ≡ b → given s t f g i ≡ made (given s t f g) (nodeOf s t i)
+        go i is true b p q = (rw zero-add at (on-left i (ltb-true i rightNodes p))) is
         go i is false true p q =
-            let low = ltb-false i 64 p in
-            let high = ltb-true i 128 q in
-            let there : 64 + (i - 64) ≡ i = omega arith in
-            subst Made there (on-right (i - 64) (omega arith)) is
+            let low = ltb-false i rightNodes p in
+            let high = ltb-true i variableNodes q in
+            let there : rightNodes + (i - rightNodes) ≡ i = omega arith in
+            subst Made there (on-right (i - rightNodes) (omega arith)) is
         go i is false false p q = absurd (subst IsSymbol (past-entries i p q) is)
 
-    given-left-value : (k : ℕ) → 4 * (k + 1) ≤ length s → given s t f g (home s 0 128 k) ≡ replace f (termOf (from (4 * k) s))
+    given-left-value : (k : ℕ) → 4 * (k + 1) ≤ length s → given s t f g (home s 0 variableNodes k) ≡ replace f (termOf (from (4 * k) s))
     given-left-value k h =
         let b = suffix k bs (omega arith) in
-        home-value (nodeOf s t) s 0 128 ss (left-side s t) (given s t f g) f left-plain left-marked given-left k (b .term) (omega arith) (b .reads)
+        home-value (nodeOf s t) s 0 variableNodes ss (left-side s t) (given s t f g) f left-variable given-left k (b .term) (omega arith) (b .reads)
         ∙ ap (replace f) (sym (rw part-to-end (termOf-reads (b .reads))))
 
-    given-right-value : (k : ℕ) → 4 * (k + 1) ≤ length t → given s t f g (home t 64 144 k) ≡ replace g (termOf (from (4 * k) t))
+    given-right-value : (k : ℕ) → 4 * (k + 1) ≤ length t → given s t f g (home t rightNodes rightVariables k) ≡ replace g (termOf (from (4 * k) t))
     given-right-value k h =
         let b = suffix k bt (omega arith) in
-        home-value (nodeOf s t) t 64 144 st (right-side s t) (given s t f g) g right-plain right-marked given-right k (b .term) (omega arith) (b .reads)
+        home-value (nodeOf s t) t rightNodes rightVariables st (right-side s t) (given s t f g) g right-variable given-right k (b .term) (omega arith) (b .reads)
         ∙ ap (replace g) (sym (rw part-to-end (termOf-reads (b .reads))))
 
   -- The noted entries, for a valuation and for replacements.
   module _ {m : List ℕ} {n : ℕ} (r : Reduced s t m n) where
     shared-of : {v : ℕ → Message} → Valid (nodeOf s t) v → AllEqual s t m n v → Share (termOf s) (termOf t)
-    shared-of {v} valid all = alike-share _ _ (r .same (λ x. asTerm (read v 128 x)) (λ x. asTerm (read v 144 x)) .1 (record {
+    shared-of {v} valid all = alike-share _ _ (r .same (λ x. asTerm (read v variableNodes x)) (λ x. asTerm (read v rightVariables x)) .1 (record {
       each = λ k h. record {
-        same = equal-up (read v 128) (read v 144) _ _ (sym (left-value valid _ (r .noted .left k h)) ∙ all k h ∙ right-value valid _ (r .noted .right k h));
+        same = equal-up (read v variableNodes) (read v rightVariables) _ _ (sym (left-value valid _ (r .noted .left k h)) ∙ all k h ∙ right-value valid _ (r .noted .right k h));
       };
     }))
 
@@ -218,7 +205,7 @@ united-none s t m cs = restate (λ v x e. tt) (λ v q e k h. absurd (omega arith
 
 module _ (s t m : List ℕ) (k : ℕ) {name mid : ℕ → ℕ} (step : ClassStep (nodeOf s t) Any name mid (AllEqual s t m k)) where
   -- One more.
-  module _ {i j : ℕ} (is : i ≡ home s 0 128 (getD m k 0)) (is′ : j ≡ home t 64 144 (getD m (64 + k) 0)) where
+  module _ {i j : ℕ} (is : i ≡ home s 0 variableNodes (getD m k 0)) (is′ : j ≡ home t rightNodes rightVariables (getD m (rightNodes + k) 0)) where
     split : (v : ℕ → Message) → AllEqual s t m (k + 1) v → AllEqual s t m k v × (v i ≡ v j)
     split v all = (λ l h. all l (omega arith), ap v is ∙ all k (omega arith) ∙ sym (ap v is′))
 

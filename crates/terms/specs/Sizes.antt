@@ -8,6 +8,7 @@ use native.Mathlib.Nat.{zero-add}
 use lib.ListN.{length, getD, set, drop, length-drop, length-set}
 use lib.Seq.{drop-drop, getD-drop, getD-set-same, getD-set-other}
 use borrow.Rule.Slice.PartAt.{part-to-end}
+use Rattle.terms.specs.Tag.{pairTag, encryptionTag}
 use Rattle.terms.specs.Entry.{termOf, size, Begins}
 use Rattle.terms.specs.EntryLaws.{termOf-reads, fits}
 use Rattle.terms.specs.WalkLaws.{from}
@@ -46,7 +47,7 @@ module _ {e z : List ℕ} {base : ℕ} (k : ℕ) (b : Begins e) (short : length 
       let there : base + (k + 1) ≡ base + k + 1 = omega arith in
       ap (λ (n : ℕ). getD z n 0) (sym there) ∙ sized .at (k + 1) (omega arith) (whole-entry (k + 1) b fit)
 
-  pub pair-sizes : tagIn e k ≡ 2 → PairSizes e z base k
+  pub pair-sizes : tagIn e k ≡ pairTag → PairSizes e z base k
   unfolding rightIn
   pair-sizes two =
       let p = pair-there k b two .is in
@@ -61,7 +62,7 @@ module _ {e z : List ℕ} {base : ℕ} (k : ℕ) (b : Begins e) (short : length 
         small = omega arith;
       }
 
-  pub content-size : tagIn e k ≡ 3 → ContentSize e z base k
+  pub content-size : tagIn e k ≡ encryptionTag → ContentSize e z base k
   content-size three =
       let p = encryption-there k b three .is in
       let room = size-fits k b (tag-inside e k three) in

@@ -19,10 +19,15 @@ Message = Term ⊥
 abbrev pub Foreign : ℕ → Type 0
 Foreign a = 1000 ≤ a
 
--- The variables of a file: a marked variable is never the same as a plain one of its number.
+-- The sorts of variables: plain and marked ones.
+pub data Sort : Type 0 where
+  plain : Sort
+  marked : Sort
+  deriving Discrete as Sort-discrete
+
+-- A variable of a file: a marked variable is never the same as a plain one of its number.
 pub data Variable : Type 0 where
-  plain : ℕ → Variable
-  marked : ℕ → Variable
+  named : Sort → ℕ → Variable
   deriving Discrete as Variable-discrete
 
 -- A term with each variable replaced, by the same term at all its occurrences.

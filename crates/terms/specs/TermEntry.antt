@@ -5,20 +5,26 @@ use Prim.Native.Nat.{ℕ, zero, suc, _*_, _/_, _<_}
 use native.Mathlib.Decide.{ℕ-discrete, decLt}
 use lib.ListN.{length, getD, drop}
 use Rattle.terms.specs.declared.valid.Found.{Found}
+use Rattle.terms.specs.Term.{Sort, plain, marked}
+use Rattle.terms.specs.Tag.{atomTag, pairTag, encryptionTag, sortTag, variables, Tagged, isAtom, isPair, isEncryption, isVariable, isNone, tagged, sort-tagged}
 use Rattle.terms.specs.Entry.{tagAt, valueAt}
 use Rattle.terms.specs.Atom.{Atom, IsKey, isKey?}
 use Rattle.terms.specs.Decisions.{dec-map, dec-not, dec-and}
 use Rattle.terms.specs.First.{firstNot}
 use Rattle.terms.specs.Each.{EntryIs}
 
+-- Where a variable of this sort may stand. "Secrets have no variables"; 5, a marked variable, is for "good only".
+unfoldable pub MayStand : Sort → ℕ → Type 0
+MayStand plain kind = kind ≡ 2 → ⊥
+MayStand marked kind = kind ≡ 3
+
 -- Tags: 1 atom (its number); 2 pair (0); 3 encryption (a key's number); 4 plain variable (0 to 7); 5 marked variable
 -- (0 to 7, good only). Secrets have no variables. Kinds: 2 secret, 3 good, 4 bad, 5 rule.
 pub data TagRight (atoms : List Atom) (kind tag value : ℕ) : Type 0 where
-  atomEntry : tag ≡ 1 → value < length atoms → TagRight atoms kind tag value
-  pairEntry : tag ≡ 2 → value ≡ 0 → TagRight atoms kind tag value
-  encryptionEntry : tag ≡ 3 → IsKey atoms value → TagRight atoms kind tag value
-  plainEntry : tag ≡ 4 → value < 8 → (kind ≡ 2 → ⊥) → TagRight atoms kind tag value
-  markedEntry : tag ≡ 5 → value < 8 → kind ≡ 3 → TagRight atoms kind tag value
+  atomEntry : tag ≡ atomTag → value < length atoms → TagRight atoms kind tag value
+  pairEntry : tag ≡ pairTag → value ≡ 0 → TagRight atoms kind tag value
+  encryptionEntry : tag ≡ encryptionTag → IsKey atoms value → TagRight atoms kind tag value
+  variableEntry : (s : Sort) → tag ≡ sortTag s → value < variables → MayStand s kind → TagRight atoms kind tag value
 
 -- Number 7: the entry is right in a block of this kind; its second byte is zero.
 pub record EntryRight (atoms : List Atom) (kind tag zeroByte value : ℕ) : Type 0 where
@@ -26,44 +32,52 @@ pub record EntryRight (atoms : List Atom) (kind tag zeroByte value : ℕ) : Type
   pub tagged : TagRight atoms kind tag value
 
 -- The same, decided by the tag.
+unfoldable pub mayStand? : (s : Sort) (kind : ℕ) → Dec (MayStand s kind)
+unfolding MayStand ℕ-discrete dec-not
+mayStand? plain kind = dec-not (ℕ-discrete kind 2)
+mayStand? marked kind = ℕ-discrete kind 3
+
 module _ (atoms : List Atom) (kind value : ℕ) where
   -- What an entry of this tag has to have.
+  abbrev pub AskedBy : {tag : ℕ} → Tagged tag → Type 0
+  AskedBy (isAtom e) = value < length atoms
+  AskedBy (isPair e) = value ≡ 0
+  AskedBy (isEncryption e) = IsKey atoms value
+  AskedBy (isVariable s e) = (value < variables) × MayStand s kind
+  AskedBy (isNone e) = ⊥
+
   unfoldable pub Asked : ℕ → Type 0
-  Asked zero = ⊥
-  Asked (suc zero) = value < length atoms
-  Asked (suc (suc zero)) = value ≡ 0
-  Asked (suc (suc (suc zero))) = IsKey atoms value
-  Asked (suc (suc (suc (suc zero)))) = (value < 8) × (kind ≡ 2 → ⊥)
-  Asked (suc (suc (suc (suc (suc zero))))) = (value < 8) × (kind ≡ 3)
-  Asked (suc (suc (suc (suc (suc (suc t)))))) = ⊥
+  unfolding tagged
+  Asked tag = AskedBy (tagged tag)
 
   pub asked : {tag : ℕ} → TagRight atoms kind tag value → Asked tag
   unfolding Asked
   asked (atomEntry t l) = rw t l
   asked (pairEntry t z) = rw t z
   asked (encryptionEntry t k) = rw t k
-  asked (plainEntry t l k) = rw t (l, k)
-  asked (markedEntry t l k) = rw t (l, k)
+  asked (variableEntry s t l k) = rw (t, sort-tagged s) (l, k)
 
   pub tagRight : (tag : ℕ) → Asked tag → TagRight atoms kind tag value
   unfolding Asked
-  tagRight zero a = absurd a
-  tagRight (suc zero) a = atomEntry refl a
-  tagRight (suc (suc zero)) a = pairEntry refl a
-  tagRight (suc (suc (suc zero))) a = encryptionEntry refl a
-  tagRight (suc (suc (suc (suc zero)))) a = plainEntry refl (a .0) (a .1)
-  tagRight (suc (suc (suc (suc (suc zero))))) a = markedEntry refl (a .0) (a .1)
-  tagRight (suc (suc (suc (suc (suc (suc t)))))) a = absurd a
+  tagRight tag a = go (tagged tag) a
+    where
+      go : (w : Tagged tag) → AskedBy w → TagRight atoms kind tag value
+      go (isAtom e) a = atomEntry e a
+      go (isPair e) a = pairEntry e a
+      go (isEncryption e) a = encryptionEntry e a
+      go (isVariable s e) a = variableEntry s e (a .0) (a .1)
+      go (isNone e) a = absurd a
 
   asked? : (tag : ℕ) → Dec (Asked tag)
-  unfolding Asked ℕ-discrete decLt isKey? dec-not dec-and
-  asked? zero = no (λ h. h)
-  asked? (suc zero) = decLt value (length atoms)
-  asked? (suc (suc zero)) = ℕ-discrete value 0
-  asked? (suc (suc (suc zero))) = isKey? atoms value
-  asked? (suc (suc (suc (suc zero)))) = dec-and (decLt value 8) (λ l. dec-not (ℕ-discrete kind 2))
-  asked? (suc (suc (suc (suc (suc zero))))) = dec-and (decLt value 8) (λ l. ℕ-discrete kind 3)
-  asked? (suc (suc (suc (suc (suc (suc t)))))) = no (λ h. h)
+  unfolding Asked ℕ-discrete decLt isKey? dec-and mayStand?
+  asked? tag = go (tagged tag)
+    where
+      go : (w : Tagged tag) → Dec (AskedBy w)
+      go (isAtom e) = decLt value (length atoms)
+      go (isPair e) = ℕ-discrete value 0
+      go (isEncryption e) = isKey? atoms value
+      go (isVariable s e) = dec-and (decLt value variables) (λ l. mayStand? s kind)
+      go (isNone e) = no (λ h. h)
 
 -- Is the entry right?
 unfoldable pub entryRight? : (atoms : List Atom) (kind tag zeroByte value : ℕ) → Dec (EntryRight atoms kind tag zeroByte value)

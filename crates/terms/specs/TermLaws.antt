@@ -11,17 +11,18 @@ use lib.Dec.{ltb}
 use borrow.Author.Tests.{lt-ltb, ltb-true}
 use lib.ListN.{length, getD, length-append}
 use Rattle.terms.specs.declared.valid.Found.the-variants.{Nothing}
-use Rattle.terms.specs.Term.{Term, Variable, Message, Foreign, variable, atom, pair, encrypted, plain, marked, replace, asTerm}
+use Rattle.terms.specs.Term.{Term, Variable, Message, Foreign, variable, atom, pair, encrypted, Sort, plain, marked, named, replace, asTerm}
 use Rattle.terms.specs.Occurs.{Occurs}
 use Rattle.terms.specs.Instance.{Share}
 use Rattle.terms.specs.Proper.{Built, BuiltShare, built-share}
+use Rattle.terms.specs.Tag.{variables, sort-tagged}
 use Rattle.terms.specs.Entry.{Symbol, atomSymbol, pairSymbol, encryptionSymbol, variableSymbol, tagOf, valueOf, symbolOf, numbered, withZero}
 use Rattle.terms.specs.Entry.{entryOf, termEntries, termsOf, termOf, size, Reads, Begins}
-use Rattle.terms.specs.EntryLaws.{First, first-atom, first-pair, first-encrypted, first-plain, first-marked, first, none≢some, begins}
+use Rattle.terms.specs.EntryLaws.{First, first-atom, first-pair, first-encrypted, first-variable, first, none≢some, begins}
 use Rattle.terms.specs.EntryLaws.{termOf-reads, never-empty}
 use Rattle.terms.specs.First.{first-none}
 use Rattle.terms.specs.Atom.{Atom, IsKey, isKey?}
-use Rattle.terms.specs.TermEntry.{TagRight, atomEntry, pairEntry, encryptionEntry, plainEntry, markedEntry, EntryRight, Asked, asked, rightAt?}
+use Rattle.terms.specs.TermEntry.{TagRight, atomEntry, pairEntry, encryptionEntry, variableEntry, MayStand, EntryRight, Asked, asked, rightAt?}
 use Rattle.terms.specs.TermEntry.{wrongEntry}
 use Rattle.terms.specs.Each.{Each, none-left, one-more, each-of, each-map}
 use Rattle.terms.specs.OneTerm.{Numbered, OneTerm, HasSymbol, AllOf, one-reads, reads-one}
@@ -41,8 +42,7 @@ entry-symbol {atoms} {kind} {tag} {zeroByte} {value} w = go (w .tagged)
     go (atomEntry t l) = record { symbol = atomSymbol value; is = rw (w .blank, t) }
     go (pairEntry t z) = record { symbol = pairSymbol; is = rw (w .blank, t, z) }
     go (encryptionEntry t k) = record { symbol = encryptionSymbol value; is = rw (w .blank, t) }
-    go (plainEntry t l k) = record { symbol = variableSymbol (plain value); is = rw (w .blank, t, lt-ltb value 8 l) }
-    go (markedEntry t l k) = record { symbol = variableSymbol (marked value); is = rw (w .blank, t, lt-ltb value 8 l) }
+    go (variableEntry s t l k) = record { symbol = variableSymbol (named s value); is = rw (w .blank, t, sort-tagged s, lt-ltb value variables l) }
 
 pub right-symbols : {atoms : List Atom} {kind : ℕ} {e : List ℕ} → Each (EntryRight atoms kind) e → Each HasSymbol e
 right-symbols each = each-map (λ t z v. entry-symbol) each
@@ -69,17 +69,18 @@ one-iff-read all = (λ o. (o .term, one-reads o .is), λ r. reads-one (record { 
 each-first : {P : ℕ → ℕ → ℕ → Type 0} {a b c d : ℕ} {e : List ℕ} → Each P (a ∷ b ∷ c ∷ d ∷ e) → P a b (c + 256 * d) × Each P e
 each-first (one-more p r) = (p, r)
 
-small : (v : ℕ) (x : Variable) {s : Symbol} → numbered (ltb v 8) x ≡ some s → v < 8
-small v x {s} e = go (ltb v 8) refl e
+small : (v : ℕ) (x : Variable) {s : Symbol} → numbered (ltb v variables) x ≡ some s → v < variables
+small v x {s} e = go (ltb v variables) refl e
   where
-    go : (b : Bool) → ltb v 8 ≡ b → numbered b x ≡ some s → v < 8
-    go true q r = ltb-true v 8 q
+    go : (b : Bool) → ltb v variables ≡ b → numbered b x ≡ some s → v < variables
+    go true q r = ltb-true v variables q
     go false q r = absurd (none≢some _ r)
 
 symbols-numbered : (t : Term Variable) {r : List ℕ} → Each HasSymbol (termEntries t ++ r) → Numbered t × Each HasSymbol r
 unfolding Numbered termEntries entryOf tagOf valueOf withZero symbolOf
-symbols-numbered (variable (plain x)) each = let f = each-first each in let s = small (x % 256 + 256 * (x / 256)) _ (f .0 .is) in (omega arith, f .1)
-symbols-numbered (variable (marked x)) each = let f = each-first each in let s = small (x % 256 + 256 * (x / 256)) _ (f .0 .is) in (omega arith, f .1)
+symbols-numbered (variable (named s x)) each =
+    let f = each-first each in
+    let low = small (x % 256 + 256 * (x / 256)) (named s _) (rw (sort-tagged s) at (f .0 .is)) in (omega arith, f .1)
 symbols-numbered (atom a) each = (tt, each-first each .1)
 symbols-numbered (pair t u) {r} each =
     let f = symbols-numbered t (rw (append-assoc (termEntries t) (termEntries u) r) at (each-first each .1)) in
@@ -100,8 +101,7 @@ pub data TermRight (atoms : List Atom) (kind : ℕ) : Term Variable → Type 0 w
   atomRight : {a : ℕ} → a < length atoms → TermRight atoms kind (atom a)
   pairRight : {t u : Term Variable} → TermRight atoms kind t → TermRight atoms kind u → TermRight atoms kind (pair t u)
   encryptedRight : {k : ℕ} {t : Term Variable} → IsKey atoms k → TermRight atoms kind t → TermRight atoms kind (encrypted k t)
-  plainRight : {x : ℕ} → x < 8 → (kind ≡ 2 → ⊥) → TermRight atoms kind (variable (plain x))
-  markedRight : {x : ℕ} → x < 8 → kind ≡ 3 → TermRight atoms kind (variable (marked x))
+  variableRight : {s : Sort} {x : ℕ} → x < variables → MayStand s kind → TermRight atoms kind (variable (named s x))
 
 -- Right entries are read as such terms.
 right-terms : {atoms : List Atom} {kind : ℕ} {e : List ℕ} → Each (EntryRight atoms kind) e
@@ -117,30 +117,37 @@ right-terms {atoms} {kind} (one-more {tag} {zeroByte} {low} {high} {rest} p each
     go n (first-atom {m} g q k) a ih = rw q (atomRight (rw g at a), ih m k)
     go n (first-pair {t = u} {u = v} {m} g z q k) a ih = let w = ih (u ∷ v ∷ m) k in rw q (pairRight (w .0) (w .1 .0), w .1 .1)
     go n (first-encrypted {t = u} {m} g q k) a ih = let w = ih (u ∷ m) k in rw q (encryptedRight (rw g at a) (w .0), w .1)
-    go n (first-plain {m} g s q k) a ih = rw q (plainRight s ((rw g at a) .1), ih m k)
-    go n (first-marked {m} g s q k) a ih = rw q (markedRight s ((rw g at a) .1), ih m k)
+    go n (first-variable {s = s} {m = m} g v low q k) a ih = rw q (variableRight low ((rw (g, sort-tagged s) at a) .1), ih m k)
 
 pub right-term : {atoms : List Atom} {kind : ℕ} {e : List ℕ} → Each (EntryRight atoms kind) e → OneTerm e → TermRight atoms kind (termOf e)
 unfolding AllOf
 right-term {e = e} each o = right-terms each (termOf e ∷ []) (record { is = one-alone o }) .0
 
 -- Secrets have no variables: a secret is a message.
+pub secret-bare : (s : Sort) {kind : ℕ} → kind ≡ 2 → ¬ MayStand s kind
+unfolding MayStand
+secret-bare plain secret may = may secret
+secret-bare marked secret may = omega arith
+
 pub secret-message : {atoms : List Atom} {kind : ℕ} {t : Term Variable} → kind ≡ 2 → TermRight atoms kind t → (m : Message) × (t ≡ asTerm m)
 unfolding asTerm replace
 secret-message s (atomRight {a} l) = (atom a, refl)
 secret-message s (pairRight w v) = let a = secret-message s w in let b = secret-message s v in (pair (a .0) (b .0), ap₂ pair (a .1) (b .1))
 secret-message s (encryptedRight {k} i w) = let a = secret-message s w in (encrypted k (a .0), ap (encrypted k) (a .1))
-secret-message s (plainRight l k) = absurd (k s)
-secret-message s (markedRight l k) = absurd (omega arith)
+secret-message s (variableRight {s = sort} l k) = absurd (secret-bare sort s k)
 
 -- Marked variables stand in good patterns only.
-pub no-mark : {atoms : List Atom} {kind : ℕ} {t : Term Variable} → (kind ≡ 3 → ⊥) → TermRight atoms kind t → (x : ℕ) → ¬ Occurs (marked x) t
+mark-stands : (s : Sort) {kind x y : ℕ} → named marked x ≡ named s y → MayStand s kind → kind ≡ 3
+unfolding MayStand
+mark-stands plain same may = let z : _≡_ {A = ℕ} 0 1 = cc in absurd (omega arith)
+mark-stands marked same may = may
+
+pub no-mark : {atoms : List Atom} {kind : ℕ} {t : Term Variable} → (kind ≡ 3 → ⊥) → TermRight atoms kind t → (x : ℕ) → ¬ Occurs (named marked x) t
 unfolding Occurs
 no-mark not-good (atomRight l) x o = o
 no-mark not-good (pairRight w v) x o = ⊎-elim (no-mark not-good w x) (no-mark not-good v x) o
 no-mark not-good (encryptedRight i w) x o = no-mark not-good w x o
-no-mark not-good (plainRight l k) x o = let z : _≡_ {A = ℕ} 0 1 = cc in omega arith
-no-mark not-good (markedRight l k) x o = not-good k
+no-mark not-good (variableRight {s = sort} l k) x o = not-good (mark-stands sort o k)
 
 -- Entries that are exactly one term have its size.
 entries-length : (t : Term Variable) → length (termEntries t) ≡ 4 * size t
@@ -171,8 +178,7 @@ unfolding Built
 message-built (atomRight l) = inl l
 message-built (pairRight w v) = (message-built w, message-built v)
 message-built (encryptedRight i w) = (i, message-built w)
-message-built (plainRight l k) = tt
-message-built (markedRight l k) = tt
+message-built (variableRight l k) = tt
 
 pub message-share : {atoms : List Atom} {i j : ℕ} {s t : Term Variable} → TermRight atoms i s → TermRight atoms j t
     → Share s t ↔ BuiltShare (MessageAtom atoms) (IsKey atoms) s t

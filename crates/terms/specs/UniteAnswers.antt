@@ -11,7 +11,8 @@ use Rattle.terms.specs.declared.classes.How.the-variants.{Free, Differ, 
 use Rattle.terms.specs.Term.{Message}
 use Rattle.terms.specs.Graph.{Node, Classes, Respects, Outcome}
 use Rattle.terms.specs.GraphLaws.{merge, Any, done, failed, restate, restate-clash}
-use Rattle.terms.specs.TermGraph.{nodeOf, nodeTag, freeTag, firstChild, secondChild, AtHome}
+use Rattle.terms.specs.TermGraph.{nodeOf, nodeTag, firstChild, secondChild, AtHome}
+use Rattle.terms.specs.Tag.{freeTag}
 use Rattle.terms.specs.TermGraphLaws.{past-tag}
 use Rattle.terms.specs.Meeting.{MeetAs}
 use Rattle.terms.specs.Names.{nameOf, Linked, classCount, classes-of, joined-linked, joined-names, joined-fewer, name-home, name-named}

@@ -6,7 +6,8 @@ use Prim.Native.Nat.{ℕ, zero, suc}
 use Rattle.terms.specs.Term.{Message, variable, atom, pair, encrypted}
 use Rattle.terms.specs.Graph.{atomNode, pairNode, encryptionNode, IsSymbol, made, Valid, Classes, ClassStep, Clash, Outcome}
 use Rattle.terms.specs.GraphLaws.{merge, Any, done, stay, already, united, united-clash, apart-clash, united-classes}
-use Rattle.terms.specs.TermGraph.{nodeTag, nodeValue, firstChild, secondChild, nodeBy, nodeOf, freeTag}
+use Rattle.terms.specs.TermGraph.{nodeTag, nodeValue, firstChild, secondChild, nodeFor, nodeBy, nodeOf}
+use Rattle.terms.specs.Tag.{atomTag, pairTag, encryptionTag, Tagged, isAtom, isPair, isEncryption, isVariable, isNone, tagged, freeBy, freeTag}
 
 module _ (s t : List ℕ) where
   -- What stands at a node, by its tag.
@@ -14,48 +15,45 @@ module _ (s t : List ℕ) where
   unfolding nodeOf
   node-by i e = ap (λ (m : ℕ). nodeBy m (nodeValue s t i) (firstChild s t i) (secondChild s t i)) e
 
-  free-node : (n v l r : ℕ) → freeTag n ≡ true → IsSymbol (nodeBy n v l r) → ⊥
-  unfolding freeTag nodeBy
-  free-node zero v l r f is = is
-  free-node (suc zero) v l r f is = false≢true f
-  free-node (suc (suc zero)) v l r f is = false≢true f
-  free-node (suc (suc (suc zero))) v l r f is = false≢true f
-  free-node (suc (suc (suc (suc m)))) v l r f is = is
+  free-node : {n : ℕ} (w : Tagged n) (v l r : ℕ) → freeBy w ≡ true → IsSymbol (nodeFor w v l r) → ⊥
+  free-node (isAtom e) v l r f is = false≢true f
+  free-node (isPair e) v l r f is = false≢true f
+  free-node (isEncryption e) v l r f is = false≢true f
+  free-node (isVariable s e) v l r f is = is
+  free-node (isNone e) v l r f is = is
 
-  symbol-node : (n v l r : ℕ) → freeTag n ≡ false → IsSymbol (nodeBy n v l r)
-  unfolding freeTag nodeBy
-  symbol-node zero v l r f = absurd (true≢false f)
-  symbol-node (suc zero) v l r f = tt
-  symbol-node (suc (suc zero)) v l r f = tt
-  symbol-node (suc (suc (suc zero))) v l r f = tt
-  symbol-node (suc (suc (suc (suc m)))) v l r f = absurd (true≢false f)
+  symbol-node : {n : ℕ} (w : Tagged n) (v l r : ℕ) → freeBy w ≡ false → IsSymbol (nodeFor w v l r)
+  symbol-node (isAtom e) v l r f = tt
+  symbol-node (isPair e) v l r f = tt
+  symbol-node (isEncryption e) v l r f = tt
+  symbol-node (isVariable s e) v l r f = absurd (true≢false f)
+  symbol-node (isNone e) v l r f = absurd (true≢false f)
 
   pub not-symbol : (i : ℕ) → freeTag (nodeTag s t i) ≡ true → IsSymbol (nodeOf s t i) → ⊥
-  unfolding nodeOf
-  not-symbol i f is = free-node (nodeTag s t i) (nodeValue s t i) (firstChild s t i) (secondChild s t i) f is
+  unfolding nodeOf nodeBy freeTag
+  not-symbol i f is = free-node (tagged (nodeTag s t i)) (nodeValue s t i) (firstChild s t i) (secondChild s t i) f is
 
-  symbol-by : (n v l r : ℕ) → IsSymbol (nodeBy n v l r) → freeTag n ≡ false
-  unfolding freeTag nodeBy
-  symbol-by zero v l r is = absurd is
-  symbol-by (suc zero) v l r is = refl
-  symbol-by (suc (suc zero)) v l r is = refl
-  symbol-by (suc (suc (suc zero))) v l r is = refl
-  symbol-by (suc (suc (suc (suc m)))) v l r is = absurd is
+  symbol-by : {n : ℕ} (w : Tagged n) (v l r : ℕ) → IsSymbol (nodeFor w v l r) → freeBy w ≡ false
+  symbol-by (isAtom e) v l r is = refl
+  symbol-by (isPair e) v l r is = refl
+  symbol-by (isEncryption e) v l r is = refl
+  symbol-by (isVariable s e) v l r is = absurd is
+  symbol-by (isNone e) v l r is = absurd is
 
   pub symbol-tag : (i : ℕ) → IsSymbol (nodeOf s t i) → freeTag (nodeTag s t i) ≡ false
-  unfolding nodeOf
-  symbol-tag i is = symbol-by (nodeTag s t i) (nodeValue s t i) (firstChild s t i) (secondChild s t i) is
+  unfolding nodeOf nodeBy freeTag
+  symbol-tag i is = symbol-by (tagged (nodeTag s t i)) (nodeValue s t i) (firstChild s t i) (secondChild s t i) is
 
   pub is-symbol : (i : ℕ) → freeTag (nodeTag s t i) ≡ false → IsSymbol (nodeOf s t i)
-  unfolding nodeOf
-  is-symbol i f = symbol-node (nodeTag s t i) (nodeValue s t i) (firstChild s t i) (secondChild s t i) f
+  unfolding nodeOf nodeBy freeTag
+  is-symbol i f = symbol-node (tagged (nodeTag s t i)) (nodeValue s t i) (firstChild s t i) (secondChild s t i) f
 
 -- The form of a message and the number in it: its root's tag and value as an entry.
 unfoldable pub form : Message → ℕ
 form (variable x) = 0
-form (atom a) = 1
-form (pair m n) = 2
-form (encrypted k m) = 3
+form (atom a) = atomTag
+form (pair m n) = pairTag
+form (encrypted k m) = encryptionTag
 
 unfoldable pub number : Message → ℕ
 number (variable x) = 0
@@ -65,27 +63,36 @@ number (encrypted k m) = k
 
 pub made-form : (v : ℕ → Message) (n x l r : ℕ) → freeTag n ≡ false → form (made v (nodeBy n x l r)) ≡ n
 unfolding form made nodeBy freeTag
-made-form v zero x l r f = absurd (true≢false f)
-made-form v (suc zero) x l r f = refl
-made-form v (suc (suc zero)) x l r f = refl
-made-form v (suc (suc (suc zero))) x l r f = refl
-made-form v (suc (suc (suc (suc m)))) x l r f = absurd (true≢false f)
+made-form v n x l r f = go (tagged n) f
+  where
+    go : (w : Tagged n) → freeBy w ≡ false → form (made v (nodeFor w x l r)) ≡ n
+    go (isAtom e) f = sym e
+    go (isPair e) f = sym e
+    go (isEncryption e) f = sym e
+    go (isVariable s e) f = absurd (true≢false f)
+    go (isNone e) f = absurd (true≢false f)
 
-pub made-number : (v : ℕ → Message) (n x l r : ℕ) → freeTag n ≡ false → (n ≡ 2 → ⊥) → number (made v (nodeBy n x l r)) ≡ x
+pub made-number : (v : ℕ → Message) (n x l r : ℕ) → freeTag n ≡ false → (n ≡ pairTag → ⊥) → number (made v (nodeBy n x l r)) ≡ x
 unfolding number made nodeBy freeTag
-made-number v zero x l r f h = absurd (true≢false f)
-made-number v (suc zero) x l r f h = refl
-made-number v (suc (suc zero)) x l r f h = absurd (h refl)
-made-number v (suc (suc (suc zero))) x l r f h = refl
-made-number v (suc (suc (suc (suc m)))) x l r f h = absurd (true≢false f)
+made-number v n x l r f off = go (tagged n) f
+  where
+    go : (w : Tagged n) → freeBy w ≡ false → number (made v (nodeFor w x l r)) ≡ x
+    go (isAtom e) f = refl
+    go (isPair e) f = absurd (off e)
+    go (isEncryption e) f = refl
+    go (isVariable s e) f = absurd (true≢false f)
+    go (isNone e) f = absurd (true≢false f)
 
-pub only-atom : (n : ℕ) → freeTag n ≡ false → (n ≡ 2 → ⊥) → (n ≡ 3 → ⊥) → n ≡ 1
+pub only-atom : (n : ℕ) → freeTag n ≡ false → (n ≡ pairTag → ⊥) → (n ≡ encryptionTag → ⊥) → n ≡ atomTag
 unfolding freeTag
-only-atom zero f p q = absurd (true≢false f)
-only-atom (suc zero) f p q = refl
-only-atom (suc (suc zero)) f p q = absurd (p refl)
-only-atom (suc (suc (suc zero))) f p q = absurd (q refl)
-only-atom (suc (suc (suc (suc m)))) f p q = absurd (true≢false f)
+only-atom n f no-pair no-encryption = go (tagged n) f
+  where
+    go : (w : Tagged n) → freeBy w ≡ false → n ≡ atomTag
+    go (isAtom e) f = e
+    go (isPair e) f = absurd (no-pair e)
+    go (isEncryption e) f = absurd (no-encryption e)
+    go (isVariable s e) f = absurd (true≢false f)
+    go (isNone e) f = absurd (true≢false f)
 
 module _ (s t : List ℕ) (name : ℕ → ℕ) (cs : Classes (nodeOf s t) name) (i j : ℕ) {a b : ℕ} (ea : a ≡ name i) (eb : b ≡ name j) where
   -- The step of united classes, said of a and b.
@@ -142,14 +149,14 @@ module _ (s t : List ℕ) (name : ℕ → ℕ) (cs : Classes (nodeOf s t) name) 
         ∙ made-form v (nodeTag s t b) (nodeValue s t b) (firstChild s t b) (secondChild s t b) fb))
 
     module _ (tags : nodeTag s t a ≡ nodeTag s t b) where
-      pub values-clash : (nodeTag s t a ≡ 2 → ⊥) → (nodeValue s t a ≡ nodeValue s t b → ⊥) → Clash (nodeOf s t) name (λ v. v i ≡ v j)
+      pub values-clash : (nodeTag s t a ≡ pairTag → ⊥) → (nodeValue s t a ≡ nodeValue s t b → ⊥) → Clash (nodeOf s t) name (λ v. v i ≡ v j)
       unfolding nodeOf
       values-clash not-pair off = apart-names (λ v x e. off
           (sym (made-number v (nodeTag s t a) (nodeValue s t a) (firstChild s t a) (secondChild s t a) fa not-pair)
           ∙ ap number (both-make v x e)
           ∙ made-number v (nodeTag s t b) (nodeValue s t b) (firstChild s t b) (secondChild s t b) fb (λ p. not-pair (tags ∙ p))))
 
-      pub equal-atoms : (a ≡ b → ⊥) → (nodeTag s t a ≡ 2 → ⊥) → (nodeTag s t a ≡ 3 → ⊥) → nodeValue s t a ≡ nodeValue s t b
+      pub equal-atoms : (a ≡ b → ⊥) → (nodeTag s t a ≡ pairTag → ⊥) → (nodeTag s t a ≡ encryptionTag → ⊥) → nodeValue s t a ≡ nodeValue s t b
           → ClassStep (nodeOf s t) Any name (merge a b name) (λ v. v i ≡ v j)
       unfolding nodeBy
       equal-atoms apart not-pair not-encryption same =
@@ -159,7 +166,7 @@ module _ (s t : List ℕ) (name : ℕ → ℕ) (cs : Classes (nodeOf s t) name) 
           (as-named (λ v x e. tt) (λ v p is. ap (made v) (first ∙ ap atomNode same ∙ sym second))
           (done (stay (nodeOf s t) Any (symbols-merge apart)))) .stepped refl
 
-      pub equal-encryptions : {next : ℕ → ℕ} {r : Bool} → nodeTag s t a ≡ 3 → nodeValue s t a ≡ nodeValue s t b
+      pub equal-encryptions : {next : ℕ → ℕ} {r : Bool} → nodeTag s t a ≡ encryptionTag → nodeValue s t a ≡ nodeValue s t b
           → Outcome (nodeOf s t) Any (merge a b name) next (λ v. v (firstChild s t a) ≡ v (firstChild s t b)) r
           → Outcome (nodeOf s t) Any name next (λ v. v i ≡ v j) r
       unfolding nodeBy made
@@ -171,7 +178,7 @@ module _ (s t : List ℕ) (name : ℕ → ℕ) (cs : Classes (nodeOf s t) name) 
           sym (ap (made v) first) ∙ both-make v x e ∙ ap (made v) second in cc)
           (λ v p is. ap (made v) first ∙ ap₂ encrypted same p ∙ sym (ap (made v) second)) o
 
-      pub equal-pairs : {next : ℕ → ℕ} {r : Bool} → nodeTag s t a ≡ 2
+      pub equal-pairs : {next : ℕ → ℕ} {r : Bool} → nodeTag s t a ≡ pairTag
           → Outcome (nodeOf s t) Any (merge a b name) next
           (λ v. (v (firstChild s t a) ≡ v (firstChild s t b)) × (v (secondChild s t a) ≡ v (secondChild s t b))) r
           → Outcome (nodeOf s t) Any name next (λ v. v i ≡ v j) r

@@ -11,6 +11,7 @@ use native.Mathlib.Nat.{add-zero}
 use borrow.Rule.Slice.PartAt.{part-to-end}
 use Rattle.terms.specs.declared.valid.Found.the-variants.{At, Nothing}
 use Rattle.terms.specs.Term.{encrypted}
+use Rattle.terms.specs.Tag.{encryptionTag}
 use Rattle.terms.specs.Entry.{Begins, termOf, tagAt, valueAt}
 use Rattle.terms.specs.EntryLaws.{reads-encrypted, termOf-reads}
 use Rattle.terms.specs.WalkLaws.{from, encryption-first}
@@ -18,6 +19,7 @@ use Rattle.terms.specs.Solve.{Says, says-same}
 use Rattle.terms.specs.Decisions.{says-eq}
 use Rattle.terms.specs.First.{fails, holds, first-only}
 use Rattle.terms.specs.Atom.{Atom, atomsOf, atomKind, knownOf, partnerOf, NamedBack, PartnerRight}
+use Rattle.terms.specs.Atom.{principalKind, nonceKind, publicKind, privateKind, symmetricKind}
 use Rattle.terms.specs.Atom.{principal, nonce, publicKey, privateKey, symmetricKey, AtomRight, Wanted, partner-wanted, partner-right}
 use Rattle.terms.specs.Atom.{atomRight?, wrongAtom, length-atoms, atom-bytes}
 use Rattle.terms.specs.TermEntry.{EntryRight, rightAt?, wrongEntry}
@@ -73,28 +75,28 @@ module _ (b : List ℕ) (n : ℕ) (inside : n < length b / 4) where
       (λ w. rw same at (partner-wanted (atomsOf b) n (w .partner))) says
 
   module _ (known : getD b (4 * n + 1) 0 ≤ 1) {p : ℕ} (partner : p ≡ valueAt (from (4 * n) b)) where
-    pub atom-principal : getD b (4 * n) 0 ≡ 1 → Says (eqb p 0) (AtomRight (atomsOf b) n)
+    pub atom-principal : getD b (4 * n) 0 ≡ principalKind → Says (eqb p 0) (AtomRight (atomsOf b) n)
     unfolding Wanted
-    atom-principal k = by-kind known 1 k (eqb p 0) (rw (← is-partner b n inside partner) (says-eq p 0))
+    atom-principal k = by-kind known principalKind k (eqb p 0) (rw (← is-partner b n inside partner) (says-eq p 0))
 
-    pub atom-nonce : getD b (4 * n) 0 ≡ 2 → Says (eqb p 0) (AtomRight (atomsOf b) n)
+    pub atom-nonce : getD b (4 * n) 0 ≡ nonceKind → Says (eqb p 0) (AtomRight (atomsOf b) n)
     unfolding Wanted
-    atom-nonce k = by-kind known 2 k (eqb p 0) (rw (← is-partner b n inside partner) (says-eq p 0))
+    atom-nonce k = by-kind known nonceKind k (eqb p 0) (rw (← is-partner b n inside partner) (says-eq p 0))
 
-    pub atom-symmetric : getD b (4 * n) 0 ≡ 5 → Says (eqb p n) (AtomRight (atomsOf b) n)
+    pub atom-symmetric : getD b (4 * n) 0 ≡ symmetricKind → Says (eqb p n) (AtomRight (atomsOf b) n)
     unfolding Wanted
-    atom-symmetric k = by-kind known 5 k (eqb p n) (rw (← is-partner b n inside partner) (says-eq p n))
+    atom-symmetric k = by-kind known symmetricKind k (eqb p n) (rw (← is-partner b n inside partner) (says-eq p n))
 
-    pub atom-public : getD b (4 * n) 0 ≡ 3 → (r : Bool) → Says r (NamedBack (atomsOf b) n 4) → Says r (AtomRight (atomsOf b) n)
+    pub atom-public : getD b (4 * n) 0 ≡ publicKind → (r : Bool) → Says r (NamedBack (atomsOf b) n privateKind) → Says r (AtomRight (atomsOf b) n)
     unfolding Wanted
-    atom-public k r says = by-kind known 3 k r says
+    atom-public k r says = by-kind known publicKind k r says
 
-    pub atom-private : getD b (4 * n) 0 ≡ 4 → (r : Bool) → Says r (NamedBack (atomsOf b) n 3) → Says r (AtomRight (atomsOf b) n)
+    pub atom-private : getD b (4 * n) 0 ≡ privateKind → (r : Bool) → Says r (NamedBack (atomsOf b) n publicKind) → Says r (AtomRight (atomsOf b) n)
     unfolding Wanted
-    atom-private k r says = by-kind known 4 k r says
+    atom-private k r says = by-kind known privateKind k r says
 
-  pub atom-no-kind : (getD b (4 * n) 0 ≡ 1 → ⊥) → (getD b (4 * n) 0 ≡ 2 → ⊥) → (getD b (4 * n) 0 ≡ 3 → ⊥) → (getD b (4 * n) 0 ≡ 4 → ⊥)
-      → (getD b (4 * n) 0 ≡ 5 → ⊥) → ¬ AtomRight (atomsOf b) n
+  pub atom-no-kind : (getD b (4 * n) 0 ≡ principalKind → ⊥) → (getD b (4 * n) 0 ≡ nonceKind → ⊥) → (getD b (4 * n) 0 ≡ publicKind → ⊥) → (getD b (4 * n) 0 ≡ privateKind → ⊥)
+      → (getD b (4 * n) 0 ≡ symmetricKind → ⊥) → ¬ AtomRight (atomsOf b) n
   atom-no-kind one two three four five w = go (w .partner)
     where
       same : getD b (4 * n) 0 ≡ atomKind (atomsOf b) n
@@ -130,8 +132,8 @@ module _ (b : List ℕ) (kind : ℕ) (e : List ℕ) where
   entries-right all = first-only (rightAt? (atomsOf b) kind e) (holds refl all)
 
 -- The root's tag.
-pub encryption-tag : {e : List ℕ} → Begins e → Says (eqb (tagAt e) 3) (IsEncryption (termOf e))
-encryption-tag {e} w = says-same (eqb (tagAt e) 3)
+pub encryption-tag : {e : List ℕ} → Begins e → Says (eqb (tagAt e) encryptionTag) (IsEncryption (termOf e))
+encryption-tag {e} w = says-same (eqb (tagAt e) encryptionTag)
     (λ t. (let f = encryption-first w t in record { key = valueAt e; content = f .content; is = termOf-reads (f .whole) }))
     (λ r. (let same : w .term ≡ encrypted (r .key) (r .content) = sym (termOf-reads (w .reads)) ∙ r .is in
-    reads-encrypted (rw same at (w .reads)) .0)) (says-eq (tagAt e) 3)
+    reads-encrypted (rw same at (w .reads)) .0)) (says-eq (tagAt e) encryptionTag)

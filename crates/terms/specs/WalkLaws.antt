@@ -6,9 +6,10 @@ use native.Mathlib.Omega.{arith}
 use lib.ListN.{length, take, drop}
 use lib.Seq.{drop-drop}
 use borrow.Rule.Slice.PartAt.{part-to-end}
-use Rattle.terms.specs.Term.{Term, Variable, variable, atom, pair, encrypted, plain, marked}
+use Rattle.terms.specs.Term.{Term, Variable, variable, atom, pair, encrypted, named}
+use Rattle.terms.specs.Tag.{pairTag, encryptionTag}
 use Rattle.terms.specs.Entry.{termOf, tagAt, valueAt, size, Reads, Begins}
-use Rattle.terms.specs.EntryLaws.{First, first-atom, first-pair, first-encrypted, first-plain, first-marked, first, termOf-reads, past, fits}
+use Rattle.terms.specs.EntryLaws.{First, first-atom, first-pair, first-encrypted, first-variable, first, termOf-reads, past, fits}
 
 -- The entries from byte n on, as a part `&e[n..]` has them.
 abbrev pub from : ℕ → List ℕ → List ℕ
@@ -22,15 +23,14 @@ pub record PairFirst (e : List ℕ) : Type 0 where
   pub whole : Reads e (pair left right ∷ others)
   pub below : Reads (from 4 e) (left ∷ right ∷ others)
 
-pub pair-first : {e : List ℕ} → Begins e → tagAt e ≡ 2 → PairFirst e
+pub pair-first : {e : List ℕ} → Begins e → tagAt e ≡ pairTag → PairFirst e
 pair-first {e} b is = go (first (b .reads))
   where
     go : First (tagAt e) (valueAt e) (drop 4 e) (b .term ∷ b .others) → PairFirst e
     go (first-pair {t} {u} {m} g n q k) = record { left = t; right = u; others = m; whole = rw q at (b .reads); below = rw part-to-end k }
     go (first-atom g q k) = absurd (omega arith)
     go (first-encrypted g q k) = absurd (omega arith)
-    go (first-plain g n q k) = absurd (omega arith)
-    go (first-marked g n q k) = absurd (omega arith)
+    go (first-variable g v n q k) = absurd (omega arith)
 
 -- An encryption stands first.
 pub record EncryptionFirst (e : List ℕ) : Type 0 where
@@ -39,18 +39,17 @@ pub record EncryptionFirst (e : List ℕ) : Type 0 where
   pub whole : Reads e (encrypted (valueAt e) content ∷ others)
   pub below : Reads (from 4 e) (content ∷ others)
 
-pub encryption-first : {e : List ℕ} → Begins e → tagAt e ≡ 3 → EncryptionFirst e
+pub encryption-first : {e : List ℕ} → Begins e → tagAt e ≡ encryptionTag → EncryptionFirst e
 encryption-first {e} b is = go (first (b .reads))
   where
     go : First (tagAt e) (valueAt e) (drop 4 e) (b .term ∷ b .others) → EncryptionFirst e
     go (first-encrypted {t} {m} g q k) = record { content = t; others = m; whole = rw q at (b .reads); below = rw part-to-end k }
     go (first-pair g n q k) = absurd (omega arith)
     go (first-atom g q k) = absurd (omega arith)
-    go (first-plain g n q k) = absurd (omega arith)
-    go (first-marked g n q k) = absurd (omega arith)
+    go (first-variable g v n q k) = absurd (omega arith)
 
 -- Any other tag is a term of one entry.
-pub leaf-first : {e : List ℕ} → Begins e → (tagAt e ≡ 2 → ⊥) → (tagAt e ≡ 3 → ⊥) → 1 ≡ size (termOf e)
+pub leaf-first : {e : List ℕ} → Begins e → (tagAt e ≡ pairTag → ⊥) → (tagAt e ≡ encryptionTag → ⊥) → 1 ≡ size (termOf e)
 unfolding size
 leaf-first {e} b no-pair no-encryption = go (first (b .reads))
   where
@@ -59,8 +58,7 @@ leaf-first {e} b no-pair no-encryption = go (first (b .reads))
 
     go : First (tagAt e) (valueAt e) (drop 4 e) (b .term ∷ b .others) → 1 ≡ size (termOf e)
     go (first-atom g q k) = one (atom (valueAt e)) refl (termOf-reads (rw q at (b .reads)))
-    go (first-plain g n q k) = one (variable (plain (valueAt e))) refl (termOf-reads (rw q at (b .reads)))
-    go (first-marked g n q k) = one (variable (marked (valueAt e))) refl (termOf-reads (rw q at (b .reads)))
+    go (first-variable {s = s} g v n q k) = one (variable (named s (valueAt e))) refl (termOf-reads (rw q at (b .reads)))
     go (first-pair g n q k) = absurd (no-pair g)
     go (first-encrypted g q k) = absurd (no-encryption g)
 
@@ -73,7 +71,7 @@ right-begins {e} p {r} is =
     rw part-to-end (rw (drop-drop, there) at (past (p .left) here))
 
 -- How many entries a pair, an encryption has.
-pub pair-size : {e : List ℕ} → Begins e → tagAt e ≡ 2 → {r s : ℕ} → r ≡ size (termOf (from 4 e)) → s ≡ size (termOf (from (4 * (1 + r)) e))
+pub pair-size : {e : List ℕ} → Begins e → tagAt e ≡ pairTag → {r s : ℕ} → r ≡ size (termOf (from 4 e)) → s ≡ size (termOf (from (4 * (1 + r)) e))
     → (1 + r + s ≡ size (termOf e)) × (4 * (1 + r + s) ≤ length e)
 unfolding size
 pair-size {e} b is {r} {s} left right =
@@ -84,7 +82,7 @@ pair-size {e} b is {r} {s} left right =
     let room : 4 * (1 + (size (p .left) + size (p .right))) ≤ length e = fits (pair (p .left) (p .right)) (p .whole) in
     (omega arith, omega arith)
 
-pub encryption-size : {e : List ℕ} → Begins e → tagAt e ≡ 3 → {r : ℕ} → r ≡ size (termOf (from 4 e)) → (1 + r ≡ size (termOf e)) × (4 * (1 + r) ≤ length e)
+pub encryption-size : {e : List ℕ} → Begins e → tagAt e ≡ encryptionTag → {r : ℕ} → r ≡ size (termOf (from 4 e)) → (1 + r ≡ size (termOf e)) × (4 * (1 + r) ≤ length e)
 unfolding size
 encryption-size {e} b is {r} below =
     let p = encryption-first b is in

@@ -1,26 +1,31 @@
 // Classes of nodes that must get equal messages. In the array c every node leads to a lower node of its class, and the lowest
 // leads to itself and names the class; so a symbol's class is named by a symbol.
+use crate::entry::wide;
+use crate::node::ALL_NODES;
+use crate::node::VARIABLE_NODES;
 use crate::node::first_child;
 use crate::node::second_child;
 use crate::node::tag_at;
 use crate::node::value_at;
-use crate::node::wide;
+use crate::tag::ENCRYPTION;
+use crate::tag::PAIR;
 ghost use mathlib.Core.Path.{_≡_};
 ghost use Prim.Native.Nat.{ℕ, _≤_, _<_};
 ghost use lib.ListN.{length, getD};
 ghost use Rattle.terms.specs.Graph.{Outcome};
 ghost use Rattle.terms.specs.GraphLaws.{Any};
-ghost use Rattle.terms.specs.TermGraph.{TwoTerms, SizesOf, AtHome, nodeOf, firstChild, secondChild, nodeTag};
+ghost use Rattle.terms.specs.Tag.{pairTag};
+ghost use Rattle.terms.specs.TermGraph.{allNodes, TwoTerms, SizesOf, AtHome, nodeOf, firstChild, secondChild, nodeTag};
 ghost use Rattle.terms.specs.Names.{nameOf, classCount, Linked};
 ghost use Rattle.terms.specs.Meeting.{MeetAs};
 
 // Every node as a class by itself.
-pub fn alone() -> [u8; 256]
-    ensures { λ r. ⌜ ((i : ℕ) → i < 256 → getD r i 0 ≡ i) ⌝ }
+pub fn alone() -> [u8; ALL_NODES]
+    ensures { λ r. ⌜ ((i : ℕ) → i < allNodes → getD r i 0 ≡ i) ⌝ }
 {
-    let mut c = [0u8; 256];
+    let mut c = [0u8; ALL_NODES];
     let mut k = 0usize;
-    while k < 256 {
+    while k < ALL_NODES {
         c[k] = k as u8;
         k += 1;
     }
@@ -28,9 +33,9 @@ pub fn alone() -> [u8; 256]
 }
 
 // The name of a node's class. No way has 256 links.
-pub fn find(c: &[u8; 256], i: usize) -> usize
-    requires { ⌜ (length (now c) ≡ 256) × (i < 256) ⌝ }
-    ensures { λ r. ⌜ (r ≡ nameOf (now (c .entry)) i) × (r < 256) ⌝ }
+pub fn find(c: &[u8; ALL_NODES], i: usize) -> usize
+    requires { ⌜ (length (now c) ≡ allNodes) × (i < allNodes) ⌝ }
+    ensures { λ r. ⌜ (r ≡ nameOf (now (c .entry)) i) × (r < allNodes) ⌝ }
 {
     let mut k = i;
     let mut left = 256usize;
@@ -58,20 +63,20 @@ fn meeting(s: &[u8], t: &[u8], a: usize, b: usize) -> How
     requires { ⌜ TwoTerms (now s) (now t) × AtHome (now s) (now t) a × AtHome (now s) (now t) b × (b < a) ⌝ }
     ensures { λ r. ⌜ MeetAs (now (s .entry)) (now (t .entry)) a b r ⌝ }
 {
-    if 128 <= a {
+    if VARIABLE_NODES <= a {
         return How::Free;
     }
     let tag = tag_at(s, t, a);
     if tag != tag_at(s, t, b) {
         return How::Differ;
     }
-    if tag == 2 {
+    if tag == PAIR {
         return How::Pairs;
     }
     if value_at(s, t, a) != value_at(s, t, b) {
         return How::Differ;
     }
-    if tag == 3 {
+    if tag == ENCRYPTION {
         return How::Encryptions;
     }
     How::Atoms
@@ -84,7 +89,7 @@ pub fn unite(
     t: &[u8],
     zs: &[u8],
     zt: &[u8],
-    c: &mut [u8; 256],
+    c: &mut [u8; ALL_NODES],
     i: usize,
     j: usize,
 ) -> bool
@@ -110,7 +115,7 @@ fn unite_names(
     t: &[u8],
     zs: &[u8],
     zt: &[u8],
-    c: &mut [u8; 256],
+    c: &mut [u8; ALL_NODES],
     a: usize,
     b: usize,
 ) -> bool
@@ -147,12 +152,12 @@ fn unite_halves(
     t: &[u8],
     zs: &[u8],
     zt: &[u8],
-    c: &mut [u8; 256],
+    c: &mut [u8; ALL_NODES],
     a: usize,
     b: usize,
 ) -> bool
     requires { ⌜ TwoTerms (now s) (now t) × SizesOf (now s) (now zs) × SizesOf (now t) (now zt) × Linked (now s) (now t) (now c)
-        × (nodeTag (now s) (now t) a ≡ 2) × (nodeTag (now s) (now t) b ≡ 2) ⌝ }
+        × (nodeTag (now s) (now t) a ≡ pairTag) × (nodeTag (now s) (now t) b ≡ pairTag) ⌝ }
     ensures { λ r. ⌜ Linked (now (s .entry)) (now (t .entry)) (now (c .exit)) × (classCount (now (c .exit)) ≤ classCount (now (c .entry)))
         × Outcome (nodeOf (now (s .entry)) (now (t .entry))) Any (nameOf (now (c .entry))) (nameOf (now (c .exit)))
         (λ v. (v (firstChild (now (s .entry)) (now (t .entry)) a) ≡ v (firstChild (now (s .entry)) (now (t .entry)) b))

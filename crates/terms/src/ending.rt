@@ -1,16 +1,21 @@
 // Whether every way down over the classes comes to an end: one walk down from the entries of both terms marks each class
 // it meets.
 use crate::classes::find;
+use crate::node::ALL_NODES;
+use crate::node::RIGHT_NODES;
+use crate::node::VARIABLE_NODES;
 use crate::node::first_child;
 use crate::node::second_child;
 use crate::node::tag_at;
+use crate::tag::ENCRYPTION;
+use crate::tag::PAIR;
 ghost use mathlib.Core.Path.{_≡_};
 ghost use mathlib.Core.Bool.{true, false};
 ghost use Prim.Native.Nat.{ℕ, _≤_, _<_};
 ghost use lib.ListN.{length};
 ghost use Rattle.terms.specs.Term.{Message};
 ghost use Rattle.terms.specs.Graph.{IsSymbol, Valid, Respects, Finite};
-ghost use Rattle.terms.specs.TermGraph.{TwoTerms, nodeOf, SizesOf, AtHome, OwnEntry};
+ghost use Rattle.terms.specs.TermGraph.{variableNodes, TwoTerms, nodeOf, SizesOf, AtHome, OwnEntry};
 ghost use Rattle.terms.specs.Names.{nameOf, Linked};
 ghost use Rattle.terms.specs.Ending.{ChildrenEnd, ParentEnds, Sound, Below, ChildrenBelow, Walked, EachFrom};
 
@@ -21,17 +26,17 @@ fn ends(
     t: &[u8],
     zs: &[u8],
     zt: &[u8],
-    c: &[u8; 256],
-    marks: &mut [u8; 128],
+    c: &[u8; ALL_NODES],
+    marks: &mut [u8; VARIABLE_NODES],
     i: usize,
 ) -> bool
-    requires { ⌜ TwoTerms (now s) (now t) × SizesOf (now s) (now zs) × SizesOf (now t) (now zt) × Linked (now s) (now t) (now c) × (length (now marks) ≡ 128)
+    requires { ⌜ TwoTerms (now s) (now t) × SizesOf (now s) (now zs) × SizesOf (now t) (now zt) × Linked (now s) (now t) (now c) × (length (now marks) ≡ variableNodes)
         × AtHome (now s) (now t) i × Sound (now s) (now t) (now c) (now marks) × Below (now s) (now t) (now c) (now marks) i ⌝ }
     ensures { λ r. ⌜ Walked (now (s .entry)) (now (t .entry)) (now (c .entry)) (now (marks .entry)) (now (marks .exit))
         (Finite (nodeOf (now (s .entry)) (now (t .entry))) (nameOf (now (c .entry))) i) r ⌝ }
 {
     let a = find(c, i);
-    if 128 <= a {
+    if VARIABLE_NODES <= a {
         return true;
     }
     let mark = marks[a];
@@ -56,23 +61,23 @@ fn children_end(
     t: &[u8],
     zs: &[u8],
     zt: &[u8],
-    c: &[u8; 256],
-    marks: &mut [u8; 128],
+    c: &[u8; ALL_NODES],
+    marks: &mut [u8; VARIABLE_NODES],
     a: usize,
 ) -> bool
-    requires { ⌜ TwoTerms (now s) (now t) × SizesOf (now s) (now zs) × SizesOf (now t) (now zt) × Linked (now s) (now t) (now c) × (length (now marks) ≡ 128)
+    requires { ⌜ TwoTerms (now s) (now t) × SizesOf (now s) (now zs) × SizesOf (now t) (now zt) × Linked (now s) (now t) (now c) × (length (now marks) ≡ variableNodes)
         × IsSymbol (nodeOf (now s) (now t) a) × Sound (now s) (now t) (now c) (now marks) × ChildrenBelow (now s) (now t) (now c) (now marks) a ⌝ }
     ensures { λ r. ⌜ Walked (now (s .entry)) (now (t .entry)) (now (c .entry)) (now (marks .entry)) (now (marks .exit))
         (ChildrenEnd (now (s .entry)) (now (t .entry)) (now (c .entry)) a) r ⌝ }
 {
     let tag = tag_at(s, t, a);
-    if tag == 2 {
+    if tag == PAIR {
         if ends(s, t, zs, zt, c, marks, first_child(s, t, a)) {
             ends(s, t, zs, zt, c, marks, second_child(s, t, zs, zt, a))
         } else {
             false
         }
-    } else if tag == 3 {
+    } else if tag == ENCRYPTION {
         ends(s, t, zs, zt, c, marks, first_child(s, t, a))
     } else {
         true
@@ -85,20 +90,20 @@ fn node_ends(
     t: &[u8],
     zs: &[u8],
     zt: &[u8],
-    c: &[u8; 256],
-    marks: &mut [u8; 128],
+    c: &[u8; ALL_NODES],
+    marks: &mut [u8; VARIABLE_NODES],
     k: usize,
 ) -> bool
-    requires { ⌜ TwoTerms (now s) (now t) × SizesOf (now s) (now zs) × SizesOf (now t) (now zt) × Linked (now s) (now t) (now c) × (length (now marks) ≡ 128)
+    requires { ⌜ TwoTerms (now s) (now t) × SizesOf (now s) (now zs) × SizesOf (now t) (now zt) × Linked (now s) (now t) (now c) × (length (now marks) ≡ variableNodes)
         × OwnEntry (now s) (now t) k × Sound (now s) (now t) (now c) (now marks) × Below (now s) (now t) (now c) (now marks) k ⌝ }
     ensures { λ r. ⌜ Walked (now (s .entry)) (now (t .entry)) (now (c .entry)) (now (marks .entry)) (now (marks .exit))
         (ParentEnds (now (s .entry)) (now (t .entry)) (now (c .entry)) k) r ⌝ }
 {
     let tag = tag_at(s, t, k);
-    if tag == 2 {
+    if tag == PAIR {
         return ends(s, t, zs, zt, c, marks, k);
     }
-    if tag == 3 {
+    if tag == ENCRYPTION {
         return ends(s, t, zs, zt, c, marks, k);
     }
     true
@@ -112,12 +117,12 @@ fn side_ends(
     t: &[u8],
     zs: &[u8],
     zt: &[u8],
-    c: &[u8; 256],
-    marks: &mut [u8; 128],
+    c: &[u8; ALL_NODES],
+    marks: &mut [u8; VARIABLE_NODES],
     low: usize,
     high: usize,
 ) -> bool
-    requires { ⌜ TwoTerms (now s) (now t) × SizesOf (now s) (now zs) × SizesOf (now t) (now zt) × Linked (now s) (now t) (now c) × (length (now marks) ≡ 128)
+    requires { ⌜ TwoTerms (now s) (now t) × SizesOf (now s) (now zs) × SizesOf (now t) (now zt) × Linked (now s) (now t) (now c) × (length (now marks) ≡ variableNodes)
         × (low ≤ high) × EachFrom (OwnEntry (now s) (now t)) low high
         × Sound (now s) (now t) (now c) (now marks) × ((i : ℕ) → Below (now s) (now t) (now c) (now marks) i) ⌝ }
     ensures { λ r. ⌜ Walked (now (s .entry)) (now (t .entry)) (now (c .entry)) (now (marks .entry)) (now (marks .exit))
@@ -135,13 +140,22 @@ fn side_ends(
 
 // Every way down over the classes ends, walked from the entries of both terms: the other nodes have no children; or no
 // valid valuation respects the classes.
-pub fn is_finite(s: &[u8], t: &[u8], zs: &[u8], zt: &[u8], c: &[u8; 256]) -> bool
+pub fn is_finite(s: &[u8], t: &[u8], zs: &[u8], zt: &[u8], c: &[u8; ALL_NODES]) -> bool
     requires { ⌜ TwoTerms (now s) (now t) × SizesOf (now s) (now zs) × SizesOf (now t) (now zt) × Linked (now s) (now t) (now c) ⌝ }
     ensures { λ r. ⌜ (r ≡ true → (i : ℕ) → Finite (nodeOf (now (s .entry)) (now (t .entry))) (nameOf (now (c .entry))) i)
         × (r ≡ false → (v : ℕ → Message) → Valid (nodeOf (now (s .entry)) (now (t .entry))) v → Respects (nameOf (now (c .entry))) v → ⊥) ⌝ }
 {
-    let mut marks = [0u8; 128];
-    if side_ends(s, t, zs, zt, c, &mut marks, 64, 64 + t.len() / 4) {
+    let mut marks = [0u8; VARIABLE_NODES];
+    if side_ends(
+        s,
+        t,
+        zs,
+        zt,
+        c,
+        &mut marks,
+        RIGHT_NODES,
+        RIGHT_NODES + t.len() / 4,
+    ) {
         side_ends(s, t, zs, zt, c, &mut marks, 0, s.len() / 4)
     } else {
         false

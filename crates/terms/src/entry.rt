@@ -2,13 +2,19 @@
 ghost use mathlib.Core.Path.{_≡_};
 ghost use Prim.Native.Nat.{_+_, _*_, _≤_, _<_};
 ghost use lib.ListN.{length};
-ghost use Rattle.terms.specs.Entry.{Begins, termOf, size, childrenOf, valueAt};
+ghost use Rattle.terms.specs.Entry.{Begins, termOf, size, valueAt};
+ghost use Rattle.terms.specs.Tag.{childrenOf};
 ghost use Rattle.terms.specs.TermGraph.{sizeIn, SizesOf};
 ghost use Rattle.terms.specs.Sizes.{SizedFrom, KeptBelow};
 ghost use Rattle.terms.specs.WalkLaws.{from};
+use crate::tag::ENCRYPTION;
+use crate::tag::PAIR;
+
+// Room for the sizes of the terms at the entries of one term.
+pub const SIZES: usize = 64;
 
 // A byte, wider.
-fn wide(x: u8) -> usize
+pub(crate) fn wide(x: u8) -> usize
     ensures { λ r. ⌜ (r ≡ x) × (r ≤ 255) ⌝ }
 {
     x as usize
@@ -26,10 +32,10 @@ pub fn value(e: &[u8]) -> usize
 pub(crate) fn children(tag: u8) -> usize
     ensures { λ r. ⌜ (r ≡ childrenOf tag) × (r ≤ 2) ⌝ }
 {
-    if tag == 2 {
+    if tag == PAIR {
         return 2;
     }
-    if tag == 3 { 1 } else { 0 }
+    if tag == ENCRYPTION { 1 } else { 0 }
 }
 
 // How many entries the term has that stands first, walked child by child.
@@ -38,10 +44,10 @@ pub fn term_size(e: &[u8]) -> usize
     ensures { λ r. ⌜ (r ≡ size (termOf (now (e .entry)))) × (4 * r ≤ length (now (e .entry))) ⌝ }
 {
     let tag = e[0];
-    if tag == 2 {
+    if tag == PAIR {
         let right = 1 + term_size(&e[4..]);
         right + term_size(&e[4 * right..])
-    } else if tag == 3 {
+    } else if tag == ENCRYPTION {
         1 + term_size(&e[4..])
     } else {
         1
@@ -54,10 +60,10 @@ fn size_by_children(e: &[u8], z: &[u8], base: usize, k: usize) -> u8
     ensures { λ r. ⌜ r ≡ sizeIn (now (e .entry)) k ⌝ }
 {
     let tag = e[4 * k];
-    if tag == 2 {
+    if tag == PAIR {
         let left = wide(z[base + k + 1]);
         (1 + left + wide(z[base + k + 1 + left])) as u8
-    } else if tag == 3 {
+    } else if tag == ENCRYPTION {
         (1 + wide(z[base + k + 1])) as u8
     } else {
         1
@@ -77,17 +83,17 @@ pub fn fill_sizes(e: &[u8], z: &mut [u8], base: usize)
 }
 
 // For each entry, how many entries the term has that begins there.
-pub fn sizes(e: &[u8]) -> [u8; 64]
+pub fn sizes(e: &[u8]) -> [u8; SIZES]
     requires { ⌜ Begins (now e) × (length (now e) ≤ 252) ⌝ }
     ensures { λ r. ⌜ SizesOf (now (e .entry)) r ⌝ }
 {
-    let mut z = [0u8; 64];
+    let mut z = [0u8; SIZES];
     fill_sizes(e, &mut z, 0);
     z
 }
 
 // The entry past the term at entry h, by the sizes.
-pub fn end_of(e: &[u8], z: &[u8; 64], h: usize) -> usize
+pub fn end_of(e: &[u8], z: &[u8; SIZES], h: usize) -> usize
     requires { ⌜ SizesOf (now e) (now z) × Begins (from (4 * h) (now e)) × (4 * h < length (now e)) × (length (now e) ≤ 252) ⌝ }
     ensures { λ r. ⌜ (r ≡ h + size (termOf (from (4 * h) (now (e .entry))))) × (4 * r ≤ length (now (e .entry))) ⌝ }
 {

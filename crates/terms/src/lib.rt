@@ -5,4 +5,5 @@ pub mod entry;
 pub mod matching;
 mod node;
 pub mod sharing;
+pub mod tag;
 pub mod valid;

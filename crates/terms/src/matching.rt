@@ -9,9 +9,15 @@ ghost use Rattle.terms.specs.Instance.{Share};
 ghost use Rattle.terms.specs.WalkLaws.{from};
 ghost use Rattle.terms.specs.Solve.{Says};
 ghost use Rattle.terms.specs.Decide.{answer, variable?, term?, match?};
-ghost use Rattle.terms.specs.Front.{slotOf, SameFirst, Word, Comparable, Bindable, Front, Takes, Ready, Made, Ran, Goes};
+ghost use Rattle.terms.specs.Slot.{slotCount, slotOf};
+ghost use Rattle.terms.specs.Front.{SameFirst, Word, Comparable, Bindable, Front, Takes, Ready, Made, Ran, Goes};
 use crate::entry;
-use crate::node::wide;
+use crate::entry::wide;
+use crate::tag::MARKED;
+use crate::tag::PLAIN;
+use crate::tag::SLOTS;
+use crate::tag::VARIABLES;
+use crate::tag::is_variable;
 
 // The entry that stands first, as one number.
 fn word(e: &[u8]) -> usize
@@ -57,7 +63,7 @@ fn goes_on(p: &[u8], t: &[u8], k: usize, left: usize) -> bool
     if left == 0 {
         return false;
     }
-    if 3 < p[4 * k] {
+    if is_variable(p[4 * k]) {
         return false;
     }
     same_entry(&p[4 * k..], &t[4 * k..])
@@ -108,21 +114,26 @@ pub fn slot(p: &[u8]) -> usize
     requires { ⌜ Begins (now p) ⌝ }
     ensures { λ r. ⌜ r ≡ slotOf (termOf (now (p .entry))) ⌝ }
 {
-    if p[0] == 4 {
+    if p[0] == PLAIN {
         entry::value(p)
-    } else if p[0] == 5 {
-        8 + entry::value(p)
+    } else if p[0] == MARKED {
+        VARIABLES + entry::value(p)
     } else {
-        16
+        SLOTS
     }
 }
 
-// May a variable that is bound to the term at entry `old` (255: not bound) stand for the term at entry `at`?
+// The entry of a variable that is not bound, and as a byte of the bindings.
+const UNBOUND: usize = 255;
+
+const UNBOUND_BYTE: u8 = 255;
+
+// May a variable that is bound to the term at entry `old` stand for the term at entry `at`?
 fn bindable(t: &[u8], old: usize, at: usize) -> bool
     requires { ⌜ Comparable (now t) old at ⌝ }
     ensures { λ r. ⌜ Says r (Bindable (now (t .entry)) old at) ⌝ }
 {
-    if old == 255 {
+    if old == UNBOUND {
         true
     } else {
         same(&t[4 * old..], &t[4 * at..])
@@ -130,8 +141,8 @@ fn bindable(t: &[u8], old: usize, at: usize) -> bool
 }
 
 // The bindings with this slot bound to the term at entry `at`.
-fn bind(bound: [u8; 16], slot: usize, at: usize) -> [u8; 16]
-    requires { ⌜ (slot < 16) × (at ≤ 62) ⌝ }
+fn bind(bound: [u8; SLOTS], slot: usize, at: usize) -> [u8; SLOTS]
+    requires { ⌜ (slot < slotCount) × (at ≤ 62) ⌝ }
     ensures { λ r. ⌜ r ≡ set bound slot at ⌝ }
 {
     let mut more = bound;
@@ -140,7 +151,7 @@ fn bind(bound: [u8; 16], slot: usize, at: usize) -> [u8; 16]
 }
 
 // Can the first `need` terms of p become those of t from its entry `at` on, with its variables replaced as `bound` says?
-fn match_front(p: &[u8], t: &[u8], at: usize, need: usize, bound: [u8; 16]) -> bool
+fn match_front(p: &[u8], t: &[u8], at: usize, need: usize, bound: [u8; SLOTS]) -> bool
     requires { ⌜ Ready (now p) (now t) at need bound ⌝ }
     ensures { λ r. ⌜ Says r (Made (now (p .entry)) (now (t .entry)) at need bound) ⌝ }
 {
@@ -148,7 +159,7 @@ fn match_front(p: &[u8], t: &[u8], at: usize, need: usize, bound: [u8; 16]) -> b
         return true;
     }
     let x = slot(p);
-    if x < 16 {
+    if x < SLOTS {
         if bindable(t, bound[x] as usize, at) {
             if need == 1 {
                 return true;
@@ -174,10 +185,10 @@ pub fn differs(p: &[u8], t: &[u8], run: Run) -> bool
         return false;
     }
     let at = 4 * run.count;
-    if 3 < p[at] {
+    if is_variable(p[at]) {
         return false;
     }
-    t[at] <= 3
+    !is_variable(t[at])
 }
 
 // Is the term the pattern with its variables replaced by terms, behind what both begin with?
@@ -186,7 +197,7 @@ pub fn matches_behind(p: &[u8], t: &[u8], run: Run) -> bool
     ensures { λ r. ⌜ r ≡ answer (match? variable? variable? (termOf (now (p .entry))) (termOf (now (t .entry)))) ⌝ }
 {
     let at = run.count;
-    match_front(&p[4 * at..], t, at, run.left, [255; 16])
+    match_front(&p[4 * at..], t, at, run.left, [UNBOUND_BYTE; SLOTS])
 }
 
 // Is the term the pattern with its variables replaced by terms? Most tests end where the two first differ.

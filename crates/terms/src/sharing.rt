@@ -6,22 +6,34 @@ use crate::classes::alone;
 use crate::classes::unite;
 use crate::ending::is_finite;
 use crate::entry::children;
+use crate::entry::wide;
 use crate::matching::run_on;
 use crate::matching::same_entry;
 use crate::matching::slot;
+use crate::node::ALL_NODES;
+use crate::node::RIGHT_NODES;
+use crate::node::RIGHT_VARIABLES;
+use crate::node::VARIABLE_NODES;
 use crate::node::home;
-use crate::node::wide;
+use crate::tag::SLOTS;
+use crate::tag::is_variable;
 ghost use mathlib.Core.Path.{_≡_};
 ghost use mathlib.Core.Bool.{true};
 ghost use Prim.Native.Nat.{_≤_};
 ghost use lib.ListN.{length};
-ghost use Rattle.terms.specs.Entry.{Begins, termOf, childrenOf};
+ghost use Rattle.terms.specs.Entry.{Begins, termOf};
+ghost use Rattle.terms.specs.Tag.{childrenOf};
 ghost use Rattle.terms.specs.Decide.{answer, share?, variable?};
 ghost use Rattle.terms.specs.Graph.{Outcome};
 ghost use Rattle.terms.specs.GraphLaws.{Any};
 ghost use Rattle.terms.specs.TermGraph.{TwoTerms, SizesOf, nodeOf};
 ghost use Rattle.terms.specs.Names.{nameOf, Linked};
 ghost use Rattle.terms.specs.Meetings.{RootsDiffer, Noted, NotedIn, Walking, Reduced, WalkSays, Stops, Distinct, AllEqual};
+
+// Room for the entries noted: those of the first term from 0, those of the second from 64.
+const NOTES: usize = 128;
+
+const RIGHT_NOTES: usize = 64;
 
 // How the walk over both terms ended: at different symbols, or with so many entries noted.
 enum Walk {
@@ -41,8 +53,8 @@ struct Passed {
 fn leaves_meet(p: u8, q: u8) -> bool
     ensures { λ r. ⌜ (r ≡ true → (childrenOf p ≡ 0) × (childrenOf q ≡ 0)) ⌝ }
 {
-    if p <= 3 {
-        if q <= 3 {
+    if !is_variable(p) {
+        if !is_variable(q) {
             return false;
         }
     }
@@ -56,7 +68,7 @@ fn leaves_meet(p: u8, q: u8) -> bool
 fn pass(
     s: &[u8],
     t: &[u8],
-    m: &mut [u8; 128],
+    m: &mut [u8; NOTES],
     first: usize,
     second: usize,
     need: usize,
@@ -93,7 +105,7 @@ fn pass(
             };
         }
         m[n] = i as u8;
-        m[64 + n] = j as u8;
+        m[RIGHT_NOTES + n] = j as u8;
         i += 1;
         j += 1;
         left -= 1;
@@ -114,7 +126,7 @@ fn meet(
     t: &[u8],
     zs: &[u8],
     zt: &[u8],
-    m: &mut [u8; 128],
+    m: &mut [u8; NOTES],
     i: usize,
     j: usize,
     need: usize,
@@ -136,7 +148,7 @@ fn note(
     t: &[u8],
     zs: &[u8],
     zt: &[u8],
-    m: &mut [u8; 128],
+    m: &mut [u8; NOTES],
     i: usize,
     j: usize,
     left: usize,
@@ -151,7 +163,7 @@ fn note(
         }
     }
     m[n] = i as u8;
-    m[64 + n] = j as u8;
+    m[RIGHT_NOTES + n] = j as u8;
     meet(
         s,
         t,
@@ -171,9 +183,9 @@ fn unite_noted(
     t: &[u8],
     zs: &[u8],
     zt: &[u8],
-    m: &[u8; 128],
+    m: &[u8; NOTES],
     n: usize,
-    c: &mut [u8; 256],
+    c: &mut [u8; ALL_NODES],
 ) -> bool
     requires { ⌜ TwoTerms (now s) (now t) × SizesOf (now s) (now zs) × SizesOf (now t) (now zt) × Noted (now s) (now t) (now m) n × Linked (now s) (now t) (now c) ⌝ }
     ensures { λ r. ⌜ Linked (now (s .entry)) (now (t .entry)) (now (c .exit))
@@ -182,8 +194,8 @@ fn unite_noted(
 {
     let mut k = 0;
     while k < n {
-        let i = home(s, wide(m[k]), 0, 128);
-        let j = home(t, wide(m[64 + k]), 64, 144);
+        let i = home(s, wide(m[k]), 0, VARIABLE_NODES);
+        let j = home(t, wide(m[RIGHT_NOTES + k]), RIGHT_NODES, RIGHT_VARIABLES);
         if !unite(s, t, zs, zt, c, i, j) {
             return false;
         }
@@ -193,7 +205,7 @@ fn unite_noted(
 }
 
 // Do messages for the variables make the noted entries equal?
-fn have_solution(s: &[u8], t: &[u8], zs: &[u8], zt: &[u8], m: &[u8; 128], n: usize) -> bool
+fn have_solution(s: &[u8], t: &[u8], zs: &[u8], zt: &[u8], m: &[u8; NOTES], n: usize) -> bool
     requires { ⌜ TwoTerms (now s) (now t) × SizesOf (now s) (now zs) × SizesOf (now t) (now zt) × Reduced (now s) (now t) (now m) n ⌝ }
     ensures { λ r. ⌜ r ≡ answer (share? variable? variable? (termOf (now (s .entry))) (termOf (now (t .entry)))) ⌝ }
 {
@@ -206,11 +218,11 @@ fn have_solution(s: &[u8], t: &[u8], zs: &[u8], zt: &[u8], m: &[u8; 128], n: usi
 }
 
 // Is a variable noted at each of the n entries of s, and each time another one? Then these can take what stands opposite.
-fn is_free_match(s: &[u8], m: &[u8; 128], n: usize) -> bool
+fn is_free_match(s: &[u8], m: &[u8; NOTES], n: usize) -> bool
     requires { ⌜ Begins (now s) × (length (now s) ≤ 252) × NotedIn (now s) (now m) n ⌝ }
     ensures { λ r. ⌜ (r ≡ true → Distinct (now (s .entry)) (now (m .entry)) n) ⌝ }
 {
-    let mut seen = [0u8; 16];
+    let mut seen = [0u8; SLOTS];
     let mut k = 0;
     while k < n {
         let at = wide(m[k]);
@@ -232,10 +244,10 @@ fn roots_differ(s: &[u8], t: &[u8]) -> bool
     requires { ⌜ Begins (now s) × Begins (now t) ⌝ }
     ensures { λ r. ⌜ (r ≡ true → RootsDiffer (now (s .entry)) (now (t .entry))) ⌝ }
 {
-    if 3 < s[0] {
+    if is_variable(s[0]) {
         return false;
     }
-    if 3 < t[0] {
+    if is_variable(t[0]) {
         return false;
     }
     !same_entry(s, t)
@@ -250,7 +262,7 @@ pub fn shares(s: &[u8], t: &[u8], zs: &[u8], zt: &[u8]) -> bool
     if roots_differ(s, t) {
         return false;
     }
-    let mut m = [0u8; 128];
+    let mut m = [0u8; NOTES];
     let walk = meet(s, t, zs, zt, &mut m, 0, 0, 1, 0);
     match walk {
         Walk::Apart => false,

@@ -14,7 +14,21 @@ ghost use Rattle.terms.specs.OneTerm.{HasSymbol, oneTerm?, encryption?};
 ghost use Rattle.terms.specs.Count.{tagsOf, areTerms};
 use crate::entry::children;
 use crate::entry::value;
-use crate::node::wide;
+use crate::entry::wide;
+use crate::tag::ENCRYPTION;
+use crate::tag::LAST;
+use crate::tag::VARIABLES;
+
+// Kinds of atoms.
+const PRINCIPAL: u8 = 1;
+
+const NONCE: u8 = 2;
+
+const PUBLIC: u8 = 3;
+
+const PRIVATE: u8 = 4;
+
+const SYMMETRIC: u8 = 5;
 
 // The first entry that is not right, or none.
 pub enum Found {
@@ -50,15 +64,15 @@ fn right_atom(atoms: &[u8], n: usize) -> bool
         return false;
     }
     let kind = atoms[4 * n];
-    if kind == 1 {
+    if kind == PRINCIPAL {
         partner == 0
-    } else if kind == 2 {
+    } else if kind == NONCE {
         partner == 0
-    } else if kind == 3 {
-        named_back(atoms, n, 4)
-    } else if kind == 4 {
-        named_back(atoms, n, 3)
-    } else if kind == 5 {
+    } else if kind == PUBLIC {
+        named_back(atoms, n, PRIVATE)
+    } else if kind == PRIVATE {
+        named_back(atoms, n, PUBLIC)
+    } else if kind == SYMMETRIC {
         partner == n
     } else {
         false
@@ -89,25 +103,25 @@ fn listed_kind(atoms: &[u8], n: usize) -> u8
         return 0;
     }
     let kind = atoms[4 * n];
-    if kind < 6 { kind } else { 0 }
+    if kind <= SYMMETRIC { kind } else { 0 }
 }
 
 // How many plain variables a block of this kind may have: a secret none.
 fn plain_limit(kind: u8) -> usize
     ensures { λ r. ⌜ r ≡ plainLimit kind ⌝ }
 {
-    if kind == 2 { 0 } else { 8 }
+    if kind == 2 { 0 } else { VARIABLES }
 }
 
 // How many marked variables a block of this kind may have: any but a good pattern none.
 fn marked_limit(kind: u8) -> usize
     ensures { λ r. ⌜ r ≡ markedLimit kind ⌝ }
 {
-    if kind == 3 { 8 } else { 0 }
+    if kind == 3 { VARIABLES } else { 0 }
 }
 
 // For each tag, the limit that the values of its entries stay below.
-fn limits(kind: u8, count: usize) -> [usize; 6]
+fn limits(kind: u8, count: usize) -> [usize; LAST + 1]
     ensures { λ r. ⌜ r ≡ limitsOf kind count ⌝ }
 {
     [0, count, 1, count, plain_limit(kind), marked_limit(kind)]
@@ -115,7 +129,7 @@ fn limits(kind: u8, count: usize) -> [usize; 6]
 
 // The term entry that stands first is right by the tables: its value is below its tag's limit, and the atom of that
 // number has not less than its tag's least kind.
-fn right_entry(atoms: &[u8], limits: &[usize; 6], least: &[u8; 6], e: &[u8]) -> bool
+fn right_entry(atoms: &[u8], limits: &[usize; LAST + 1], least: &[u8; LAST + 1], e: &[u8]) -> bool
     requires { ⌜ (4 ≤ length (now e)) × (length (now limits) ≡ 6) × (length (now least) ≡ 6) ⌝ }
     ensures { λ r. ⌜ Says r (ByTables (atomsOf (now (atoms .entry))) (now (limits .entry)) (now (least .entry)) (now (e .entry))) ⌝ }
 {
@@ -123,7 +137,7 @@ fn right_entry(atoms: &[u8], limits: &[usize; 6], least: &[u8; 6], e: &[u8]) -> 
         return false;
     }
     let tag = wide(e[0]);
-    if 5 < tag {
+    if LAST < tag {
         return false;
     }
     let n = value(e);
@@ -143,7 +157,7 @@ pub fn wrong_entry(atoms: &[u8], kind: u8, e: &[u8]) -> Found
     let count = e.len() / 4;
     let limits = limits(kind, atoms.len() / 4);
     // The value of an encryption is the number of a key: an atom of kind 3 or more.
-    let least = [0u8, 0, 0, 3, 0, 0];
+    let least = [0u8, 0, 0, PUBLIC, 0, 0];
     let mut i = 0;
     while i < count {
         if right_entry(atoms, &limits, &least, &e[4 * i..]) {
@@ -155,13 +169,16 @@ pub fn wrong_entry(atoms: &[u8], kind: u8, e: &[u8]) -> Found
     Found::Nothing
 }
 
+// Room for the tags of a block's entries.
+const TAGS: usize = 128;
+
 // The tags of the entries, a byte for each.
-fn tags(e: &[u8]) -> [u8; 128]
+fn tags(e: &[u8]) -> [u8; TAGS]
     requires { ⌜ length (now e) ≤ 512 ⌝ }
     ensures { λ r. ⌜ take (length (now (e .entry)) / 4) r ≡ tagsOf (now (e .entry)) ⌝ }
 {
     let count = e.len() / 4;
-    let mut tags = [0u8; 128];
+    let mut tags = [0u8; TAGS];
     let mut k = 0usize;
     while k < count {
         tags[k] = e[4 * k];
@@ -171,7 +188,7 @@ fn tags(e: &[u8]) -> [u8; 128]
 }
 
 // The entries left, from entry `at` up to entry `count`, are so many terms.
-fn are_terms(tags: &[u8; 128], at: usize, count: usize, need: usize) -> bool
+fn are_terms(tags: &[u8; TAGS], at: usize, count: usize, need: usize) -> bool
     requires { ⌜ (length (now tags) ≡ 128) × (count ≤ 128) × (need ≤ at + 1) ⌝ }
     ensures { λ r. ⌜ r ≡ areTerms (slice at count (now (tags .entry))) need ⌝ }
 {
@@ -199,5 +216,5 @@ pub fn is_encryption(e: &[u8]) -> bool
     ensures { λ r. ⌜ r ≡ answer (encryption? (termOf (now (e .entry)))) ⌝ }
 {
     let tag = e[0];
-    tag == 3
+    tag == ENCRYPTION
 }

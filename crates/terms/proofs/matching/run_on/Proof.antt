@@ -4,7 +4,7 @@ use mathlib.Core.Path.{ap, _∙_}
 use Prim.Native.Nat.{_-_}
 use native.Mathlib.Omega.{arith}
 use lib.ListN.{length}
-use Rattle.terms.specs.Entry.{childrenOf}
+use Rattle.terms.specs.Tag.{childrenOf}
 use Rattle.terms.specs.Decisions.{says-yes, says-no}
 use Rattle.terms.specs.Front.{Ran}
 use Rattle.terms.specs.RunLaws.{ran-start, ran-more, front-room, ran-small, tag-from}

@@ -9,7 +9,7 @@ use borrow.Rule.Slice.PartAt.{part-to-end}
 use Rattle.terms.specs.Entry.{termOf}
 use Rattle.terms.specs.EntryLaws.{suffix}
 use Rattle.terms.specs.WalkLaws.{from}
-use Rattle.terms.specs.Front.{slotOf}
+use Rattle.terms.specs.Slot.{slotOf}
 use Rattle.terms.specs.Meetings.{Distinct}
 use Rattle.terms.specs.MeetingLaws.{Seen, distinct-none, distinct-more, seen-new, seen-more}
 use Rattle.terms.proofs.sharing.is_free_match.Statement.{statement}

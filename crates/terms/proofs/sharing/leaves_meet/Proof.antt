@@ -8,6 +8,8 @@ use Rattle.terms.proofs.sharing.leaves_meet.Tie as tie
 
 pub leaves-meet-spec : {M : Type 1} → statement M
 leaves-meet-spec = tie.close (tie.spec
+    (λ c κs. search needs)  -- is-variable-requires
+    (λ c κs. search needs)  -- is-variable-requires-2
     (λ c. λ e. absurd (false≢true e))  -- returns
     (λ c κs. search needs)  -- children-requires
     (λ c. λ e. absurd (false≢true e))  -- returns-2

@@ -1,0 +1,98 @@
+-- Tags of term entries (document 01, "Term entry"). This is the one place that tells them apart: what else goes by cases over
+-- tags goes by `Tagged`, with a name for each case.
+use mathlib.Core.Path.{_≡_, refl}
+use mathlib.Core.Bool.{Bool, true, false}
+use mathlib.Core.Logic.{_⊎_, inl, inr}
+use Prim.Native.Nat.{ℕ, zero, suc, _≤_, _<_}
+use native.Mathlib.Omega.{arith}
+use Rattle.terms.specs.Term.{Sort, plain, marked}
+
+-- Tags: 1 atom; 2 pair; 3 encryption; 4 plain variable; 5 marked variable.
+abbrev pub atomTag : ℕ
+atomTag = 1
+
+abbrev pub pairTag : ℕ
+pairTag = 2
+
+abbrev pub encryptionTag : ℕ
+encryptionTag = 3
+
+abbrev pub plainTag : ℕ
+plainTag = 4
+
+abbrev pub markedTag : ℕ
+markedTag = 5
+
+-- The tag of a variable of this sort.
+unfoldable pub sortTag : Sort → ℕ
+sortTag plain = plainTag
+sortTag marked = markedTag
+
+-- How many variables of each sort there are: 0 to 7.
+abbrev pub variables : ℕ
+variables = 8
+
+-- A variable's tag; and a symbol's: an atom's, a pair's or an encryption's.
+abbrev pub VariableTag : ℕ → Type 0
+VariableTag tag = encryptionTag < tag
+
+abbrev pub SymbolTag : ℕ → Type 0
+SymbolTag tag = tag ≤ encryptionTag
+
+-- What a byte says as a tag.
+pub data Tagged (tag : ℕ) : Type 0 where
+  isAtom : tag ≡ atomTag → Tagged tag
+  isPair : tag ≡ pairTag → Tagged tag
+  isEncryption : tag ≡ encryptionTag → Tagged tag
+  isVariable : (s : Sort) → tag ≡ sortTag s → Tagged tag
+  isNone : (tag < atomTag) ⊎ (markedTag < tag) → Tagged tag
+
+unfoldable pub tagged : (tag : ℕ) → Tagged tag
+unfolding sortTag
+tagged zero = isNone (inl (omega arith))
+tagged (suc zero) = isAtom refl
+tagged (suc (suc zero)) = isPair refl
+tagged (suc (suc (suc zero))) = isEncryption refl
+tagged (suc (suc (suc (suc zero)))) = isVariable plain refl
+tagged (suc (suc (suc (suc (suc zero))))) = isVariable marked refl
+tagged (suc (suc (suc (suc (suc (suc n)))))) = isNone (inr (omega arith))
+
+-- How many children an entry of this tag has.
+abbrev pub childrenBy : {tag : ℕ} → Tagged tag → ℕ
+childrenBy (isAtom e) = 0
+childrenBy (isPair e) = 2
+childrenBy (isEncryption e) = 1
+childrenBy (isVariable s e) = 0
+childrenBy (isNone e) = 0
+
+unfoldable pub childrenOf : ℕ → ℕ
+unfolding tagged
+childrenOf tag = childrenBy (tagged tag)
+
+-- A tag that may stand for any message, or for none: a variable's, or no tag.
+abbrev pub freeBy : {tag : ℕ} → Tagged tag → Bool
+freeBy (isAtom e) = false
+freeBy (isPair e) = false
+freeBy (isEncryption e) = false
+freeBy (isVariable s e) = true
+freeBy (isNone e) = true
+
+unfoldable pub freeTag : ℕ → Bool
+unfolding tagged
+freeTag tag = freeBy (tagged tag)
+
+-- The tag of a sort is a variable's.
+pub sort-tag : {tag : ℕ} (s : Sort) → tag ≡ sortTag s → VariableTag tag
+unfolding sortTag
+sort-tag plain e = omega arith
+sort-tag marked e = omega arith
+
+-- It says that sort, has no children, and is free.
+pub sort-tagged : (s : Sort) → tagged (sortTag s) ≡ isVariable s refl
+unfolding tagged sortTag
+sort-tagged plain = refl
+sort-tagged marked = refl
+
+pub sort-childless : (s : Sort) → childrenOf (sortTag s) ≡ 0
+unfolding childrenOf
+sort-childless s = rw (sort-tagged s) refl
