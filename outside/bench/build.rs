@@ -1,3 +1,3 @@
 fn main() {
-    link::archives(&["judge"]);
+    link::archives(&["c_call"]);
 }

@@ -1,3 +1,3 @@
 fn main() {
-    link::archives(&["judge", "judge_tests"]);
+    link::archives(&["c_call", "judge_tests"]);
 }

@@ -1,4 +1,4 @@
--- One check: a file's verdict, and the tally with it counted (document 01, "Verdicts"); the version of the C call.
+-- One check: a file's verdict, and the tally with it counted (document 01, "Verdicts").
 use mathlib.Core.List.{List}
 use Prim.Native.Nat.{ℕ}
 use Rattle.judge.specs.declared.answer.Tally.{Tally}
@@ -9,7 +9,3 @@ use Rattle.judge.specs.Answer.{talliedOf}
 -- "Each check takes a tally (accepted, refused, 32 bits each) by value and returns it with one of the two raised by 1."
 abbrev pub checkedOf : List ℕ → Tally → Checked
 checkedOf file t = record { verdict = verdictOf file; tally = talliedOf t (verdictOf file) }
-
--- The version of the C call: 1 is document 01, and each change request that lands raises it by 1.
-abbrev pub version : ℕ
-version = 1

@@ -1,9 +1,9 @@
--- `judge::checking::zepayong_check` meets its contract. Assumes nothing.
+-- `c_call::zepayong_check` meets its contract. Assumes nothing.
 use mathlib.Core.Path.{ap, _∙_}
 use Rattle.judge.specs.Answer.{packedOf}
 use borrow.Author.Needs.{needs}
-use Rattle.judge.proofs.checking.zepayong_check.Statement.{statement}
-use Rattle.judge.proofs.checking.zepayong_check.Tie as tie
+use Rattle.c_call.proofs.zepayong_check.Statement.{statement}
+use Rattle.c_call.proofs.zepayong_check.Tie as tie
 
 pub zepayong-check-spec : {M : Type 1} → statement M
 zepayong-check-spec = tie.close (tie.spec

@@ -1,0 +1,2 @@
+-- What the C call has besides the verdict.
+pub mod Version
