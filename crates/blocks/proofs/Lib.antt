@@ -1,5 +1,6 @@
 -- Laws of specs/, for the proofs here and for those of the layers above.
 pub mod Tests
+pub mod KindLaws
 pub mod Parts
 pub mod Sums
 pub mod Sealing

@@ -9,6 +9,7 @@ use lib.Dec.{ltb}
 use borrow.Author.Tests.{lt-ltb, le-ltb, le-leb, lt-leb}
 use lib.ListN.{length, take, drop, length-drop}
 use lib.Seq.{getD-take, getD-drop, take-nil, take-take, drop-drop, take-add, length-take-le}
+use Rattle.blocks.specs.Limits.{blockSize}
 use Rattle.blocks.specs.Block.{HasBlock, hasBlock, blockAt, byteAt, entriesOf, firstEntries, secondEntries, firstCount, secondCount, Fitting}
 
 -- What is left of the first m elements after n are dropped.
@@ -18,37 +19,37 @@ drop-take (suc n) zero l = rw zero-sub
 drop-take (suc n) (suc m) [] = sym (take-nil (suc m - suc n))
 drop-take (suc n) (suc m) (x ∷ l) = rw suc-sub-suc (drop-take n m l)
 
-pub block-length : (file : List ℕ) (i : ℕ) → HasBlock file i → length (blockAt file i) ≡ 512
+pub block-length : (file : List ℕ) (i : ℕ) → HasBlock file i → length (blockAt file i) ≡ blockSize
 unfolding blockAt
-block-length file i h = length-take-le 512 (drop (512 * i) file) (simp length-drop (omega arith))
+block-length file i h = length-take-le blockSize (drop (blockSize * i) file) (simp length-drop (omega arith))
 
 -- A block of the file's first m bytes.
-pub block-before : (file : List ℕ) (i m : ℕ) → 512 * i + 512 ≤ m → blockAt (take m file) i ≡ blockAt file i
+pub block-before : (file : List ℕ) (i m : ℕ) → blockSize * i + blockSize ≤ m → blockAt (take m file) i ≡ blockAt file i
 unfolding blockAt
-block-before file i m h = rw drop-take (take-take 512 (m - 512 * i) (drop (512 * i) file) (omega arith))
+block-before file i m h = rw drop-take (take-take blockSize (m - blockSize * i) (drop (blockSize * i) file) (omega arith))
 
 -- The part that the code takes is the block.
-pub block-part : (file : List ℕ) (i : ℕ) → take (512 * i + 512 - 512 * i) (drop (512 * i) file) ≡ blockAt file i
+pub block-part : (file : List ℕ) (i : ℕ) → take (blockSize * i + blockSize - blockSize * i) (drop (blockSize * i) file) ≡ blockAt file i
 unfolding blockAt
 block-part file i =
-    let count : 512 * i + 512 - 512 * i ≡ 512 = omega arith in
+    let count : blockSize * i + blockSize - blockSize * i ≡ blockSize = omega arith in
     rw count
 
 -- The test that the code makes.
-pub has-block : (file : List ℕ) (i : ℕ) → ltb i (length file / 512) ≡ hasBlock file i
-has-block file i = go (decLe (512 * i + 512) (length file))
+pub has-block : (file : List ℕ) (i : ℕ) → ltb i (length file / blockSize) ≡ hasBlock file i
+has-block file i = go (decLe (blockSize * i + blockSize) (length file))
   where
-    go : Dec (512 * i + 512 ≤ length file) → ltb i (length file / 512) ≡ hasBlock file i
+    go : Dec (blockSize * i + blockSize ≤ length file) → ltb i (length file / blockSize) ≡ hasBlock file i
     go (yes h) =
-        let below : i < length file / 512 = omega arith in
+        let below : i < length file / blockSize = omega arith in
         lt-ltb _ _ below ∙ sym (le-leb _ _ h)
     go (no g) =
-        let above : length file / 512 ≤ i = omega arith in
-        let more : length file < 512 * i + 512 = omega arith in
+        let above : length file / blockSize ≤ i = omega arith in
+        let more : length file < blockSize * i + blockSize = omega arith in
         le-ltb _ _ above ∙ sym (lt-leb _ _ more)
 
 -- A byte of a block is a byte of the file.
-pub block-byte : (file : List ℕ) (i k : ℕ) → k < 512 → byteAt (blockAt file i) k ≡ byteAt file (512 * i + k)
+pub block-byte : (file : List ℕ) (i k : ℕ) → k < blockSize → byteAt (blockAt file i) k ≡ byteAt file (blockSize * i + k)
 unfolding blockAt
 block-byte file i k h = rw (getD-take, getD-drop)
 

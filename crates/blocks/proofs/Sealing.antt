@@ -8,6 +8,7 @@ use lib.Dec.{eqb}
 use lib.ListN.{length, getD, take, set, length-append, drop-of-length-le}
 use lib.Seq.{length-take-le, take-at, getD-append-add, sets-eq}
 use borrow.Author.Tests.{eq-eqb, ne-eqb, eqb-true}
+use Rattle.blocks.specs.Limits.{blockSize}
 use Rattle.blocks.specs.Block.{byteAt, wordAt}
 use Rattle.blocks.specs.Check.{checkA, checkB, CheckRight, checkRight, bytesOf, sealed, valuesOf, sealing, sealingValues, afterSealing}
 use Rattle.blocks.specs.declared.Writing.the-variants.{Wrote, WrongLength}
@@ -17,9 +18,9 @@ use Rattle.blocks.proofs.Tests.{both-left, both-right, both}
 
 pub check-right : (b : List ℕ) → checkRight b ≡ true → CheckRight b
 unfolding checkRight
-check-right b h = go (eqb (length b) 512) (eqb (wordAt b 508) (checkA b)) (eqb (wordAt b 510) (checkB b)) refl refl refl h
+check-right b h = go (eqb (length b) blockSize) (eqb (wordAt b 508) (checkA b)) (eqb (wordAt b 510) (checkB b)) refl refl refl h
   where
-    go : (s t u : Bool) → eqb (length b) 512 ≡ s → eqb (wordAt b 508) (checkA b) ≡ t → eqb (wordAt b 510) (checkB b) ≡ u
+    go : (s t u : Bool) → eqb (length b) blockSize ≡ s → eqb (wordAt b 508) (checkA b) ≡ t → eqb (wordAt b 510) (checkB b) ≡ u
         → s && (t && u) ≡ true → CheckRight b
     go s t u p q r e =
         record {
@@ -33,23 +34,23 @@ unfolding checkRight
 right-check b h = both (eq-eqb _ _ (h .size)) (both (eq-eqb _ _ (h .holds-a)) (eq-eqb _ _ (h .holds-b)))
 
 -- The answers of the code, w and v being the stored words and x and y the computed ones.
-pub check-short : (b : List ℕ) → (length b ≡ 512 → ⊥) → false ≡ checkRight b
+pub check-short : (b : List ℕ) → (length b ≡ blockSize → ⊥) → false ≡ checkRight b
 unfolding checkRight
-check-short b n = rw (ne-eqb (length b) 512 n)
+check-short b n = rw (ne-eqb (length b) blockSize n)
 
-pub check-wrong : (b : List ℕ) {w x : ℕ} → length b ≡ 512 → w ≡ wordAt b 508 → x ≡ checkA b → (w ≡ x → ⊥)
+pub check-wrong : (b : List ℕ) {w x : ℕ} → length b ≡ blockSize → w ≡ wordAt b 508 → x ≡ checkA b → (w ≡ x → ⊥)
     → false ≡ checkRight b
 unfolding checkRight
-check-wrong b size e f n = rw (eq-eqb (length b) 512 size, ne-eqb (wordAt b 508) (checkA b) (λ h. n (e ∙ h ∙ sym f)))
+check-wrong b size e f n = rw (eq-eqb (length b) blockSize size, ne-eqb (wordAt b 508) (checkA b) (λ h. n (e ∙ h ∙ sym f)))
 
-pub check-last : (b : List ℕ) {w x v y : ℕ} → length b ≡ 512 → w ≡ wordAt b 508 → x ≡ checkA b → w ≡ x
+pub check-last : (b : List ℕ) {w x v y : ℕ} → length b ≡ blockSize → w ≡ wordAt b 508 → x ≡ checkA b → w ≡ x
     → v ≡ wordAt b 510 → y ≡ checkB b → eqb v y ≡ checkRight b
 unfolding checkRight
-check-last b size e f h g k = rw (eq-eqb (length b) 512 size, eq-eqb (wordAt b 508) (checkA b) (sym e ∙ h ∙ f), g, k)
+check-last b size e f h g k = rw (eq-eqb (length b) blockSize size, eq-eqb (wordAt b 508) (checkA b) (sym e ∙ h ∙ f), g, k)
 
 -- ---- sealing
 
-module _ (b : List ℕ) (size : length b ≡ 512) where
+module _ (b : List ℕ) (size : length b ≡ blockSize) where
   head-length : length (take 508 b) ≡ 508
   head-length = length-take-le 508 b (omega arith)
 
@@ -73,7 +74,7 @@ module _ (b : List ℕ) (size : length b ≡ 512) where
       let tail : List ℕ = bytesOf (checkA b) ++ bytesOf (checkB b) in
       subst (λ (n : ℕ). getD (take 508 b ++ tail) (n + k) 0 ≡ getD tail k 0) head-length (getD-append-add (take 508 b) tail k 0)
 
-  pub sealed-length : length (sealed b) ≡ 512
+  pub sealed-length : length (sealed b) ≡ blockSize
   unfolding sealed
   sealed-length = rw (length-append, head-length)
 
@@ -81,7 +82,7 @@ module _ (b : List ℕ) (size : length b ≡ 512) where
   pub stores : (x y z w : ℕ) → set (set (set (set b 508 x) 509 y) 510 z) 511 w ≡ take 508 b ++ (x ∷ y ∷ z ∷ w ∷ [])
   stores x y z w =
       let whole : 508 + 4 ≤ length b = omega arith in
-      let few : length b ≤ 512 = omega arith in
+      let few : length b ≤ blockSize = omega arith in
       sets-eq (x ∷ y ∷ z ∷ w ∷ []) b 508 whole
       ∙ ap (λ (l : List ℕ). (take 508 b ++ (x ∷ y ∷ z ∷ w ∷ [])) ++ l) (drop-of-length-le b few)
       ∙ append-nil (take 508 b ++ (x ∷ y ∷ z ∷ w ∷ []))
@@ -93,7 +94,7 @@ module _ (b : List ℕ) (size : length b ≡ 512) where
       × (set (set (set (set b 508 (x % 256)) 509 (x / 256 % 256)) 510 (y % 256)) 511 (y / 256 % 256) ≡ afterSealing b))
   unfolding sealing sealingValues afterSealing sealed
   seal-done e f =
-      let here = eq-eqb (length b) 512 size in
+      let here = eq-eqb (length b) blockSize size in
       (rw here, (rw here, rw (here, e, f) (stores _ _ _ _)))
 
   -- A sealed block carries exactly the check that `checkRight` compares.
@@ -110,9 +111,9 @@ module _ (b : List ℕ) (size : length b ≡ 512) where
   sealed-sealed = rw (sealed-a, sealed-b, sealed-head)
 
 -- The answer of the code for other than 512 bytes.
-pub seal-refused : (b : List ℕ) → (length b ≡ 512 → ⊥)
+pub seal-refused : (b : List ℕ) → (length b ≡ blockSize → ⊥)
     → (WrongLength ≡ sealing b) × ((valuesOf WrongLength ≡ sealingValues b) × (b ≡ afterSealing b))
 unfolding sealing sealingValues afterSealing
 seal-refused b n =
-    let other = ne-eqb (length b) 512 n in
+    let other = ne-eqb (length b) blockSize n in
     (rw other, (rw other, rw other))

@@ -5,18 +5,19 @@ use mathlib.Core.List.{List}
 use Prim.Native.Nat.{ℕ, _+_, _*_, _≤_}
 use lib.ListN.{length, getD, take, drop}
 use lib.Dec.{leb}
+use Rattle.blocks.specs.Limits.{blockSize, mostEntries}
 
 -- The file has block i if 512·i + 512 is at most its length.
 abbrev pub HasBlock : List ℕ → ℕ → Type 0
-HasBlock file i = 512 * i + 512 ≤ length file
+HasBlock file i = blockSize * i + blockSize ≤ length file
 
 -- The same, as a test.
 abbrev pub hasBlock : List ℕ → ℕ → Bool
-hasBlock file i = leb (512 * i + 512) (length file)
+hasBlock file i = leb (blockSize * i + blockSize) (length file)
 
 -- "The checker takes each block as a part of the file": block i is the 512 bytes from 512·i on.
 unfoldable pub blockAt : List ℕ → ℕ → List ℕ
-blockAt file i = take 512 (drop (512 * i) file)
+blockAt file i = take blockSize (drop (blockSize * i) file)
 
 -- Byte i. (Past the end, where no contract asks, it is 0.)
 abbrev pub byteAt : List ℕ → ℕ → ℕ
@@ -54,5 +55,5 @@ behind n start = (start .0, n + start .1)
 
 -- A block of 512 bytes whose two counts have room among its 126 entries. Number 5 gives it.
 pub record Fitting (b : List ℕ) : Type 0 where
-  pub size : length b ≡ 512
-  pub room : firstCount b + secondCount b ≤ 126
+  pub size : length b ≡ blockSize
+  pub room : firstCount b + secondCount b ≤ mostEntries

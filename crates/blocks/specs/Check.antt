@@ -5,6 +5,7 @@ use mathlib.Core.List.{List, [], _∷_, _++_}
 use Prim.Native.Nat.{ℕ, suc, _+_, _-_, _*_, _/_, _%_}
 use lib.ListN.{length, take, set}
 use lib.Dec.{eqb}
+use Rattle.blocks.specs.Limits.{blockSize}
 use Rattle.blocks.specs.declared.Writing.{Writing}
 use Rattle.blocks.specs.declared.Writing.the-variants.{Wrote, WrongLength, ShortBuffer}
 use Rattle.blocks.specs.Block.{byteAt, wordAt}
@@ -39,13 +40,13 @@ pub record SameCheck (b c : List ℕ) : Type 0 where
 -- The check of a block is right: it has 512 bytes, "bytes 508-509 hold A" and "bytes 510-511 hold B", the remainders
 -- themselves, so that 65,521 to 65,535 is never right.
 pub record CheckRight (b : List ℕ) : Type 0 where
-  pub size : length b ≡ 512
+  pub size : length b ≡ blockSize
   pub holds-a : wordAt b 508 ≡ checkA b
   pub holds-b : wordAt b 510 ≡ checkB b
 
 -- The same, as a test. (`check-right` and `right-check` of proofs/Sealing.antt say that it is the same.)
 unfoldable pub checkRight : List ℕ → Bool
-checkRight b = eqb (length b) 512 && (eqb (wordAt b 508) (checkA b) && eqb (wordAt b 510) (checkB b))
+checkRight b = eqb (length b) blockSize && (eqb (wordAt b 508) (checkA b) && eqb (wordAt b 510) (checkB b))
 
 -- The two bytes of a number below 65,536, little-endian.
 abbrev pub bytesOf : ℕ → List ℕ
@@ -73,12 +74,12 @@ valuesOf ShortBuffer = record { number = 14; written = 0 }
 
 -- What sealing answers: 4 bytes written, or number 13.
 unfoldable pub sealing : List ℕ → Writing
-sealing b = cond (eqb (length b) 512) (Wrote 4) WrongLength
+sealing b = cond (eqb (length b) blockSize) (Wrote 4) WrongLength
 
 -- Its number and count: 0 and 4, or 13 and 0.
 unfoldable pub sealingValues : List ℕ → Values
-sealingValues b = cond (eqb (length b) 512) (record { number = 0; written = 4 }) (record { number = 13; written = 0 })
+sealingValues b = cond (eqb (length b) blockSize) (record { number = 0; written = 4 }) (record { number = 13; written = 0 })
 
 -- What sealing leaves of the bytes: the sealed block, or, for other than 512 bytes, "bytes unaltered".
 unfoldable pub afterSealing : List ℕ → List ℕ
-afterSealing b = cond (eqb (length b) 512) (sealed b) b
+afterSealing b = cond (eqb (length b) blockSize) (sealed b) b

@@ -1,4 +1,6 @@
 -- The meaning of the byte layer, in the order of document 01, "Blocks of 512 bytes".
+pub mod Kinds
+pub mod Limits
 pub mod Block
 pub mod Check
 pub mod Layout

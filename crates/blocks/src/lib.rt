@@ -1,10 +1,14 @@
 // The byte layer of the certificate checker: the blocks of a file, their parts, their check and their layout.
+pub mod kinds;
+pub mod limits;
 pub mod weights;
 
 ghost use mathlib.Core.Path.{_≡_};
 ghost use Prim.Native.Nat.{_+_, _*_, _≤_, _<_};
 ghost use lib.ListN.{length};
 ghost use denote.Ref.{ptr};
+ghost use Rattle.blocks.specs.Kinds.{secretKind, badKind};
+ghost use Rattle.blocks.specs.Limits.{blockSize};
 ghost use Rattle.blocks.specs.Block.{HasBlock, hasBlock, blockAt, wordAt, kindOf, firstCount, secondCount};
 ghost use Rattle.blocks.specs.Block.{firstEntries, secondEntries, behind, Fitting};
 ghost use Rattle.blocks.specs.Check.{checkA, checkB, checkRight, valuesOf, sealing, sealingValues, afterSealing};
@@ -55,15 +59,15 @@ fn wide(x: u8) -> usize
 pub fn has_block(file: &[u8], i: usize) -> bool
     ensures { λ r. ⌜ r ≡ hasBlock (now (file .entry)) i ⌝ }
 {
-    i < file.len() / 512
+    i < file.len() / limits::BLOCK_SIZE
 }
 
 // Block i, as a part of the file.
 pub fn block(file: &[u8], i: usize) -> &[u8]
     requires { ⌜ HasBlock (now file) i ⌝ }
     ensures part { λ r. ⌜ now r ≡ blockAt (now (file .entry)) i ⌝ }
-    ensures size { λ r. ⌜ length (now r) ≡ 512 ⌝ }
-    ensures place { λ r. ⌜ ptr r ≡ behind (512 * i) (ptr (file .entry)) ⌝ }
+    ensures size { λ r. ⌜ length (now r) ≡ blockSize ⌝ }
+    ensures place { λ r. ⌜ ptr r ≡ behind (blockSize * i) (ptr (file .entry)) ⌝ }
 {
     &file[512 * i..512 * i + 512]
 }
@@ -78,7 +82,7 @@ pub fn word(b: &[u8], i: usize) -> usize
 
 // Byte 0.
 pub fn kind(block: &[u8]) -> u8
-    requires { ⌜ length (now block) ≡ 512 ⌝ }
+    requires { ⌜ length (now block) ≡ blockSize ⌝ }
     ensures { λ r. ⌜ r ≡ kindOf (now (block .entry)) ⌝ }
 {
     block[0]
@@ -86,7 +90,7 @@ pub fn kind(block: &[u8]) -> u8
 
 // Byte 1.
 pub fn first_count(block: &[u8]) -> usize
-    requires { ⌜ length (now block) ≡ 512 ⌝ }
+    requires { ⌜ length (now block) ≡ blockSize ⌝ }
     ensures { λ r. ⌜ (r ≡ firstCount (now (block .entry))) × (r ≤ 255) ⌝ }
 {
     wide(block[1])
@@ -94,7 +98,7 @@ pub fn first_count(block: &[u8]) -> usize
 
 // Byte 2.
 pub fn second_count(block: &[u8]) -> usize
-    requires { ⌜ length (now block) ≡ 512 ⌝ }
+    requires { ⌜ length (now block) ≡ blockSize ⌝ }
     ensures { λ r. ⌜ (r ≡ secondCount (now (block .entry))) × (r ≤ 255) ⌝ }
 {
     wide(block[2])
@@ -125,7 +129,7 @@ pub fn second_entries(block: &[u8]) -> &[u8]
 
 // A and B of a block. Neither sum overflows, so that one remainder at the end is enough.
 pub fn check_of(block: &[u8]) -> Check
-    requires { ⌜ length (now block) ≡ 512 ⌝ }
+    requires { ⌜ length (now block) ≡ blockSize ⌝ }
     ensures a { λ r. ⌜ r .a ≡ checkA (now (block .entry)) ⌝ }
     ensures b { λ r. ⌜ r .b ≡ checkB (now (block .entry)) ⌝ }
     ensures small { λ r. ⌜ (r .a < 65521) × (r .b < 65521) ⌝ }
@@ -150,7 +154,7 @@ pub fn check_of(block: &[u8]) -> Check
 pub fn check_right(block: &[u8]) -> bool
     ensures { λ r. ⌜ r ≡ checkRight (now (block .entry)) ⌝ }
 {
-    if block.len() != 512 {
+    if block.len() != limits::BLOCK_SIZE {
         return false;
     }
     let check = check_of(block);
@@ -168,7 +172,7 @@ pub fn seal(block: &mut [u8]) -> Writing
     ensures values { λ r. ⌜ valuesOf r ≡ sealingValues (now (block .entry)) ⌝ }
     ensures bytes { λ _. ⌜ now (block .exit) ≡ afterSealing (now (block .entry)) ⌝ }
 {
-    if block.len() != 512 {
+    if block.len() != limits::BLOCK_SIZE {
         return Writing::WrongLength;
     }
     let check = check_of(block);
@@ -187,25 +191,33 @@ fn is_within(low: usize, high: usize, x: usize) -> bool
     low <= x && x <= high
 }
 
+// Whether blocks of this kind list one term each.
+pub fn lists_term(kind: u8) -> bool
+    ensures { λ r. ⌜ r ≡ within secretKind badKind kind ⌝ }
+{
+    kinds::SECRET <= kind && kind <= kinds::BAD
+}
+
 // Whether the kind allows the two counts.
-fn counts_right(kind: usize, first: usize, second: usize) -> bool
+fn counts_right(kind: u8, first: usize, second: usize) -> bool
     ensures { λ r. ⌜ r ≡ countsRight kind first second ⌝ }
 {
-    if kind == 1 {
-        return is_within(1, 126, first) && second == 0;
+    if kind == kinds::ATOMS {
+        return is_within(1, limits::MOST_ENTRIES, first) && second == 0;
     }
-    if kind == 5 {
-        return is_within(0, 63, first) && is_within(1, 63, second);
+    if kind == kinds::RULE {
+        return is_within(0, limits::MOST_TERM_ENTRIES, first)
+            && is_within(1, limits::MOST_TERM_ENTRIES, second);
     }
-    if !is_within(2, 4, kind) {
+    if !lists_term(kind) {
         return false;
     }
-    is_within(1, 63, first) && second == 0
+    is_within(1, limits::MOST_TERM_ENTRIES, first) && second == 0
 }
 
 // Whether the bytes from `from` up to byte 507 are zero.
 fn zero_from(block: &[u8], from: usize) -> bool
-    requires { ⌜ length (now block) ≡ 512 ⌝ }
+    requires { ⌜ length (now block) ≡ blockSize ⌝ }
     ensures { λ r. ⌜ r ≡ zeroFrom (now (block .entry)) from ⌝ }
 {
     let mut i = from;
@@ -222,12 +234,12 @@ fn zero_from(block: &[u8], from: usize) -> bool
 pub fn layout_right(block: &[u8]) -> bool
     ensures { λ r. ⌜ r ≡ layoutRight (now (block .entry)) ⌝ }
 {
-    if block.len() != 512 {
+    if block.len() != limits::BLOCK_SIZE {
         return false;
     }
     let first = first_count(block);
     let second = second_count(block);
-    if !counts_right(wide(kind(block)), first, second) {
+    if !counts_right(kind(block), first, second) {
         return false;
     }
     if block[3] != 0 {

@@ -6,6 +6,7 @@ use Prim.Native.Nat.{ℕ, _+_, _*_, _≤_}
 use native.Mathlib.Omega.{arith}
 use lib.ListN.{getD}
 use borrow.Author.Tests.{eq-eqb, ne-eqb, leb-true}
+use Rattle.blocks.specs.Limits.{blockSize}
 use Rattle.blocks.specs.Block.{HasBlock, hasBlock, blockAt, behind}
 use Rattle.judge.specs.declared.verdict.Fault.{Fault}
 use Rattle.judge.specs.declared.verdict.Fault.the-variants.{Length, Check, Kind, Missing, Layout, AtomEntry}
@@ -98,7 +99,7 @@ module _ (file : List ℕ) (start : ℕ × ℕ) (i : ℕ) {t : Bool} (e : t ≡ 
   abbrev IsBlock : List ℕ → ℕ × ℕ → Type 0
   IsBlock part place = (part ≡ blockOrNone file i) × (place ≡ behind (blockStart file i) start)
 
-  pub block-there : t ≡ true → {part : List ℕ} {place : ℕ × ℕ} → part ≡ blockAt file i → place ≡ behind (512 * i) start
+  pub block-there : t ≡ true → {part : List ℕ} {place : ℕ × ℕ} → part ≡ blockAt file i → place ≡ behind (blockSize * i) start
       → IsBlock part place
   unfolding blockOrNone blockStart
   block-there h p q = (rw (← e, h) p, rw (← e, h) q)

@@ -4,6 +4,7 @@ use mathlib.Core.Path.{_≡_}
 use mathlib.Core.List.{List}
 use Prim.Native.Nat.{ℕ, _<_}
 use native.Mathlib.Omega.{arith}
+use Rattle.blocks.specs.Kinds.{secretKind, goodKind, ruleKind}
 use Rattle.terms.specs.Term.{Message, atom}
 use Rattle.terms.specs.Proper.{Built}
 use Rattle.judge.specs.declared.verdict.Counts.{Counts}
@@ -33,10 +34,10 @@ pub accepts-meets : (file : List ℕ) → Accepts file → MeetsAll (certificate
 unfolding certificateOf Built
 accepts-meets file w = record {
   notForeign = λ a m foreign. let own : a < 1000 = no-foreign file (w .formed) .terms .secrets (atom a) m in omega arith;
-  notKnown = listed file 2 secretOf (λ (s : Message). ¬ KnownAtom (certificateOf file) s) (w .unknown);
-  weaklyClosed = listed file 2 secretOf (WeaklyClosed (certificateOf file)) (w .closed);
-  keptKeys = listed file 3 patternOf (KeptKey (certificateOf file)) (w .kept);
-  passes = listed file 5 ruleOf (Passes (certificateOf file)) (w .passing);
+  notKnown = listed file secretKind secretOf (λ (s : Message). ¬ KnownAtom (certificateOf file) s) (w .unknown);
+  weaklyClosed = listed file secretKind secretOf (WeaklyClosed (certificateOf file)) (w .closed);
+  keptKeys = listed file goodKind patternOf (KeptKey (certificateOf file)) (w .kept);
+  passes = listed file ruleKind ruleOf (Passes (certificateOf file)) (w .passing);
 }
 
 -- Accepted bytes are laid out, and their certificate meets the conditions.

@@ -10,6 +10,7 @@ use native.Mathlib.Decide.{ℕ-discrete}
 use borrow.Rule.Slice.PartAt.{part-to-end}
 use borrow.Author.Tests.{eq-eqb, ne-eqb}
 use lib.ListN.{length, getD, drop}
+use Rattle.blocks.specs.Kinds.{secretKind}
 use Rattle.blocks.specs.Block.{firstCount, secondCount, firstEntries, secondEntries}
 use Rattle.terms.specs.declared.valid.Found.{Found}
 use Rattle.terms.specs.declared.valid.Found.the-variants.{Nothing}
@@ -90,10 +91,10 @@ module _ (c : Certificate) {t : List ℕ} (b : Begins t) where
       go : (x : Variable) → Reads t (variable x ∷ b .others) → ⊥
       go (named s n) r = let g = sort-tag s (reads-variable r .0) in omega arith
 
-  pub risky-secret : SymbolTag (tagAt t) → (r : Bool) → Says r (SharesListed c 2 (termOf t)) → Says r (Risky c (termOf t))
+  pub risky-secret : SymbolTag (tagAt t) → (r : Bool) → Says r (SharesListed c secretKind (termOf t)) → Says r (Risky c (termOf t))
   risky-secret tag r says = says-same r (λ h. risky-is c (termOf t) .1 (inr h)) (λ h. go (risky-is c (termOf t) .0 h)) says
     where
-      go : ((x : Variable) × (termOf t ≡ variable x)) ⊎ SharesListed c 2 (termOf t) → SharesListed c 2 (termOf t)
+      go : ((x : Variable) × (termOf t ≡ variable x)) ⊎ SharesListed c secretKind (termOf t) → SharesListed c secretKind (termOf t)
       go (inl w) = absurd (no-variable tag (w .0) (w .1))
       go (inr h) = h
 

@@ -8,11 +8,13 @@ use native.Mathlib.Decide.{ℕ-discrete}
 use native.Mathlib.Omega.{arith}
 use lib.Dec.{leb}
 use borrow.Author.Tests.{leb-true, le-leb}
+use Rattle.blocks.specs.Kinds.{secretKind, badKind, ListsTerm}
+use Rattle.blocks.specs.Layout.{within}
 use Rattle.terms.specs.declared.valid.Found.{Found}
 use Rattle.terms.specs.declared.valid.Found.the-variants.{At, Nothing}
 use Rattle.terms.specs.First.{FirstNot, fails, holds, firstNot, first-is, first-only}
 use Rattle.terms.specs.Decide.{answer}
-use Rattle.terms.specs.Solve.{Says}
+use Rattle.terms.specs.Solve.{Says, says-same}
 use Rattle.judge.specs.declared.verdict.Fault.{Fault}
 use Rattle.judge.specs.Verdict.{firstFault}
 
@@ -58,6 +60,16 @@ says-both P Q true true p q = (p, q)
 says-both P Q true false p n = λ w. n (w .1)
 says-both P Q false true n q = λ w. n (w .0)
 says-both P Q false false n m = λ w. n (w .0)
+
+pub says-within : (low high x : ℕ) → Says (within low high x) ((low ≤ x) × (x ≤ high))
+says-within low high x = says-both (low ≤ x) (x ≤ high) (leb low x) (leb x high) (says-le low x) (says-le x high)
+
+-- What the test of a kind says, k being the kind of block i.
+pub says-lists : {k kind : ℕ} → k ≡ kind → (b : Bool) → b ≡ within secretKind badKind k → Says b (ListsTerm kind)
+says-lists {k} {kind} same b is =
+    let says = rw (sym is) at (says-within secretKind badKind k) in
+    says-same b (λ w. let low = w .0 in let high = w .1 in record { low = omega arith; high = omega arith })
+    (λ w. let low = w .low in let high = w .high in (omega arith, omega arith)) says
 
 -- In other words.
 pub reworded : {R R′ : Type 0} {W W′ : Fault → Type 0} {o : Option Fault} → (R → R′) → (R′ → R)

@@ -8,7 +8,10 @@ use Prim.Native.Nat.{ℕ, _<_, _≤_}
 use native.Mathlib.Omega.{arith}
 use native.Mathlib.Decide.{decLt, decLe}
 use lib.ListN.{length}
+use Rattle.blocks.specs.Kinds.{secretKind, goodKind, badKind, ruleKind}
+use Rattle.blocks.specs.Limits.{mostEntries}
 use Rattle.blocks.specs.Block.{blockAt, firstEntries}
+use Rattle.blocks.proofs.KindLaws.{secret-lists, good-lists, bad-lists}
 use Rattle.blocks.proofs.Parts.{first-length}
 use Rattle.terms.specs.Term.{Term, variable, atom, pair, encrypted, Variable, instance, replace}
 use Rattle.terms.specs.Atom.{Atom, IsKey, isKey?, key-listed, length-atoms}
@@ -37,7 +40,7 @@ right-built (pairRight w v) = (right-built w, right-built v)
 right-built (encryptedRight i w) = (i, right-built w)
 right-built (variableRight l k) = tt
 
-secret-built : {atoms : List Atom} {kind : ℕ} {t : Term Variable} → kind ≡ 2 → TermRight atoms kind t
+secret-built : {atoms : List Atom} {kind : ℕ} {t : Term Variable} → kind ≡ secretKind → TermRight atoms kind t
     → Built (λ a. a < length atoms) (IsKey atoms) (instance (λ x. atom 0) t)
 unfolding Built replace
 secret-built k (atomRight l) = l
@@ -77,15 +80,15 @@ module _ (file : List ℕ) (w : Formed file) where
   holding : Holding (λ a. a < length (fileAtoms file)) (IsKey (fileAtoms file)) (certificateOf file)
   unfolding certificateOf secretOf
   holding = record {
-    secrets = listed file 2 secretOf _ (λ i h k. secret-built k (pattern-right file i (w .blocks i h) (omega arith) (omega arith)));
-    goods = listed file 3 patternOf _ (λ i h k. right-built (pattern-right file i (w .blocks i h) (omega arith) (omega arith)));
-    bads = listed file 4 patternOf _ (λ i h k. right-built (pattern-right file i (w .blocks i h) (omega arith) (omega arith)));
-    premises = listed file 5 ruleOf _ (λ i h k t e. right-built (premise-right file i (w .blocks i h) k t e));
-    conclusions = listed file 5 ruleOf _ (λ i h k. right-built (conclusion-right file i (w .blocks i h) k));
+    secrets = listed file secretKind secretOf _ (λ i h k. secret-built k (pattern-right file i (w .blocks i h) (secret-lists k)));
+    goods = listed file goodKind patternOf _ (λ i h k. right-built (pattern-right file i (w .blocks i h) (good-lists k)));
+    bads = listed file badKind patternOf _ (λ i h k. right-built (pattern-right file i (w .blocks i h) (bad-lists k)));
+    premises = listed file ruleKind ruleOf _ (λ i h k t e. right-built (premise-right file i (w .blocks i h) k t e));
+    conclusions = listed file ruleKind ruleOf _ (λ i h k. right-built (conclusion-right file i (w .blocks i h) k));
   }
 
   -- There are at most 126.
-  few : length (fileAtoms file) ≤ 126
+  few : length (fileAtoms file) ≤ mostEntries
   unfolding fileAtoms
   few =
       let l = w .long in

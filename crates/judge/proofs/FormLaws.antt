@@ -10,6 +10,8 @@ use lib.Dec.{eqb, leb}
 use lib.ListN.{length, take, drop}
 use lib.Seq.{take-take, take-at, drop-at}
 use borrow.Author.Tests.{eq-eqb, ne-eqb, le-leb, lt-leb}
+use Rattle.blocks.specs.Kinds.{atomsKind, secretKind, goodKind, badKind, ruleKind}
+use Rattle.blocks.specs.Limits.{blockSize, mostBytes}
 use Rattle.blocks.specs.Block.{blockAt, kindOf, firstCount, secondCount, entriesOf, firstEntries, secondEntries, Fitting}
 use Rattle.blocks.specs.Check.{checkRight}
 use Rattle.blocks.specs.Layout.{layoutRight}
@@ -66,38 +68,38 @@ module _ (file : List ℕ) where
   unfolding lengthRight
   length-none l = rw (lt-leb 1 (length file) l)
 
-  pub length-broken : 1 ≤ length file → (length file % 512 ≡ 0 → ⊥) → false ≡ lengthRight file
+  pub length-broken : 1 ≤ length file → (length file % blockSize ≡ 0 → ⊥) → false ≡ lengthRight file
   unfolding lengthRight
-  length-broken l n = rw (le-leb 1 (length file) l, ne-eqb (length file % 512) 0 n)
+  length-broken l n = rw (le-leb 1 (length file) l, ne-eqb (length file % blockSize) 0 n)
 
-  pub length-whole : 1 ≤ length file → length file % 512 ≡ 0 → leb (length file) 32768 ≡ lengthRight file
+  pub length-whole : 1 ≤ length file → length file % blockSize ≡ 0 → leb (length file) mostBytes ≡ lengthRight file
   unfolding lengthRight
-  length-whole l e = rw (le-leb 1 (length file) l, eq-eqb (length file % 512) 0 e)
+  length-whole l e = rw (le-leb 1 (length file) l, eq-eqb (length file % blockSize) 0 e)
 
 -- ---- number 3
 
 module _ (file : List ℕ) (i : ℕ) {k : ℕ} (kind : k ≡ kindOf (blockAt file i)) where
-  pub kind-first : i ≡ 0 → eqb k 1 ≡ kindRight file i
+  pub kind-first : i ≡ 0 → eqb k atomsKind ≡ kindRight file i
   unfolding kindRight
   kind-first z = rw (kind, z)
 
-  later : (i ≡ 0 → ⊥) → kindRight file i ≡ ((leb 2 k && leb k 5) && leb (kindOf (blockAt file (i - 1))) k)
+  later : (i ≡ 0 → ⊥) → kindRight file i ≡ ((leb secretKind k && leb k ruleKind) && leb (kindOf (blockAt file (i - 1))) k)
   unfolding kindRight
   later n = go i kind n
     where
       go : (i : ℕ) → k ≡ kindOf (blockAt file i) → (i ≡ 0 → ⊥)
-          → kindRight file i ≡ ((leb 2 k && leb k 5) && leb (kindOf (blockAt file (i - 1))) k)
+          → kindRight file i ≡ ((leb secretKind k && leb k ruleKind) && leb (kindOf (blockAt file (i - 1))) k)
       go zero e n = absurd (n refl)
       go (suc j) e n = let one : suc j - 1 ≡ j = omega arith in rw (one, e)
 
-  pub kind-low : (i ≡ 0 → ⊥) → k < 2 → false ≡ kindRight file i
-  kind-low n l = rw (later n, lt-leb 2 k l)
+  pub kind-low : (i ≡ 0 → ⊥) → k < secretKind → false ≡ kindRight file i
+  kind-low n l = rw (later n, lt-leb secretKind k l)
 
-  pub kind-high : (i ≡ 0 → ⊥) → 2 ≤ k → 5 < k → false ≡ kindRight file i
-  kind-high n l h = rw (later n, le-leb 2 k l, lt-leb k 5 h)
+  pub kind-high : (i ≡ 0 → ⊥) → secretKind ≤ k → ruleKind < k → false ≡ kindRight file i
+  kind-high n l h = rw (later n, le-leb secretKind k l, lt-leb k ruleKind h)
 
-  pub kind-after : (i ≡ 0 → ⊥) → 2 ≤ k → k ≤ 5 → {before : ℕ} → before ≡ kindOf (blockAt file (i - 1)) → leb before k ≡ kindRight file i
-  kind-after n l h e = rw (later n, le-leb 2 k l, le-leb k 5 h, e)
+  pub kind-after : (i ≡ 0 → ⊥) → secretKind ≤ k → k ≤ ruleKind → {before : ℕ} → before ≡ kindOf (blockAt file (i - 1)) → leb before k ≡ kindRight file i
+  kind-after n l h e = rw (later n, le-leb secretKind k l, le-leb k ruleKind h, e)
 
 -- ---- number 6
 
@@ -175,17 +177,17 @@ spelled atoms i b fits h =
 -- ---- number 8
 
 module _ (kind : ℕ) (e : List ℕ) where
-  pub root-low : kind < 3 → true ≡ rootRight kind e
+  pub root-low : kind < goodKind → true ≡ rootRight kind e
   unfolding rootRight
-  root-low l = rw (lt-leb 3 kind l, rootRight)
+  root-low l = rw (lt-leb goodKind kind l, rootRight)
 
-  pub root-high : 3 ≤ kind → 4 < kind → true ≡ rootRight kind e
+  pub root-high : goodKind ≤ kind → badKind < kind → true ≡ rootRight kind e
   unfolding rootRight
-  root-high l h = rw (le-leb 3 kind l, lt-leb kind 4 h, rootRight)
+  root-high l h = rw (le-leb goodKind kind l, lt-leb kind badKind h, rootRight)
 
-  pub root-pattern : 3 ≤ kind → kind ≤ 4 → {r : Bool} → r ≡ answer (encryption? (termOf e)) → r ≡ rootRight kind e
+  pub root-pattern : goodKind ≤ kind → kind ≤ badKind → {r : Bool} → r ≡ answer (encryption? (termOf e)) → r ≡ rootRight kind e
   unfolding rootRight
-  root-pattern l h said = rw (le-leb 3 kind l, le-leb kind 4 h, rootRight) said
+  root-pattern l h said = rw (le-leb goodKind kind l, le-leb kind badKind h, rootRight) said
 
 -- What the code's answer says of the part that it was asked about.
 one-said : {e part : List ℕ} → e ≡ part → {one v : Bool} → one ≡ answer (oneTerm? e) → one ≡ v → answer (oneTerm? part) ≡ v
@@ -233,29 +235,29 @@ module _ (i : ℕ) (b : List ℕ) {n : ℕ} (count : n ≡ firstCount b) where
     rule-broken h = rw (ne-eqb (firstCount b) 0 (λ z. some-entry (count ∙ z)), one-said part said h, rulePartsFault)
 
 module _ (i : ℕ) (b : List ℕ) {k : ℕ} (kind : k ≡ kindOf b) {r : Judged} where
-  pub term-rule : k ≡ 5 → r ≡ judgedOf (rulePartsFault i b) → r ≡ judgedOf (termFault i b)
+  pub term-rule : k ≡ ruleKind → r ≡ judgedOf (rulePartsFault i b) → r ≡ judgedOf (termFault i b)
   unfolding termFault
-  term-rule e h = rw (eq-eqb (kindOf b) 5 (sym kind ∙ e), termFault) h
+  term-rule e h = rw (eq-eqb (kindOf b) ruleKind (sym kind ∙ e), termFault) h
 
-  pub term-pattern : (k ≡ 5 → ⊥) → r ≡ judgedOf (patternFault i b) → r ≡ judgedOf (termFault i b)
+  pub term-pattern : (k ≡ ruleKind → ⊥) → r ≡ judgedOf (patternFault i b) → r ≡ judgedOf (termFault i b)
   unfolding termFault
-  term-pattern n h = rw (ne-eqb (kindOf b) 5 (λ e. n (kind ∙ e)), termFault) h
+  term-pattern n h = rw (ne-eqb (kindOf b) ruleKind (λ e. n (kind ∙ e)), termFault) h
 
 -- ---- a block
 
 module _ (atoms : List Atom) (i : ℕ) (b : List ℕ) {k : ℕ} (kind : k ≡ kindOf b) where
-  pub entries-atoms : k ≡ 1 → {r : Judged} → r ≡ judgedOf (atomFault i b) → r ≡ judgedOf (entriesFault atoms i b)
+  pub entries-atoms : k ≡ atomsKind → {r : Judged} → r ≡ judgedOf (atomFault i b) → r ≡ judgedOf (entriesFault atoms i b)
   unfolding entriesFault
-  entries-atoms e h = rw (eq-eqb (kindOf b) 1 (sym kind ∙ e), entriesFault) h
+  entries-atoms e h = rw (eq-eqb (kindOf b) atomsKind (sym kind ∙ e), entriesFault) h
 
-  module _ (other : k ≡ 1 → ⊥) {j : Judged} (said : j ≡ judgedOf (entryFault atoms i b)) where
+  module _ (other : k ≡ atomsKind → ⊥) {j : Judged} (said : j ≡ judgedOf (entryFault atoms i b)) where
     pub entries-wrong : {f : Fault} → j ≡ Faulty f → Faulty f ≡ judgedOf (entriesFault atoms i b)
     unfolding judgedOf entriesFault
-    entries-wrong h = rw (ne-eqb (kindOf b) 1 (λ e. other (kind ∙ e)), faulty-some (entryFault atoms i b) said h, entriesFault)
+    entries-wrong h = rw (ne-eqb (kindOf b) atomsKind (λ e. other (kind ∙ e)), faulty-some (entryFault atoms i b) said h, entriesFault)
 
     pub entries-right : j ≡ Fine → {r : Judged} → r ≡ judgedOf (termFault i b) → r ≡ judgedOf (entriesFault atoms i b)
     unfolding entriesFault
-    entries-right h t = rw (ne-eqb (kindOf b) 1 (λ e. other (kind ∙ e)), fine-none (entryFault atoms i b) said h, entriesFault) t
+    entries-right h t = rw (ne-eqb (kindOf b) atomsKind (λ e. other (kind ∙ e)), fine-none (entryFault atoms i b) said h, entriesFault) t
 
 -- The atoms are to be read once block i has passed number 5: it is block 0, or that has passed before.
 pub fits-right : {b : List ℕ} {right : Bool} → right ≡ layoutRight b → right ≡ true → Fitting b
@@ -329,12 +331,12 @@ module _ (kind : ℕ) (file : List ℕ) where
   left-other i l n = let left : blockCount file - i ≡ suc (blockCount file - suc i) = omega arith in
       rw (left, ne-eqb (kindOf (blockAt file i)) kind n, add-one, ofKind)
 
-module _ (file : List ℕ) {n : ℕ} (secrets : n ≡ kindCount 2 file) where
+module _ (file : List ℕ) {n : ℕ} (secrets : n ≡ kindCount secretKind file) where
   pub missing-secret : n < 1 → Faulty (Missing (blockCount file)) ≡ judgedOf (missingFault file)
   unfolding judgedOf missingFault
   missing-secret l = rw (← secrets, lt-leb 1 n l, missingFault)
 
-  module _ (some-secret : 1 ≤ n) {m : ℕ} (rules : m ≡ kindCount 5 file) where
+  module _ (some-secret : 1 ≤ n) {m : ℕ} (rules : m ≡ kindCount ruleKind file) where
     pub missing-rule : m < 1 → Faulty (Missing (blockCount file)) ≡ judgedOf (missingFault file)
     unfolding judgedOf missingFault
     missing-rule l = rw (← secrets, le-leb 1 n some-secret, ← rules, lt-leb 1 m l, missingFault)
@@ -343,7 +345,7 @@ module _ (file : List ℕ) {n : ℕ} (secrets : n ≡ kindCount 2 file) where
     unfolding judgedOf missingFault
     missing-none l = rw (← secrets, le-leb 1 n some-secret, ← rules, le-leb 1 m l, missingFault)
 
-pub counts-are : (file : List ℕ) {s g b r : ℕ} → s ≡ kindCount 2 file → g ≡ kindCount 3 file → b ≡ kindCount 4 file → r ≡ kindCount 5 file
+pub counts-are : (file : List ℕ) {s g b r : ℕ} → s ≡ kindCount secretKind file → g ≡ kindCount goodKind file → b ≡ kindCount badKind file → r ≡ kindCount ruleKind file
     → _≡_ {A = Counts} (record { blocks = blockCount file; secrets = s; goods = g; bads = b; rules = r }) (countsOf file)
 unfolding countsOf
 counts-are file s g b r = rw (s, g, b, r)

@@ -7,7 +7,10 @@ use native.Mathlib.Omega.{arith}
 use native.Mathlib.Decide.{ℕ-discrete}
 use borrow.Rule.Slice.PartAt.{part-to-end}
 use lib.ListN.{length, getD, replicate}
+use Rattle.blocks.specs.Kinds.{goodKind, badKind, ListsTerm}
+use Rattle.blocks.specs.Limits.{mostTermBytes}
 use Rattle.blocks.specs.Block.{blockAt, kindOf, firstEntries}
+use Rattle.blocks.proofs.KindLaws.{good-lists}
 use Rattle.terms.specs.Term.{Term, Variable, replace}
 use Rattle.terms.specs.Place.{Place}
 use Rattle.terms.specs.Instance.{Matches}
@@ -26,16 +29,16 @@ use Rattle.judge.specs.Listed.{listedOf, AnyListed, HoldsAt, Searching, 
 use Rattle.judge.specs.CoverEntries.{subAt, On, Raised, Cleared, SomeOn, Flags, MarkOver, Laying, Standing, HatOver, HatBelow}
 use Rattle.judge.proofs.Flags.{raised-none, raised-as, raised-twice, zero-off, zero-bits, cleared-none, cleared-as, cleared-twice}
 use Rattle.judge.proofs.Marks.{term-reads, mark-inside, mark-place}
-use Rattle.judge.proofs.Listing.{term-block, one-found, none-found}
+use Rattle.judge.proofs.Listing.{one-found, none-found}
 use Rattle.judge.proofs.ListedLaws.{not-bad-is}
 
 -- What a search at entry h asks for.
-pub searching-at : {file e : List ℕ} {h kind : ℕ} → Standing file e h → 2 ≤ kind → kind ≤ 4 → Searching file kind (from (4 * h) e)
-searching-at {e = e} {h = h} s low high =
-    record { laid = s .laid; low = low; high = high; term = s .term; short = let short = s .short in omega (arith, from-length (4 * h) e) }
+pub searching-at : {file e : List ℕ} {h kind : ℕ} → Standing file e h → ListsTerm kind → Searching file kind (from (4 * h) e)
+searching-at {e = e} {h = h} s lists =
+    record { laid = s .laid; lists = lists; term = s .term; short = let short = s .short in omega (arith, from-length (4 * h) e) }
 
 -- A term stands at each of a term's entries, and ends before the entries do.
-pub standing-at : {file e : List ℕ} {h : ℕ} → Laid file → Begins e → length e ≤ 252 → h < size (termOf e) → Standing file e h
+pub standing-at : {file e : List ℕ} {h : ℕ} → Laid file → Begins e → length e ≤ mostTermBytes → h < size (termOf e) → Standing file e h
 standing-at {e = e} {h = h} laid b short inside =
     let room = fits (termOf e) (term-reads b refl) in
     record { laid = laid; term = rw part-to-end (suffix h b (omega arith)); inside = omega arith; short = short }
@@ -48,9 +51,9 @@ standing-end {e = e} {h = h} s is =
     (omega arith, omega (arith, from-length (4 * h) e))
 
 -- A good block's pattern.
-pub good-block : {file : List ℕ} {i : ℕ} {b : List ℕ} → Laid file → i < blockCount file → b ≡ blockAt file i → {n : ℕ} → n ≡ kindOf b → n ≡ 3 → TermBlock b
-good-block {file} {i} {b} laid inside is {n} kind three =
-    let k : kindOf (blockAt file i) ≡ 3 = ap kindOf (sym is) ∙ sym kind ∙ three in rw is (term-block {kind = 3} laid (omega arith) (omega arith) inside k)
+pub good-block : {file : List ℕ} {i : ℕ} {b : List ℕ} → Laid file → i < blockCount file → b ≡ blockAt file i → {n : ℕ} → n ≡ kindOf b → n ≡ goodKind → TermBlock b
+good-block {file} {i} {b} laid inside is {n} kind good =
+    let k : kindOf (blockAt file i) ≡ goodKind = ap kindOf (sym is) ∙ sym kind ∙ good in rw is (laid .terms i inside (good-lists k))
 
 pub good-part : {b p : List ℕ} → TermBlock b → p ≡ firstEntries b → Begins p
 good-part block part = rw part (block .term)
@@ -70,75 +73,75 @@ module _ (file : List ℕ) (i : ℕ) {b : List ℕ} (is : b ≡ blockAt file i) 
   pattern-lays : {u : Term Variable} {h k : ℕ} → Lays u h k (termOf p) → Lays u h k (patternOf (blockAt file i))
   pattern-lays {u} {h} {k} w = subst (Lays u h k) pattern-is w
 
-  pub good-raised : kindOf b ≡ 3 → {u : Term Variable} {h : ℕ} {old new : List ℕ} → Matches (termOf p) u → Raised old new (MarkOver (termOf p) u h)
-      → Raised old new (λ k. HoldsAt file 3 (Lays u h k) i)
+  pub good-raised : kindOf b ≡ goodKind → {u : Term Variable} {h : ℕ} {old new : List ℕ} → Matches (termOf p) u → Raised old new (MarkOver (termOf p) u h)
+      → Raised old new (λ k. HoldsAt file goodKind (Lays u h k) i)
   good-raised kind {u} {h} match r = raised-as r (λ k. (
     λ m. record { of-kind = ap kindOf (sym is) ∙ kind; holds = pattern-lays (match, m) },
     λ w. rw pattern-is (w .holds .1),
   ))
 
   pub no-match-raised : {u : Term Variable} {h : ℕ} {old : List ℕ} → length old ≡ 64 → ¬ Matches (termOf p) u
-      → Raised old old (λ k. HoldsAt file 3 (Lays u h k) i)
+      → Raised old old (λ k. HoldsAt file goodKind (Lays u h k) i)
   no-match-raised {u} {h} long off = raised-none long (λ k w. off (rw pattern-is (w .holds .0)))
 
-pub other-raised : (file : List ℕ) (i : ℕ) {b : List ℕ} → b ≡ blockAt file i → ¬ (kindOf b ≡ 3) → {P : ℕ → Term Variable → Type 0} {old : List ℕ}
+pub other-raised : (file : List ℕ) (i : ℕ) {b : List ℕ} → b ≡ blockAt file i → ¬ (kindOf b ≡ goodKind) → {P : ℕ → Term Variable → Type 0} {old : List ℕ}
     → length old ≡ 64
-    → Raised old old (λ k. HoldsAt file 3 (P k) i)
+    → Raised old old (λ k. HoldsAt file goodKind (P k) i)
 other-raised file i is off long = raised-none long (λ k w. off (ap kindOf is ∙ w .of-kind))
 
 -- Block after block.
 pub record LaidBelow (file : List ℕ) (u : Term Variable) (h n k : ℕ) : Type 0 where
   pub number : ℕ
   pub before : number < n
-  pub holds : HoldsAt file 3 (Lays u h k) number
+  pub holds : HoldsAt file goodKind (Lays u h k) number
 
 pub laid-none : {file : List ℕ} {u : Term Variable} {h : ℕ} {old : List ℕ} → length old ≡ 64 → Raised old old (LaidBelow file u h 0)
 laid-none long = raised-none long (λ k w. (let l = w .before in omega arith))
 
 pub laid-more : {file : List ℕ} {u : Term Variable} {h i : ℕ} {a b c : List ℕ} → Raised a b (LaidBelow file u h i)
-    → Raised b c (λ k. HoldsAt file 3 (Lays u h k) i)
+    → Raised b c (λ k. HoldsAt file goodKind (Lays u h k) i)
     → Raised a c (LaidBelow file u h (i + 1))
 laid-more {file} {u} {h} {i} r s = raised-as (raised-twice r s) (λ k. (to k, λ w. back k w (ℕ-discrete (w .number) i)))
   where
-    to : (k : ℕ) → LaidBelow file u h i k ⊎ HoldsAt file 3 (Lays u h k) i → LaidBelow file u h (i + 1) k
+    to : (k : ℕ) → LaidBelow file u h i k ⊎ HoldsAt file goodKind (Lays u h k) i → LaidBelow file u h (i + 1) k
     to k (inl w) = record { number = w .number; before = let l = w .before in omega arith; holds = w .holds }
     to k (inr w) = record { number = i; before = omega arith; holds = w }
 
-    back : (k : ℕ) (w : LaidBelow file u h (i + 1) k) → Dec (w .number ≡ i) → LaidBelow file u h i k ⊎ HoldsAt file 3 (Lays u h k) i
+    back : (k : ℕ) (w : LaidBelow file u h (i + 1) k) → Dec (w .number ≡ i) → LaidBelow file u h i k ⊎ HoldsAt file goodKind (Lays u h k) i
     back k w (yes e) = inr (rw e at (w .holds))
     back k w (no n) = inl (record { number = w .number; before = let l = w .before in omega arith; holds = w .holds })
 
 pub laid-all : {file : List ℕ} {u : Term Variable} {h n : ℕ} {old new : List ℕ} → Laid file → n ≡ blockCount file → Raised old new (LaidBelow file u h n)
-    → Raised old new (λ k. AnyListed (certificateOf file) 3 (Lays u h k))
+    → Raised old new (λ k. AnyListed (certificateOf file) goodKind (Lays u h k))
 laid-all {file} {u} {h} {n} {old} {new} laid all r = record { long = r .long; bits = r .bits; on = λ k. (λ e. to k (r .on k .0 e), back k) }
   where
-    to : (k : ℕ) → On old k ⊎ LaidBelow file u h n k → On old k ⊎ AnyListed (certificateOf file) 3 (Lays u h k)
+    to : (k : ℕ) → On old k ⊎ LaidBelow file u h n k → On old k ⊎ AnyListed (certificateOf file) goodKind (Lays u h k)
     to k (inl e) = inl e
-    to k (inr w) = inr (one-found laid 3 (Lays u h k) (omega arith) (omega arith) (rw all at (w .before)) (w .holds))
+    to k (inr w) = inr (one-found laid goodKind (Lays u h k) (good-lists refl) (rw all at (w .before)) (w .holds))
 
-    listed : (k : ℕ) → AnyListed (certificateOf file) 3 (Lays u h k) → Dec (On new k) → On new k
+    listed : (k : ℕ) → AnyListed (certificateOf file) goodKind (Lays u h k) → Dec (On new k) → On new k
     listed k a (yes e) = e
     listed k a (no off) =
-        absurd (none-found laid 3 (Lays u h k) (λ i inside w. off (r .on k .1 (inr (record { number = i; before = rw all inside; holds = w })))) a)
+        absurd (none-found laid goodKind (Lays u h k) (λ i inside w. off (r .on k .1 (inr (record { number = i; before = rw all inside; holds = w })))) a)
 
-    back : (k : ℕ) → On old k ⊎ AnyListed (certificateOf file) 3 (Lays u h k) → On new k
+    back : (k : ℕ) → On old k ⊎ AnyListed (certificateOf file) goodKind (Lays u h k) → On new k
     back k (inl e) = r .on k .1 (inl e)
     back k (inr a) = listed k a (ℕ-discrete (getD new k 0) 1)
 
 -- The term at entry h as a hat: what the good patterns lay is put off, if no bad one shares an instance with it.
 module _ {c : Certificate} {u : Term Variable} {h : ℕ} where
-  hat-is : ¬ SharesListed c 4 u → (k : ℕ) → AnyListed c 3 (Lays u h k) ↔ HatOver c u h k
+  hat-is : ¬ SharesListed c badKind u → (k : ℕ) → AnyListed c goodKind (Lays u h k) ↔ HatOver c u h k
   unfolding listedOf
   hat-is fine k = (
     λ a. record { good = a .term; listed = a .listed; match = a .holds .0; mark = a .holds .1; notBad = not-bad-is c u .1 fine },
     λ w. record { term = w .good; listed = w .listed; holds = (w .match, w .mark) },
   )
 
-  pub hat-taken : {old new marked : List ℕ} → Flags marked (λ k. AnyListed c 3 (Lays u h k)) → ¬ SharesListed c 4 u → Cleared old new (On marked)
+  pub hat-taken : {old new marked : List ℕ} → Flags marked (λ k. AnyListed c goodKind (Lays u h k)) → ¬ SharesListed c badKind u → Cleared old new (On marked)
       → Cleared old new (HatOver c u h)
   hat-taken f fine r = cleared-as r (λ k. (λ o. hat-is fine k .0 (f .on k .0 o), λ w. f .on k .1 (hat-is fine k .1 w)))
 
-  pub hat-shares : {old : List ℕ} → length old ≡ 64 → SharesListed c 4 u → Cleared old old (HatOver c u h)
+  pub hat-shares : {old : List ℕ} → length old ≡ 64 → SharesListed c badKind u → Cleared old old (HatOver c u h)
   hat-shares long shares = cleared-none long (λ k o w. not-bad-is c u .0 (w .notBad) shares)
 
 pub marked-flags : {P : ℕ → Type 0} {new : List ℕ} → Raised (replicate 64 0) new P → Flags new P
@@ -155,7 +158,7 @@ good-encryption {file} laid {good} listed = go (encryption? good)
   where
     go : Dec (IsEncryption good) → IsEncryption good
     go (yes is) = is
-    go (no off) = absurd (none-found laid 3 (λ p. IsEncryption p → ⊥)
+    go (no off) = absurd (none-found laid goodKind (λ p. IsEncryption p → ⊥)
         (λ i inside w. w .holds (let g = laid .goods i inside (w .of-kind) in record { key = g .key; content = g .content; is = g .same }))
         (record { term = good; listed = listed; holds = off }))
 

@@ -8,6 +8,8 @@ use native.Mathlib.Omega.{arith}
 use native.Mathlib.Decide.{decLt}
 use lib.ListN.{length, take, drop}
 use lib.Seq.{length-take-le}
+use Rattle.blocks.specs.Kinds.{secretKind, goodKind, badKind, ruleKind}
+use Rattle.blocks.specs.Limits.{blockSize}
 use Rattle.blocks.specs.Block.{blockAt, kindOf}
 use Rattle.blocks.proofs.Parts.{block-before}
 use Rattle.terms.specs.declared.valid.Found.{Found}
@@ -97,19 +99,19 @@ mapped f {l} into m = let w = Memᴰ·of-map f l m in Memᴰ·cast (sym (w .2)) 
 
 module _ {file : List ℕ} {n : ℕ} (laid : Laid file) (only : OnlyRulesFrom file n) where
   abbrev head : List ℕ
-  head = take (512 * n - 0) (drop 0 file)
+  head = take (blockSize * n - 0) (drop 0 file)
 
-  long : length head ≡ 512 * n
+  long : length head ≡ blockSize * n
   long =
-      let fits : 512 * n ≤ length file = omega (arith, laid .exact, only .inside) in
-      let whole : 512 * n - 0 ≡ 512 * n = omega arith in
-      rw whole (length-take-le (512 * n) file fits)
+      let fits : blockSize * n ≤ length file = omega (arith, laid .exact, only .inside) in
+      let whole : blockSize * n - 0 ≡ blockSize * n = omega arith in
+      rw whole (length-take-le (blockSize * n) file fits)
 
   count : blockCount head ≡ n
   count = let l = long in omega arith
 
   block : (i : ℕ) → i < n → blockAt head i ≡ blockAt file i
-  block i h = block-before file i (512 * n - 0) (omega arith)
+  block i h = block-before file i (blockSize * n - 0) (omega arith)
 
   -- A block of the head is a block of the file, and a block of the file that is no rule is one of the head.
   into-file : (kind : ℕ) (b : List ℕ) → List·Memᴰ b (ofKind kind (blocksOf head)) → List·Memᴰ b (ofKind kind (blocksOf file))
@@ -121,7 +123,7 @@ module _ {file : List ℕ} {n : ℕ} (laid : Laid file) (only : OnlyRulesFrom fi
       subst (λ (x : List ℕ). List·Memᴰ x (ofKind kind (blocksOf file))) (sym (w .same ∙ same))
       (block-listed file inside (ap kindOf (sym same) ∙ w .of-kind))
 
-  into-head : (kind : ℕ) → (kind ≡ 5 → ⊥) → (b : List ℕ) → List·Memᴰ b (ofKind kind (blocksOf file)) → List·Memᴰ b (ofKind kind (blocksOf head))
+  into-head : (kind : ℕ) → (kind ≡ ruleKind → ⊥) → (b : List ℕ) → List·Memᴰ b (ofKind kind (blocksOf file)) → List·Memᴰ b (ofKind kind (blocksOf head))
   into-head kind no-rule b m =
       let w = listed-block file m in
       elim (decLt (w .number) n) [
@@ -135,17 +137,17 @@ module _ {file : List ℕ} {n : ℕ} (laid : Laid file) (only : OnlyRulesFrom fi
   from-head : Sublists (certificateOf head) (certificateOf file)
   unfolding certificateOf
   from-head = record {
-    secret = λ m. mapped secretOf (into-file 2);
-    good = λ t. mapped patternOf (into-file 3);
-    bad = λ t. mapped patternOf (into-file 4);
+    secret = λ m. mapped secretOf (into-file secretKind);
+    good = λ t. mapped patternOf (into-file goodKind);
+    bad = λ t. mapped patternOf (into-file badKind);
   }
 
   to-head : Sublists (certificateOf file) (certificateOf head)
   unfolding certificateOf
   to-head = record {
-    secret = λ m. mapped secretOf (into-head 2 (λ e. absurd (omega arith)));
-    good = λ t. mapped patternOf (into-head 3 (λ e. absurd (omega arith)));
-    bad = λ t. mapped patternOf (into-head 4 (λ e. absurd (omega arith)));
+    secret = λ m. mapped secretOf (into-head secretKind (λ e. absurd (omega arith)));
+    good = λ t. mapped patternOf (into-head goodKind (λ e. absurd (omega arith)));
+    bad = λ t. mapped patternOf (into-head badKind (λ e. absurd (omega arith)));
   }
 
   head-laid : Laid head

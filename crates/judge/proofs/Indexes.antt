@@ -7,6 +7,8 @@ use native.Mathlib.Decide.{ℕ-discrete}
 use lib.Dec.{eqb}
 use lib.ListN.{length, getD, set, length-set, replicate}
 use lib.Seq.{getD-set-same, getD-set-other}
+use Rattle.blocks.specs.Kinds.{secretKind}
+use Rattle.blocks.proofs.KindLaws.{secret-lists}
 use Rattle.terms.specs.Entry.{Begins, termOf}
 use Rattle.terms.specs.WalkLaws.{from}
 use Rattle.terms.specs.Decisions.{says-eq}
@@ -14,7 +16,7 @@ use Rattle.terms.specs.Solve.{Says, says-same}
 use Rattle.judge.specs.File.{blockCount, patternOf, certificateOf}
 use Rattle.judge.specs.Laid.{Laid}
 use Rattle.judge.specs.Listed.{slotAt, RootsOf, IsSecret, HoldsAt}
-use Rattle.judge.proofs.Listing.{none-found, term-block}
+use Rattle.judge.proofs.Listing.{none-found}
 use Rattle.judge.specs.CoverEntries.{On, Flagged, SomeFlagged, IndexedBelow, Indexed}
 use Rattle.judge.proofs.Flags.{zero-at}
 use Rattle.judge.proofs.Roots.{slot-same}
@@ -76,11 +78,11 @@ module _ {e flags index t : List ℕ} (f : Flagged e flags) (w : Indexed e flags
 -- No secret has the slot of the term's root: it is none.
 pub no-slot-secret : {file roots t : List ℕ} → Laid file → RootsOf file roots → Begins t → getD roots (slotAt t) 0 ≡ 0 → ¬ IsSecret (certificateOf file) (termOf t)
 unfolding patternOf
-no-slot-secret {file} {roots} {t} laid flags b absent = none-found laid 2 (λ p. p ≡ termOf t) apart
+no-slot-secret {file} {roots} {t} laid flags b absent = none-found laid secretKind (λ p. p ≡ termOf t) apart
   where
-    apart : (i : ℕ) → i < blockCount file → HoldsAt file 2 (λ p. p ≡ termOf t) i → ⊥
+    apart : (i : ℕ) → i < blockCount file → HoldsAt file secretKind (λ p. p ≡ termOf t) i → ⊥
     apart i inside h =
-        let start = term-block laid (omega arith) (omega arith) inside (h .of-kind) .term in
+        let start = laid .terms i inside (secret-lists (h .of-kind)) .term in
         let on : getD roots (slotAt t) 0 ≡ 1 = ap (λ (n : ℕ). getD roots n 0) (sym (slot-same start b (h .holds))) ∙ flags .flagged i inside (h .of-kind) in
         omega (arith, absent)
 

@@ -9,6 +9,8 @@ use native.Mathlib.Decide.{ℕ-discrete}
 use native.Mathlib.Omega.{arith}
 use lib.Dec.{eqb, leb}
 use lib.ListN.{length, length-append}
+use Rattle.blocks.specs.Kinds.{atomsKind, secretKind, goodKind, badKind, ruleKind, ListsTerm, HoldsTerms}
+use Rattle.blocks.specs.Limits.{blockSize, mostBytes}
 use Rattle.blocks.specs.Block.{blockAt, kindOf, firstCount, secondCount, firstEntries, secondEntries, Fitting}
 use Rattle.blocks.specs.Check.{CheckRight, checkRight}
 use Rattle.blocks.specs.Layout.{LayoutRight, layoutRight, within}
@@ -31,7 +33,7 @@ use Rattle.judge.specs.Meaning.{LengthRight, KindRight, first, later, Sh
 use Rattle.judge.specs.Meaning.{PremiseRight, BlockRight, BlockFaulty, checkFails, kindFails, layoutFails, atomFails}
 use Rattle.judge.specs.Meaning.{entryFails, patternFails, premiseFails, conclusionFails}
 use Rattle.judge.proofs.Exact.{Exact, reworded, tested, tested-then, either, then, FirstPlace, at, first-place}
-use Rattle.judge.proofs.Exact.{says-test, says-decided, says-le, says-both}
+use Rattle.judge.proofs.Exact.{says-test, says-decided, says-le, says-both, says-within}
 
 -- ---- what the tests say
 
@@ -39,24 +41,21 @@ says-length : (file : List ℕ) → Says (lengthRight file) (LengthRight file)
 unfolding lengthRight
 says-length file = says-same (lengthRight file) (λ w. record { some-byte = w .0; whole = w .1 .0; most = w .1 .1 })
     (λ r. (r .some-byte, (r .whole, r .most)))
-    (says-both (1 ≤ n) ((n % 512 ≡ 0) × (n ≤ 32768)) (leb 1 n) (eqb (n % 512) 0 && leb n 32768) (says-le 1 n)
-    (says-both (n % 512 ≡ 0) (n ≤ 32768) (eqb (n % 512) 0) (leb n 32768) (says-eq (n % 512) 0) (says-le n 32768)))
+    (says-both (1 ≤ n) ((n % blockSize ≡ 0) × (n ≤ mostBytes)) (leb 1 n) (eqb (n % blockSize) 0 && leb n mostBytes) (says-le 1 n)
+    (says-both (n % blockSize ≡ 0) (n ≤ mostBytes) (eqb (n % blockSize) 0) (leb n mostBytes) (says-eq (n % blockSize) 0) (says-le n mostBytes)))
   where
     n : ℕ
     n = length file
 
-says-within : (low high x : ℕ) → Says (within low high x) ((low ≤ x) × (x ≤ high))
-says-within low high x = says-both (low ≤ x) (x ≤ high) (leb low x) (leb x high) (says-le low x) (says-le x high)
-
 says-kind : (file : List ℕ) (i : ℕ) → Says (kindRight file i) (KindRight file i)
 unfolding kindRight
-says-kind file zero = says-same (kindRight file zero) (first refl) go (says-eq (kindOf (blockAt file 0)) 1)
+says-kind file zero = says-same (kindRight file zero) (first refl) go (says-eq (kindOf (blockAt file 0)) atomsKind)
   where
-    go : KindRight file zero → kindOf (blockAt file 0) ≡ 1
+    go : KindRight file zero → kindOf (blockAt file 0) ≡ atomsKind
     go (first e k) = k
     go (later e l h b) = absurd (omega arith)
 says-kind file (suc i) = says-same (kindRight file (suc i)) (λ w. later refl (w .0 .0) (w .0 .1) (w .1)) go
-    (says-both ((2 ≤ kind) × (kind ≤ 5)) (before ≤ kind) (within 2 5 kind) (leb before kind) (says-within 2 5 kind) (says-le before kind))
+    (says-both ((secretKind ≤ kind) × (kind ≤ ruleKind)) (before ≤ kind) (within secretKind ruleKind kind) (leb before kind) (says-within secretKind ruleKind kind) (says-le before kind))
   where
     kind : ℕ
     kind = kindOf (blockAt file (suc i))
@@ -64,18 +63,18 @@ says-kind file (suc i) = says-same (kindRight file (suc i)) (λ w. later refl (w
     before : ℕ
     before = kindOf (blockAt file i)
 
-    go : KindRight file (suc i) → ((2 ≤ kindOf (blockAt file (suc i))) × (kindOf (blockAt file (suc i)) ≤ 5))
+    go : KindRight file (suc i) → ((secretKind ≤ kindOf (blockAt file (suc i))) × (kindOf (blockAt file (suc i)) ≤ ruleKind))
         × (kindOf (blockAt file i) ≤ kindOf (blockAt file (suc i)))
     go (first e k) = absurd (omega arith)
     go (later {j} e l h b) = let same : j ≡ i = omega arith in ((l, h), (rw same at b))
 
-says-root : (b : List ℕ) → Says (rootRight (kindOf b) (firstEntries b)) (3 ≤ kindOf b → kindOf b ≤ 4 → IsEncryption (termOf (firstEntries b)))
+says-root : (b : List ℕ) → Says (rootRight (kindOf b) (firstEntries b)) (goodKind ≤ kindOf b → kindOf b ≤ badKind → IsEncryption (termOf (firstEntries b)))
 unfolding rootRight
-says-root b = go (within 3 4 (kindOf b)) (says-within 3 4 (kindOf b))
+says-root b = go (within goodKind badKind (kindOf b)) (says-within goodKind badKind (kindOf b))
   where
-    go : (t : Bool) → Says t ((3 ≤ kindOf b) × (kindOf b ≤ 4))
+    go : (t : Bool) → Says t ((goodKind ≤ kindOf b) × (kindOf b ≤ badKind))
         → Says (elim t [ true ↦ answer (encryption? (termOf (firstEntries b))) | false ↦ true ])
-        (3 ≤ kindOf b → kindOf b ≤ 4 → IsEncryption (termOf (firstEntries b)))
+        (goodKind ≤ kindOf b → kindOf b ≤ badKind → IsEncryption (termOf (firstEntries b)))
     go true w = says-same (answer (encryption? (termOf (firstEntries b)))) (λ p l h. p) (λ f. f (w .0) (w .1))
         (says-decided (encryption? (termOf (firstEntries b))))
     go false n = λ l h. absurd (n (l, h))
@@ -126,7 +125,7 @@ pattern-judged i b = reworded (λ w. record { one = w .0; root = w .1 }) (λ r. 
     One = OneTerm (firstEntries b)
 
     Root : Type 0
-    Root = 3 ≤ kindOf b → kindOf b ≤ 4 → IsEncryption (termOf (firstEntries b))
+    Root = goodKind ≤ kindOf b → kindOf b ≤ badKind → IsEncryption (termOf (firstEntries b))
 
     to : (g : Fault) → ((g ≡ NotOneTerm i 0) × (¬ One)) ⊎ (One × ((g ≡ NotOneTerm i 0) × (¬ Root))) → (g ≡ NotOneTerm i 0) × (¬ PatternRight b)
     to g (inl w) = (w .0, λ r. w .1 (r .one))
@@ -191,16 +190,16 @@ module _ (file : List ℕ) (i : ℕ) where
   b = blockAt file i
 
   abbrev Content : Type 0
-  Content = (kindOf b ≡ 1 → (n : ℕ) → n < firstCount b → AtomEntryRight b n)
-      × (¬ (kindOf b ≡ 1) → EntriesRight (fileAtoms file) b
-      × ((kindOf b ≡ 5 → PremiseRight b × OneTerm (secondEntries b)) × (¬ (kindOf b ≡ 5) → PatternRight b)))
+  Content = (kindOf b ≡ atomsKind → (n : ℕ) → n < firstCount b → AtomEntryRight b n)
+      × (¬ (kindOf b ≡ atomsKind) → EntriesRight (fileAtoms file) b
+      × ((kindOf b ≡ ruleKind → PremiseRight b × OneTerm (secondEntries b)) × (¬ (kindOf b ≡ ruleKind) → PatternRight b)))
 
   abbrev TermsWrong : Fault → Type 0
-  TermsWrong g = ((kindOf b ≡ 5) × RuleWrong i b g) ⊎ ((¬ (kindOf b ≡ 5)) × ((g ≡ NotOneTerm i 0) × (¬ PatternRight b)))
+  TermsWrong g = ((kindOf b ≡ ruleKind) × RuleWrong i b g) ⊎ ((¬ (kindOf b ≡ ruleKind)) × ((g ≡ NotOneTerm i 0) × (¬ PatternRight b)))
 
   abbrev ContentWrong : Fault → Type 0
-  ContentWrong g = ((kindOf b ≡ 1) × FirstPlace (AtomEntryRight b) (firstCount b) (AtomEntry i) g)
-      ⊎ ((¬ (kindOf b ≡ 1)) × (FirstPlace (TermEntryRight (fileAtoms file) b) (firstCount b + secondCount b) (TermEntry i) g
+  ContentWrong g = ((kindOf b ≡ atomsKind) × FirstPlace (AtomEntryRight b) (firstCount b) (AtomEntry i) g)
+      ⊎ ((¬ (kindOf b ≡ atomsKind)) × (FirstPlace (TermEntryRight (fileAtoms file) b) (firstCount b + secondCount b) (TermEntry i) g
       ⊎ (EntriesRight (fileAtoms file) b × TermsWrong g)))
 
   module _ (shaped : Shaped file i) where
@@ -208,19 +207,22 @@ module _ (file : List ℕ) (i : ℕ) where
     fits = layout-fits b (shaped .layout)
 
     -- The kinds that the tests leave.
-    others : ¬ (kindOf b ≡ 1) → (2 ≤ kindOf b) × (kindOf b ≤ 5)
+    others : ¬ (kindOf b ≡ atomsKind) → HoldsTerms (kindOf b)
     others n = go (shaped .kind)
       where
-        go : KindRight file i → (2 ≤ kindOf b) × (kindOf b ≤ 5)
+        go : KindRight file i → HoldsTerms (kindOf b)
         go (first e k) = absurd (n k)
-        go (later e l h p) = (l, h)
+        go (later e l h p) = record { low = l; high = h }
+
+    patterns : ¬ (kindOf b ≡ atomsKind) → ¬ (kindOf b ≡ ruleKind) → ListsTerm (kindOf b)
+    patterns n m = let w = others n in record { low = w .low; high = let h = w .high in omega arith }
 
     to : Content → BlockRight file i
     to w = record {
       shaped = shaped;
       atoms = w .0;
-      entries = λ l. w .1 (λ z. omega arith) .0;
-      pattern = λ l h. w .1 (λ z. omega arith) .1 .1 (λ z. omega arith);
+      entries = λ l. w .1 (λ z. omega (arith, l .low)) .0;
+      pattern = λ l. w .1 (λ z. omega (arith, l .low)) .1 .1 (λ z. omega (arith, l .high));
       premise = λ e. w .1 (λ z. omega arith) .1 .0 e .0;
       conclusion = λ e. w .1 (λ z. omega arith) .1 .0 e .1;
     }
@@ -229,8 +231,8 @@ module _ (file : List ℕ) (i : ℕ) where
     back r = (
       r .atoms,
       λ n. (
-        r .entries (others n .0),
-        ((λ e. (r .premise e, r .conclusion e)), λ m. r .pattern (others n .0) (let h = others n .1 in omega arith)),
+        r .entries (others n),
+        ((λ e. (r .premise e, r .conclusion e)), λ m. r .pattern (patterns n m)),
       ),
     )
 
@@ -243,11 +245,10 @@ module _ (file : List ℕ) (i : ℕ) where
     wrong-to g (inr (n, inl w)) = go w
       where
         go : FirstPlace (TermEntryRight (fileAtoms file) b) (firstCount b + secondCount b) (TermEntry i) g → BlockFaulty file i g
-        go (at q l off all) = entryFails q shaped (others n .0) l off all
+        go (at q l off all) = entryFails q shaped (others n) l off all
     wrong-to g (inr (n, inr (all, inl (k, inl w)))) = premiseFails (w .0) shaped k all (w .1)
     wrong-to g (inr (n, inr (all, inl (k, inr w)))) = conclusionFails (w .1 .0) shaped k all (w .0) (w .1 .1)
-    wrong-to g (inr (n, inr (all, inr (m, w)))) =
-        patternFails (w .0) shaped (others n .0) (let h = others n .1 in omega arith) all (w .1)
+    wrong-to g (inr (n, inr (all, inr (m, w)))) = patternFails (w .0) shaped (patterns n m) all (w .1)
 
     wrong-back : (g : Fault) → BlockFaulty file i g → ContentWrong g
     unfolding RuleWrong
@@ -255,17 +256,18 @@ module _ (file : List ℕ) (i : ℕ) where
     wrong-back g (kindFails e c n) = absurd (n (shaped .kind))
     wrong-back g (layoutFails e c k n) = absurd (n (shaped .layout))
     wrong-back g (atomFails e s k l off all) = inl (k, at e l off all)
-    wrong-back g (entryFails e s k l off all) = inr ((λ z. omega arith), inl (at e l off all))
-    wrong-back g (patternFails e s l h all off) = inr ((λ z. omega arith), inr (all, inr ((λ z. omega arith), (e, off))))
+    wrong-back g (entryFails e s k l off all) = inr ((λ z. omega (arith, k .low)), inl (at e l off all))
+    wrong-back g (patternFails e s k all off) =
+        inr ((λ z. omega (arith, k .low)), inr (all, inr ((λ z. omega (arith, k .high)), (e, off))))
     wrong-back g (premiseFails e s k all off) = inr ((λ z. omega arith), inr (all, inl (k, inl (e, off))))
     wrong-back g (conclusionFails e s k all p off) = inr ((λ z. omega arith), inr (all, inl (k, inr (p, (e, off)))))
 
     content-judged : Exact (BlockRight file i) (BlockFaulty file i) (entriesFault (fileAtoms file) i (blockAt file i))
     unfolding entriesFault termFault
     content-judged = reworded to back wrong-to wrong-back
-        (either (eqb (kindOf b) 1) (says-eq (kindOf b) 1) (λ e. atom-judged i b fits)
+        (either (eqb (kindOf b) atomsKind) (says-eq (kindOf b) atomsKind) (λ e. atom-judged i b fits)
         (λ n. then (entryFault (fileAtoms file) i b) (entry-judged i b fits (fileAtoms file))
-        (λ all. either (eqb (kindOf b) 5) (says-eq (kindOf b) 5) (λ r. rule-judged i b) (λ m. pattern-judged i b))))
+        (λ all. either (eqb (kindOf b) ruleKind) (says-eq (kindOf b) ruleKind) (λ r. rule-judged i b) (λ m. pattern-judged i b))))
 
   -- 2, 3, 5, and then these.
   abbrev BlockWrong : Fault → Type 0
@@ -290,7 +292,7 @@ module _ (file : List ℕ) (i : ℕ) where
       go (layoutFails e c k n) = inr (c, inr (k, inl (e, n)))
       go (atomFails e s k l off all) = later-on s
       go (entryFails e s k l off all) = later-on s
-      go (patternFails e s l h all off) = later-on s
+      go (patternFails e s k all off) = later-on s
       go (premiseFails e s k all off) = later-on s
       go (conclusionFails e s k all p off) = later-on s
 

@@ -7,6 +7,7 @@ use Prim.Native.Nat.{ℕ, _+_, _-_, _*_, _≤_, _<_}
 use native.Mathlib.Omega.{arith}
 use lib.ListN.{length}
 use borrow.Author.Tests.{eq-eqb, ne-eqb}
+use Rattle.blocks.specs.Kinds.{ruleKind}
 use Rattle.blocks.specs.Block.{blockAt, kindOf, firstCount}
 use Rattle.blocks.proofs.Parts.{second-length}
 use Rattle.terms.specs.declared.valid.Found.{Found}
@@ -59,24 +60,24 @@ place-small c {b} w said h =
     omega (arith, begins-size (w .conclusion), second-length b (w .fitting))
 
 pub rule-at : {file : List ℕ} {i : ℕ} → Laid file → i < blockCount file → {b : List ℕ} → b ≡ blockAt file i → {k : ℕ} → k ≡ kindOf b
-    → k ≡ 5 → RuleBlock b
-rule-at {i = i} laid inside same kind five = rw same (laid .rules i inside (ap kindOf (sym same) ∙ sym kind ∙ five))
+    → k ≡ ruleKind → RuleBlock b
+rule-at {i = i} laid inside same kind rule = rw same (laid .rules i inside (ap kindOf (sym same) ∙ sym kind ∙ rule))
 
 module _ (c : Certificate) (file : List ℕ) (i : ℕ) {b : List ℕ} (same : b ≡ blockAt file i) {k : ℕ} (kind : k ≡ kindOf b) where
-  pub open-other : (k ≡ 5 → ⊥) → Fine ≡ judgedOf (onKind 5 (uncoveredRule c) file i)
+  pub open-other : (k ≡ ruleKind → ⊥) → Fine ≡ judgedOf (onKind ruleKind (uncoveredRule c) file i)
   unfolding judgedOf onKind
-  open-other n = rw (← same, ne-eqb (kindOf b) 5 (λ e. n (kind ∙ e)), onKind)
+  open-other n = rw (← same, ne-eqb (kindOf b) ruleKind (λ e. n (kind ∙ e)), onKind)
 
-  module _ (five : k ≡ 5) {u : Found} (said : u ≡ uncovered c (ruleOf b)) where
-    pub open-found : {n m : ℕ} → u ≡ At n → m ≡ firstCount b → Faulty (Uncovered i (m + n)) ≡ judgedOf (onKind 5 (uncoveredRule c) file i)
+  module _ (rule : k ≡ ruleKind) {u : Found} (said : u ≡ uncovered c (ruleOf b)) where
+    pub open-found : {n m : ℕ} → u ≡ At n → m ≡ firstCount b → Faulty (Uncovered i (m + n)) ≡ judgedOf (onKind ruleKind (uncoveredRule c) file i)
     unfolding judgedOf onKind uncoveredRule
-    open-found h count = rw (← same, eq-eqb (kindOf b) 5 (sym kind ∙ five), ← same, ← said, h, ← same, count, onKind, uncoveredRule)
+    open-found h count = rw (← same, eq-eqb (kindOf b) ruleKind (sym kind ∙ rule), ← same, ← said, h, ← same, count, onKind, uncoveredRule)
 
-    pub open-fine : u ≡ Nothing → Fine ≡ judgedOf (onKind 5 (uncoveredRule c) file i)
+    pub open-fine : u ≡ Nothing → Fine ≡ judgedOf (onKind ruleKind (uncoveredRule c) file i)
     unfolding judgedOf onKind uncoveredRule
-    open-fine h = rw (← same, eq-eqb (kindOf b) 5 (sym kind ∙ five), ← same, ← said, h, onKind, uncoveredRule)
+    open-fine h = rw (← same, eq-eqb (kindOf b) ruleKind (sym kind ∙ rule), ← same, ← said, h, onKind, uncoveredRule)
 
-pub rule-start : (c : Certificate) (file : List ℕ) → firstFault (onKind 5 (uncoveredRule c) file) 0 (blockCount file - 0) ≡ ruleFault c file
+pub rule-start : (c : Certificate) (file : List ℕ) → firstFault (onKind ruleKind (uncoveredRule c) file) 0 (blockCount file - 0) ≡ ruleFault c file
 unfolding ruleFault kindFault
 rule-start c file = let all : blockCount file - 0 ≡ blockCount file = omega arith in rw all
 

@@ -8,8 +8,11 @@ use native.Mathlib.Omega.{arith}
 use native.Mathlib.Decide.{ℕ-discrete}
 use lib.Seq.{take-at, drop-at}
 use borrow.Author.Tests.{eq-eqb, ne-eqb}
+use Rattle.blocks.specs.Kinds.{secretKind, goodKind, ruleKind, ListsTerm, HoldsTerms}
+use Rattle.blocks.specs.Limits.{mostTermEntries}
 use Rattle.blocks.specs.Block.{blockAt, kindOf, firstCount, secondCount, firstEntries, secondEntries, Fitting}
 use Rattle.blocks.specs.Layout.{CountsRight, atoms, term, rule}
+use Rattle.blocks.proofs.KindLaws.{secret-lists, good-lists, lists-holds, rule-holds}
 use Rattle.blocks.proofs.Layouts.{layout-fits}
 use Rattle.blocks.proofs.Parts.{first-length}
 use Rattle.terms.specs.Term.{Term, Variable}
@@ -34,45 +37,45 @@ module _ (file : List ℕ) (i : ℕ) (right : BlockRight file i) where
   pub fits : Fitting b
   fits = layout-fits b (right .shaped .layout)
 
-  -- The counts of kinds 2 to 4, and of kind 5.
-  short : 2 ≤ kindOf b → firstCount b ≤ 63
+  -- No term has more than 63 entries.
+  short : HoldsTerms (kindOf b) → firstCount b ≤ mostTermEntries
   short l = go (right .shaped .layout .counts)
     where
-      go : CountsRight (kindOf b) (firstCount b) (secondCount b) → firstCount b ≤ 63
-      go (atoms k a c d) = absurd (omega arith)
-      go (term k a c d e) = d
+      go : CountsRight (kindOf b) (firstCount b) (secondCount b) → firstCount b ≤ mostTermEntries
+      go (atoms k a c d) = let low = l .low in absurd (omega arith)
+      go (term k a c d) = c
       go (rule k a c d) = a
 
-  second-short : kindOf b ≡ 5 → secondCount b ≤ 63
+  second-short : kindOf b ≡ ruleKind → secondCount b ≤ mostTermEntries
   second-short l = go (right .shaped .layout .counts)
     where
-      go : CountsRight (kindOf b) (firstCount b) (secondCount b) → secondCount b ≤ 63
+      go : CountsRight (kindOf b) (firstCount b) (secondCount b) → secondCount b ≤ mostTermEntries
       go (atoms k a c d) = absurd (omega arith)
-      go (term k a c d e) = absurd (omega arith)
+      go (term k a c d) = let high = k .high in absurd (omega arith)
       go (rule k a c d) = d
 
   -- Each entry is right, of the first part and of the second.
-  used : 2 ≤ kindOf b → Each (EntryRight (fileAtoms file) (kindOf b)) (firstEntries b ++ secondEntries b)
+  used : HoldsTerms (kindOf b) → Each (EntryRight (fileAtoms file) (kindOf b)) (firstEntries b ++ secondEntries b)
   used l =
       let size = used-length b fits in
       let all : Each (EntryRight (fileAtoms file) (kindOf b)) (usedEntries b) =
       each-of (usedEntries b) (omega arith) (λ n h. right .entries l n (omega arith)) in
       rw (used-both b) at all
 
-  each : 2 ≤ kindOf b → Each (EntryRight (fileAtoms file) (kindOf b)) (firstEntries b)
+  each : HoldsTerms (kindOf b) → Each (EntryRight (fileAtoms file) (kindOf b)) (firstEntries b)
   each l = rw (take-at (firstEntries b) (secondEntries b) (4 * firstCount b) (first-length b fits)) at (each-take (firstCount b) (used l))
 
-  each-second : 2 ≤ kindOf b → Each (EntryRight (fileAtoms file) (kindOf b)) (secondEntries b)
+  each-second : HoldsTerms (kindOf b) → Each (EntryRight (fileAtoms file) (kindOf b)) (secondEntries b)
   each-second l =
       rw (drop-at (firstEntries b) (secondEntries b) (4 * firstCount b) (first-length b fits)) at (each-drop (firstCount b) (used l))
 
-  -- The term of a block of kind 2 to 4.
-  pub pattern-right : 2 ≤ kindOf b → kindOf b ≤ 4 → TermRight (fileAtoms file) (kindOf b) (patternOf b)
+  -- The term that a block lists.
+  pub pattern-right : ListsTerm (kindOf b) → TermRight (fileAtoms file) (kindOf b) (patternOf b)
   unfolding patternOf
-  pattern-right l h = right-term (each l) (right .pattern l h .one)
+  pattern-right l = right-term (each (lists-holds l)) (right .pattern l .one)
 
   -- The terms of a rule.
-  pub premise-right : kindOf b ≡ 5 → (t : Term Variable) → ruleOf b .premise ≡ some t → TermRight (fileAtoms file) (kindOf b) t
+  pub premise-right : kindOf b ≡ ruleKind → (t : Term Variable) → ruleOf b .premise ≡ some t → TermRight (fileAtoms file) (kindOf b) t
   unfolding ruleOf
   premise-right k t e = go (ℕ-discrete (firstCount b) 0)
     where
@@ -81,35 +84,39 @@ module _ (file : List ℕ) (i : ℕ) (right : BlockRight file i) where
       go (no n) =
           let given : some (termOf (firstEntries b)) ≡ some t = rw (ne-eqb (firstCount b) 0 n) at e in
           let same : termOf (firstEntries b) ≡ t = cc in
-          rw same at (right-term (each (omega arith)) (right .premise k n))
+          rw same at (right-term (each (rule-holds k)) (right .premise k n))
 
-  pub conclusion-right : kindOf b ≡ 5 → TermRight (fileAtoms file) (kindOf b) (ruleOf b .conclusion)
+  pub conclusion-right : kindOf b ≡ ruleKind → TermRight (fileAtoms file) (kindOf b) (ruleOf b .conclusion)
   unfolding ruleOf
-  conclusion-right k = right-term (each-second (omega arith)) (right .conclusion k)
+  conclusion-right k = right-term (each-second (rule-holds k)) (right .conclusion k)
 
-  term-block : 2 ≤ kindOf b → kindOf b ≤ 4 → TermBlock b
-  term-block l h =
-      record { fitting = fits; term = one-begins (right .pattern l h .one); whole = one-whole (right .pattern l h .one); short = short l }
+  term-block : ListsTerm (kindOf b) → TermBlock b
+  term-block l = record {
+    fitting = fits;
+    term = one-begins (right .pattern l .one);
+    whole = one-whole (right .pattern l .one);
+    short = short (lists-holds l);
+  }
 
-  rule-block : kindOf b ≡ 5 → RuleBlock b
+  rule-block : kindOf b ≡ ruleKind → RuleBlock b
   rule-block k = record {
     fitting = fits;
     premise = λ n. one-begins (right .premise k n);
     conclusion = one-begins (right .conclusion k);
     premise-whole = λ n. one-whole (right .premise k n);
     conclusion-whole = one-whole (right .conclusion k);
-    premise-short = short (omega arith);
+    premise-short = short (rule-holds k);
     conclusion-short = second-short k;
   }
 
-  secret-block : kindOf b ≡ 2 → SecretBlock b
+  secret-block : kindOf b ≡ secretKind → SecretBlock b
   secret-block k =
-      let w = secret-message k (pattern-right (omega arith) (omega arith)) in record { message = w .0; same = w .1 }
+      let w = secret-message k (pattern-right (secret-lists k)) in record { message = w .0; same = w .1 }
 
-  good-block : kindOf b ≡ 3 → GoodBlock b
+  good-block : kindOf b ≡ goodKind → GoodBlock b
   unfolding patternOf
   good-block k =
-      let w = right .pattern (omega arith) (omega arith) .root (omega arith) (omega arith) in
+      let w = right .pattern (good-lists k) .root (omega arith) (omega arith) in
       record { key = w .key; content = w .content; same = w .is }
 
 -- ---- a file that has passed

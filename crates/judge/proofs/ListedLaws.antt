@@ -5,6 +5,7 @@ use mathlib.Core.Logic.{_⊎_, inl, inr, _↔_}
 use mathlib.Core.List.{Memᴰ·cast, Memᴰ·map, Memᴰ·of-map}
 use Prim.Native.Nat.{ℕ}
 use native.Mathlib.Omega.{arith}
+use Rattle.blocks.specs.Kinds.{secretKind, goodKind, badKind}
 use Rattle.terms.specs.Term.{Term, Message, Variable, variable, atom, replace, asTerm}
 use Rattle.terms.specs.Instance.{Matches, Share}
 use Rattle.terms.specs.Laws.{replace-message, replace-asTerm}
@@ -91,43 +92,43 @@ module _ (c : Certificate) where
 
   module _ (t : Term Variable) where
     -- No bad pattern shares an instance with the term.
-    pub not-bad-is : NotBad c t ↔ (SharesListed c 4 t → ⊥)
+    pub not-bad-is : NotBad c t ↔ (SharesListed c badKind t → ⊥)
     unfolding listedOf
     not-bad-is = (λ n h. n (h .term) (h .listed) (h .holds), λ n bad l s. n (record { term = bad; listed = l; holds = s }))
 
-    pub not-bad-answer : answer (not-bad? c t) ≡ not (answer (shares-listed? c 4 t))
-    not-bad-answer = said-not not-bad-is (not-bad? c t) (shares-listed? c 4 t)
+    pub not-bad-answer : answer (not-bad? c t) ≡ not (answer (shares-listed? c badKind t))
+    not-bad-answer = said-not not-bad-is (not-bad? c t) (shares-listed? c badKind t)
 
     -- No good pattern does, or the term is a bad one with its variables replaced.
-    pub no-hat-is : NoHat c t ↔ ((SharesListed c 3 t → ⊥) ⊎ MatchesListed c 4 t)
+    pub no-hat-is : NoHat c t ↔ ((SharesListed c goodKind t → ⊥) ⊎ MatchesListed c badKind t)
     unfolding listedOf
     no-hat-is = (to, back)
       where
-        to : NoHat c t → (SharesListed c 3 t → ⊥) ⊎ MatchesListed c 4 t
+        to : NoHat c t → (SharesListed c goodKind t → ⊥) ⊎ MatchesListed c badKind t
         to (sharesNoGood n) = inl (λ h. n (h .term) (h .listed) (h .holds))
         to (isBad {bad} l m) = inr (record { term = bad; listed = l; holds = m })
 
-        back : (SharesListed c 3 t → ⊥) ⊎ MatchesListed c 4 t → NoHat c t
+        back : (SharesListed c goodKind t → ⊥) ⊎ MatchesListed c badKind t → NoHat c t
         back (inl n) = sharesNoGood (λ good l s. n (record { term = good; listed = l; holds = s }))
         back (inr h) = isBad (h .listed) (h .holds)
 
-    pub no-hat-answer : answer (no-hat? c t) ≡ (not (answer (shares-listed? c 3 t)) || answer (matches-listed? c 4 t))
-    no-hat-answer = said-imp no-hat-is (no-hat? c t) (shares-listed? c 3 t) (matches-listed? c 4 t)
+    pub no-hat-answer : answer (no-hat? c t) ≡ (not (answer (shares-listed? c goodKind t)) || answer (matches-listed? c badKind t))
+    no-hat-answer = said-imp no-hat-is (no-hat? c t) (shares-listed? c goodKind t) (matches-listed? c badKind t)
 
     -- A variable, or a term that shares an instance with a listed secret.
-    pub risky-is : Risky c t ↔ (((x : Variable) × (t ≡ variable x)) ⊎ SharesListed c 2 t)
+    pub risky-is : Risky c t ↔ (((x : Variable) × (t ≡ variable x)) ⊎ SharesListed c secretKind t)
     unfolding listedOf
     risky-is = (to, back)
       where
-        to : Risky c t → ((x : Variable) × (t ≡ variable x)) ⊎ SharesListed c 2 t
+        to : Risky c t → ((x : Variable) × (t ≡ variable x)) ⊎ SharesListed c secretKind t
         to (isVariable {x} e) = inl (x, e)
         to (sharesSecret {secret} l s) = inr (record { term = asTerm secret; listed = Memᴰ·map asTerm l; holds = share-sym (share-message .1 s) })
 
-        back : ((x : Variable) × (t ≡ variable x)) ⊎ SharesListed c 2 t → Risky c t
+        back : ((x : Variable) × (t ≡ variable x)) ⊎ SharesListed c secretKind t → Risky c t
         back (inl w) = isVariable (w .1)
         back (inr h) =
             let o = Memᴰ·of-map asTerm (c .secrets) (h .listed) in
             sharesSecret (o .1) (share-message .0 (share-sym (subst (λ (p : Term Variable). Share p t) (sym (o .2)) (h .holds))))
 
-    pub risky-answer : answer (risky? c t) ≡ (answer (is-variable? t) || answer (shares-listed? c 2 t))
-    risky-answer = said-or risky-is (risky? c t) (is-variable? t) (shares-listed? c 2 t)
+    pub risky-answer : answer (risky? c t) ≡ (answer (is-variable? t) || answer (shares-listed? c secretKind t))
+    risky-answer = said-or risky-is (risky? c t) (is-variable? t) (shares-listed? c secretKind t)

@@ -1,13 +1,17 @@
 -- Laws of specs/Listed.antt: a search over the blocks of a file finds what the certificate lists. Assumes nothing.
 use mathlib.Core.Path.{_≡_, sym, ap, subst, _∙_}
 use mathlib.Core.Bool.{Bool, true, false}
+use mathlib.Core.Logic.{_⊎_, inl, inr}
 use mathlib.Core.List.{List, map, List·Memᴰ, List·Memᴰ·not-nil}
 use mathlib.Core.List.{Memᴰ·cast, Memᴰ·map, Memᴰ·of-map}
 use Prim.Native.Nat.{ℕ, zero, suc, _-_, _*_, _<_, _≤_}
 use lib.ListN.{length}
+use borrow.Author.Tests.{ne-eqb}
 use native.Mathlib.Omega.{arith}
 use native.Mathlib.Decide.{decLt, ℕ-discrete}
+use Rattle.blocks.specs.Kinds.{secretKind, goodKind, badKind, ListsTerm}
 use Rattle.blocks.specs.Block.{blockAt, kindOf, firstCount, firstEntries}
+use Rattle.blocks.proofs.KindLaws.{which-lists}
 use Rattle.terms.specs.Term.{Term, Variable, atom, replace, asTerm}
 use Rattle.terms.specs.Laws.{replace-asTerm}
 use Rattle.terms.specs.Entry.{Begins, termOf}
@@ -27,10 +31,10 @@ pub secret-term : {b : List ℕ} → SecretBlock b → patternOf b ≡ asTerm (s
 unfolding secretOf
 secret-term {b} s = s .same ∙ ap asTerm (sym (ap (replace (λ x. atom 0)) (s .same) ∙ replace-asTerm (λ x. atom 0) (s .message)))
 
--- A block of kind 2 to 4 has one term's entries.
-pub term-block : {file : List ℕ} {kind i : ℕ} → Laid file → 2 ≤ kind → kind ≤ 4 → i < blockCount file
+-- A block that lists a term has one term's entries.
+pub term-block : {file : List ℕ} {kind i : ℕ} → Laid file → ListsTerm kind → i < blockCount file
     → kindOf (blockAt file i) ≡ kind → TermBlock (blockAt file i)
-term-block {i = i} laid low high inside k = laid .terms i inside (omega arith) (omega arith)
+term-block {i = i} laid lists inside k = laid .terms i inside (rw k lists)
 
 pub term-part : {file : List ℕ} {i : ℕ} → TermBlock (blockAt file i) → {e : List ℕ} → e ≡ firstEntries (blockAt file i)
     → length e ≡ 4 * firstCount (blockAt file i) → TermPart file i e
@@ -39,12 +43,12 @@ term-part w same size = let short = w .short in record { part = same; term = rw 
 -- A part of the entries that begins with a term can be searched for as well.
 pub search-part : {file : List ℕ} {kind : ℕ} {e : List ℕ} (n : ℕ) → Searching file kind e → Begins (from n e) → Searching file kind (from n e)
 search-part {e = e} n s b = let short = s .short in
-    record { laid = s .laid; low = s .low; high = s .high; term = b; short = omega (arith, from-length n e) }
+    record { laid = s .laid; lists = s .lists; term = b; short = omega (arith, from-length n e) }
 
 -- The block that the code found to be of this kind.
-pub block-there : {file : List ℕ} {kind i : ℕ} → Laid file → 2 ≤ kind → kind ≤ 4 → i < blockCount file
+pub block-there : {file : List ℕ} {kind i : ℕ} → Laid file → ListsTerm kind → i < blockCount file
     → (b : Bool) → Says b (kindOf (blockAt file i) ≡ kind) → b ≡ true → (i < blockCount file) × TermBlock (blockAt file i)
-block-there laid low high inside b says t = (inside, term-block laid low high inside (says-yes b says t))
+block-there laid lists inside b says t = (inside, term-block laid lists inside (says-yes b says t))
 
 -- What one block answers: of this kind, and of another.
 pub block-answer : {file : List ℕ} {kind i : ℕ} (P : Term Variable → Type 0) → kindOf (blockAt file i) ≡ kind
@@ -58,43 +62,61 @@ pub other-kind : {file : List ℕ} {kind i : ℕ} {P : Term Variable → Type 0}
 other-kind off h = off (h .of-kind)
 
 module _ {file : List ℕ} (laid : Laid file) where
-  -- The term of a block of kind 2 to 4 is listed, and nothing else is.
-  listed-at : (kind : ℕ) {i : ℕ} → 2 ≤ kind → kind ≤ 4 → i < blockCount file → kindOf (blockAt file i) ≡ kind
+  -- The term of a block of a kind that lists one is listed, and nothing else is.
+  listed-at : (kind : ℕ) {i : ℕ} → ListsTerm kind → i < blockCount file → kindOf (blockAt file i) ≡ kind
       → List·Memᴰ (patternOf (blockAt file i)) (listedOf (certificateOf file) kind)
   unfolding listedOf certificateOf
-  listed-at zero low high inside k = absurd (omega arith)
-  listed-at (suc zero) low high inside k = absurd (omega arith)
-  listed-at (suc (suc zero)) {i} low high inside k =
-      Memᴰ·cast (secret-term (laid .secrets i inside k)) (Memᴰ·map asTerm (Memᴰ·map secretOf (block-listed file inside k)))
-  listed-at (suc (suc (suc zero))) low high inside k = Memᴰ·map patternOf (block-listed file inside k)
-  listed-at (suc (suc (suc (suc zero)))) low high inside k = Memᴰ·map patternOf (block-listed file inside k)
-  listed-at (suc (suc (suc (suc (suc n))))) low high inside k = absurd (omega arith)
+  listed-at kind {i} lists inside k = go (which-lists lists)
+    where
+      go : (kind ≡ secretKind) ⊎ ((kind ≡ goodKind) ⊎ (kind ≡ badKind)) → List·Memᴰ (patternOf (blockAt file i)) (listedOf (certificateOf file) kind)
+      go (inl e) = rw e
+          (Memᴰ·cast (secret-term (laid .secrets i inside (k ∙ e))) (Memᴰ·map asTerm (Memᴰ·map secretOf (block-listed file inside (k ∙ e)))))
+      go (inr (inl e)) = rw e (Memᴰ·map patternOf (block-listed file inside (k ∙ e)))
+      go (inr (inr e)) = rw e (Memᴰ·map patternOf (block-listed file inside (k ∙ e)))
 
   pattern-at : (kind : ℕ) {t : Term Variable} {b : List ℕ} → BlockOf file kind b → patternOf b ≡ t
       → (i : ℕ) × (i < blockCount file) × (kindOf (blockAt file i) ≡ kind) × (patternOf (blockAt file i) ≡ t)
   pattern-at kind w e = (w .number, w .inside, w .of-kind, ap patternOf (sym (w .same)) ∙ e)
 
-  listed-from : (kind : ℕ) {t : Term Variable} → List·Memᴰ t (listedOf (certificateOf file) kind)
+  abbrev From : ℕ → Term Variable → Type 0
+  From kind t = List·Memᴰ t (listedOf (certificateOf file) kind)
       → (i : ℕ) × (i < blockCount file) × (kindOf (blockAt file i) ≡ kind) × (patternOf (blockAt file i) ≡ t)
+
+  from-secrets : {t : Term Variable} → From secretKind t
   unfolding listedOf certificateOf
-  listed-from zero m = absurd (List·Memᴰ·not-nil m)
-  listed-from (suc zero) m = absurd (List·Memᴰ·not-nil m)
-  listed-from (suc (suc zero)) {t} m =
-      let o = Memᴰ·of-map asTerm (map secretOf (ofKind 2 (blocksOf file))) m in
-      let p = Memᴰ·of-map secretOf (ofKind 2 (blocksOf file)) (o .1) in
+  from-secrets m =
+      let o = Memᴰ·of-map asTerm (map secretOf (ofKind secretKind (blocksOf file))) m in
+      let p = Memᴰ·of-map secretOf (ofKind secretKind (blocksOf file)) (o .1) in
       let w = listed-block file (p .1) in
       let block : SecretBlock (p .0) = subst SecretBlock (sym (w .same)) (laid .secrets (w .number) (w .inside) (w .of-kind)) in
-      pattern-at 2 w (secret-term block ∙ ap asTerm (p .2) ∙ o .2)
-  listed-from (suc (suc (suc zero))) m =
-      let o = Memᴰ·of-map patternOf (ofKind 3 (blocksOf file)) m in pattern-at 3 (listed-block file (o .1)) (o .2)
-  listed-from (suc (suc (suc (suc zero)))) m =
-      let o = Memᴰ·of-map patternOf (ofKind 4 (blocksOf file)) m in pattern-at 4 (listed-block file (o .1)) (o .2)
-  listed-from (suc (suc (suc (suc (suc n))))) m = absurd (List·Memᴰ·not-nil m)
+      pattern-at secretKind w (secret-term block ∙ ap asTerm (p .2) ∙ o .2)
+
+  from-goods : {t : Term Variable} → From goodKind t
+  unfolding listedOf certificateOf
+  from-goods m = let o = Memᴰ·of-map patternOf (ofKind goodKind (blocksOf file)) m in pattern-at goodKind (listed-block file (o .1)) (o .2)
+
+  from-bads : {t : Term Variable} → From badKind t
+  unfolding listedOf certificateOf
+  from-bads m = let o = Memᴰ·of-map patternOf (ofKind badKind (blocksOf file)) m in pattern-at badKind (listed-block file (o .1)) (o .2)
+
+  listed-from : (kind : ℕ) {t : Term Variable} → From kind t
+  unfolding listedOf
+  listed-from kind {t} = elim (ℕ-discrete kind secretKind) [
+    | yes e ↦ rw e from-secrets
+    | no not-secret ↦ elim (ℕ-discrete kind goodKind) [
+      | yes e ↦ rw e from-goods
+      | no not-good ↦ elim (ℕ-discrete kind badKind) [
+        | yes e ↦ rw e from-bads
+        | no not-bad ↦ λ m. absurd (List·Memᴰ·not-nil
+            (rw (ne-eqb kind secretKind not-secret, ne-eqb kind goodKind not-good, ne-eqb kind badKind not-bad, listedOf) at m))
+      ]
+    ]
+  ]
 
   module _ (kind : ℕ) (P : Term Variable → Type 0) where
     -- One is found at a block: one is listed. None is found at any block: none is.
-    pub one-found : {i : ℕ} → 2 ≤ kind → kind ≤ 4 → i < blockCount file → HoldsAt file kind P i → AnyListed (certificateOf file) kind P
-    one-found low high inside h = record { term = _; listed = listed-at kind low high inside (h .of-kind); holds = h .holds }
+    pub one-found : {i : ℕ} → ListsTerm kind → i < blockCount file → HoldsAt file kind P i → AnyListed (certificateOf file) kind P
+    one-found lists inside h = record { term = _; listed = listed-at kind lists inside (h .of-kind); holds = h .holds }
 
     pub none-found : ((i : ℕ) → i < blockCount file → ¬ HoldsAt file kind P i) → ¬ AnyListed (certificateOf file) kind P
     none-found none s =
@@ -105,7 +127,7 @@ module _ {file : List ℕ} (laid : Laid file) where
 module _ {file : List ℕ} {kind : ℕ} {e : List ℕ} (asked : Searching file kind e) (P : Term Variable → Type 0) where
   pub found-answer : {i : ℕ} → i < blockCount file → (b : Bool) → Says b (HoldsAt file kind P i) → b ≡ true
       → (d : Dec (AnyListed (certificateOf file) kind P)) → true ≡ answer d
-  found-answer inside b says t d = sym (answer-yes d (one-found (asked .laid) kind P (asked .low) (asked .high) inside (says-yes b says t)))
+  found-answer inside b says t d = sym (answer-yes d (one-found (asked .laid) kind P (asked .lists) inside (says-yes b says t)))
 
   pub none-answer : ((i : ℕ) → i < blockCount file → ¬ HoldsAt file kind P i) → (d : Dec (AnyListed (certificateOf file) kind P)) → false ≡ answer d
   none-answer none d = sym (answer-no d (none-found (asked .laid) kind P none))

@@ -12,6 +12,7 @@ use borrow.Author.Count.{below-none, below-more}
 use lib.Dec.{eqb}
 use lib.ListN.{length, getD, drop, List·getD-eq-default}
 use borrow.Author.Tests.{eq-eqb, ne-eqb}
+use Rattle.blocks.specs.Kinds.{secretKind, goodKind}
 use Rattle.blocks.specs.Block.{blockAt, kindOf, firstEntries}
 use Rattle.terms.specs.Term.{Term, Message, Variable, variable, atom, pair, encrypted, replace, asTerm}
 use Rattle.terms.specs.Tag.{atomTag, pairTag, encryptionTag}
@@ -233,25 +234,25 @@ module _ {file : List ℕ} {i : ℕ} {e : List ℕ} (part : TermPart file i e) w
   pattern-at = ap termOf (sym (part .part))
 
   module _ (c : Certificate) (b : Bool) where
-    pub known-fault : kindOf (blockAt file i) ≡ 2 → SecretBlock (blockAt file i)
-        → ((m : Message) → termOf e ≡ asTerm m → Says b (KnownAtom c m)) → faultIf b (KnownSecret i) ≡ onKind 2 (knownSecret c) file i
+    pub known-fault : kindOf (blockAt file i) ≡ secretKind → SecretBlock (blockAt file i)
+        → ((m : Message) → termOf e ≡ asTerm m → Says b (KnownAtom c m)) → faultIf b (KnownSecret i) ≡ onKind secretKind (knownSecret c) file i
     unfolding knownSecret
     known-fault k s says =
         let is = says-answer b (says (secretOf (blockAt file i)) (message-at s)) (known-atom? c (secretOf (blockAt file i))) in
-        ap (λ (b : Bool). faultIf b (KnownSecret i)) is ∙ on-kind file 2 i (knownSecret c) k
+        ap (λ (b : Bool). faultIf b (KnownSecret i)) is ∙ on-kind file secretKind i (knownSecret c) k
 
-    pub open-fault : kindOf (blockAt file i) ≡ 2 → SecretBlock (blockAt file i)
-        → ((m : Message) → termOf e ≡ asTerm m → Says b (WeaklyClosed c m)) → faultIf (not b) (NotClosed i) ≡ onKind 2 (unclosedSecret c) file i
+    pub open-fault : kindOf (blockAt file i) ≡ secretKind → SecretBlock (blockAt file i)
+        → ((m : Message) → termOf e ≡ asTerm m → Says b (WeaklyClosed c m)) → faultIf (not b) (NotClosed i) ≡ onKind secretKind (unclosedSecret c) file i
     unfolding unclosedSecret
     open-fault k s says =
         let is = says-answer b (says (secretOf (blockAt file i)) (message-at s)) (weakly-closed? c (secretOf (blockAt file i))) in
-        fault-unless b (NotClosed i) ∙ ap (λ (b : Bool). faultUnless b (NotClosed i)) is ∙ on-kind file 2 i (unclosedSecret c) k
+        fault-unless b (NotClosed i) ∙ ap (λ (b : Bool). faultUnless b (NotClosed i)) is ∙ on-kind file secretKind i (unclosedSecret c) k
 
-    pub loose-fault : kindOf (blockAt file i) ≡ 3 → Says b (KeptKey c (termOf e)) → faultIf (not b) (KeyNotKept i) ≡ onKind 3 (unkeptKey c) file i
+    pub loose-fault : kindOf (blockAt file i) ≡ goodKind → Says b (KeptKey c (termOf e)) → faultIf (not b) (KeyNotKept i) ≡ onKind goodKind (unkeptKey c) file i
     unfolding unkeptKey
     loose-fault k says =
         let is = says-answer b (subst (λ (t : Term Variable). Says b (KeptKey c t)) (sym pattern-at) says) (kept-key? c (patternOf (blockAt file i))) in
-        fault-unless b (KeyNotKept i) ∙ ap (λ (b : Bool). faultUnless b (KeyNotKept i)) is ∙ on-kind file 3 i (unkeptKey c) k
+        fault-unless b (KeyNotKept i) ∙ ap (λ (b : Bool). faultUnless b (KeyNotKept i)) is ∙ on-kind file goodKind i (unkeptKey c) k
 
   -- The root of a good pattern is an encryption.
   pub good-root : GoodBlock (blockAt file i) → IsEncryption (termOf e)

@@ -8,6 +8,7 @@ use Prim.Native.Nat.{ℕ, _+_, _*_, _<_, _≤_}
 use native.Mathlib.Omega.{arith}
 use native.Mathlib.Decide.{ℕ-discrete, decLt}
 use lib.ListN.{length, getD}
+use Rattle.blocks.specs.Kinds.{goodKind, badKind}
 use Rattle.terms.specs.Term.{Term, Variable, encrypted}
 use Rattle.terms.specs.Place.{Place, subtermAt, StrictlyAbove}
 use Rattle.terms.specs.Entry.{size, termOf, Reads, Begins}
@@ -26,13 +27,13 @@ use Rattle.judge.proofs.ListedLaws.{no-hat-is}
 
 -- What may stand above an open place, by the answers of the searches.
 module _ {c : Certificate} {t : Term Variable} where
-  pub no-good-shares : ¬ SharesListed c 3 t → NoHat c t
+  pub no-good-shares : ¬ SharesListed c goodKind t → NoHat c t
   no-good-shares none = no-hat-is c t .1 (inl none)
 
-  pub by-bad : SharesListed c 3 t → (b : Bool) → Says b (MatchesListed c 4 t) → Says b (NoHat c t)
+  pub by-bad : SharesListed c goodKind t → (b : Bool) → Says b (MatchesListed c badKind t) → Says b (NoHat c t)
   by-bad shares b says = says-same b (λ m. no-hat-is c t .1 (inr m)) (λ n. go (no-hat-is c t .0 n)) says
     where
-      go : (SharesListed c 3 t → ⊥) ⊎ MatchesListed c 4 t → MatchesListed c 4 t
+      go : (SharesListed c goodKind t → ⊥) ⊎ MatchesListed c badKind t → MatchesListed c badKind t
       go (inl n) = absurd (n shares)
       go (inr m) = m
 

@@ -4,8 +4,10 @@ use mathlib.Core.Logic.{_↔_}
 use mathlib.Core.List.{List}
 use Prim.Native.Nat.{ℕ, _+_, _/_, _%_, _<_, _≤_}
 use native.Mathlib.Omega.{arith}
+use Rattle.blocks.specs.Kinds.{ruleKind}
+use Rattle.blocks.specs.Limits.{mostBlocks, mostEntries}
 use Rattle.blocks.specs.Block.{blockAt, kindOf, firstCount}
-use Rattle.blocks.specs.Layout.{CountsRight, atoms, term, rule}
+use Rattle.blocks.proofs.Layouts.{counts-room}
 use Rattle.blocks.proofs.Parts.{second-length}
 use Rattle.terms.specs.Entry.{size}
 use Rattle.judge.specs.declared.verdict.Counts.{Counts}
@@ -26,30 +28,25 @@ use Rattle.judge.proofs.Verdicts.{refused-iff}
 
 -- "At most 64 blocks", and 126 entries in each.
 pub record Small (f : Fault) : Type 0 where
-  pub block : blockOf f ≤ 64
-  pub place : placeOf f ≤ 126
+  pub block : blockOf f ≤ mostBlocks
+  pub place : placeOf f ≤ mostEntries
 
-few-entries : {kind first second : ℕ} → CountsRight kind first second → first + second ≤ 126
-few-entries (atoms k a c d) = omega arith
-few-entries (term k a c d e) = omega arith
-few-entries (rule k a c d) = omega arith
-
-few-blocks : {file : List ℕ} → LengthRight file → blockCount file ≤ 64
+few-blocks : {file : List ℕ} → LengthRight file → blockCount file ≤ mostBlocks
 few-blocks l = let m = l .most in omega arith
 
-block-small : {file : List ℕ} {i : ℕ} {f : Fault} → i ≤ 64 → BlockFaulty file i f → Small f
+block-small : {file : List ℕ} {i : ℕ} {f : Fault} → i ≤ mostBlocks → BlockFaulty file i f → Small f
 block-small h (checkFails e n) = rw e (record { block = h; place = omega arith })
 block-small h (kindFails e c n) = rw e (record { block = h; place = omega arith })
 block-small h (layoutFails e c k n) = rw e (record { block = h; place = omega arith })
-block-small h (atomFails e s k l n b) = rw e (record { block = h; place = omega (arith, few-entries (s .layout .counts)) })
-block-small h (entryFails e s k l n b) = rw e (record { block = h; place = omega (arith, few-entries (s .layout .counts)) })
-block-small h (patternFails e s l k r n) = rw e (record { block = h; place = omega arith })
+block-small h (atomFails e s k l n b) = rw e (record { block = h; place = omega (arith, counts-room (s .layout .counts)) })
+block-small h (entryFails e s k l n b) = rw e (record { block = h; place = omega (arith, counts-room (s .layout .counts)) })
+block-small h (patternFails e s k r n) = rw e (record { block = h; place = omega arith })
 block-small h (premiseFails e s k r n) = rw e (record { block = h; place = omega arith })
-block-small h (conclusionFails e s k r p n) = rw e (record { block = h; place = omega (arith, few-entries (s .layout .counts)) })
+block-small h (conclusionFails e s k r p n) = rw e (record { block = h; place = omega (arith, counts-room (s .layout .counts)) })
 
 -- An entry of the conclusion, counted in its block.
-rule-place : {file : List ℕ} {i k : ℕ} → Formed file → i < blockCount file → kindOf (blockAt file i) ≡ 5
-    → k < size (ruleOf (blockAt file i) .conclusion) → firstCount (blockAt file i) + k ≤ 126
+rule-place : {file : List ℕ} {i k : ℕ} → Formed file → i < blockCount file → kindOf (blockAt file i) ≡ ruleKind
+    → k < size (ruleOf (blockAt file i) .conclusion) → firstCount (blockAt file i) + k ≤ mostEntries
 unfolding ruleOf
 rule-place {file} {i} w inside is h =
     let r = laid file (w .long) (w .blocks) .rules i inside is in

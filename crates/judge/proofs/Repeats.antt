@@ -9,6 +9,7 @@ use lib.Dec.{eqb}
 use borrow.Author.Tests.{eqb-true, eqb-false}
 use lib.ListN.{length, getD, set, length-set, List·getD-eq-default}
 use lib.Seq.{getD-set-same, getD-set-other}
+use Rattle.blocks.specs.Kinds.{ruleKind}
 use Rattle.blocks.specs.Block.{blockAt, kindOf, Fitting}
 use Rattle.terms.specs.Term.{Term, Variable}
 use Rattle.terms.specs.Solve.{Says, says-same}
@@ -20,23 +21,23 @@ use Rattle.judge.specs.Laid.{Laid, RuleBlock}
 use Rattle.judge.specs.CoverEntries.{subAt, toldOf, Remembered, Forgotten, Renewed, Painted, AfterRule, Repeats, Carried}
 
 -- The block before block i, as the code finds it.
-pub rule-before : (file : List ℕ) (i : ℕ) → (i ≡ 0 → ⊥) → {k : ℕ} {b : List ℕ} → b ≡ blockAt file (i - 1) → k ≡ kindOf b → Says (eqb k 5) (AfterRule file i)
-rule-before file i some-block {k} same kind = go (eqb k 5) refl
+pub rule-before : (file : List ℕ) (i : ℕ) → (i ≡ 0 → ⊥) → {k : ℕ} {b : List ℕ} → b ≡ blockAt file (i - 1) → k ≡ kindOf b → Says (eqb k ruleKind) (AfterRule file i)
+rule-before file i some-block {k} same kind = go (eqb k ruleKind) refl
   where
-    go : (t : Bool) → eqb k 5 ≡ t → Says t (AfterRule file i)
-    go true q = record { behind = omega arith; rule = ap kindOf (sym same) ∙ sym kind ∙ eqb-true k 5 q }
-    go false q = λ after. eqb-false k 5 q (kind ∙ ap kindOf same ∙ after .rule)
+    go : (t : Bool) → eqb k ruleKind ≡ t → Says t (AfterRule file i)
+    go true q = record { behind = omega arith; rule = ap kindOf (sym same) ∙ sym kind ∙ eqb-true k ruleKind q }
+    go false q = λ after. eqb-false k ruleKind q (kind ∙ ap kindOf same ∙ after .rule)
 
 pub fitting-before : {file : List ℕ} {i : ℕ} {b : List ℕ} → Laid file → i < blockCount file → AfterRule file i → b ≡ blockAt file (i - 1) → Fitting b
 fitting-before {i = i} laid inside after same = rw same (laid .rules (i - 1) (omega (arith, after .behind)) (after .rule) .fitting)
 
-pub fitting-here : {file : List ℕ} {i : ℕ} {b : List ℕ} → Laid file → i < blockCount file → kindOf (blockAt file i) ≡ 5 → b ≡ blockAt file i → Fitting b
+pub fitting-here : {file : List ℕ} {i : ℕ} {b : List ℕ} → Laid file → i < blockCount file → kindOf (blockAt file i) ≡ ruleKind → b ≡ blockAt file i → Fitting b
 fitting-here {i = i} laid inside rule same = rw same (laid .rules i inside rule .fitting)
 
-pub rule-here : {file : List ℕ} {i : ℕ} {b : List ℕ} → Laid file → i < blockCount file → kindOf (blockAt file i) ≡ 5 → b ≡ blockAt file i → RuleBlock b
+pub rule-here : {file : List ℕ} {i : ℕ} {b : List ℕ} → Laid file → i < blockCount file → kindOf (blockAt file i) ≡ ruleKind → b ≡ blockAt file i → RuleBlock b
 rule-here {i = i} laid inside rule same = rw same (laid .rules i inside rule)
 
-pub other-kind : {b d : List ℕ} {k : ℕ} → b ≡ d → k ≡ kindOf b → ¬ (k ≡ 5) → ¬ (kindOf d ≡ 5)
+pub other-kind : {b d : List ℕ} {k : ℕ} → b ≡ d → k ≡ kindOf b → ¬ (k ≡ ruleKind) → ¬ (kindOf d ≡ ruleKind)
 other-kind same kind off five = off (kind ∙ ap kindOf same ∙ five)
 
 -- What is told of block i is told of the block that was read.
@@ -119,5 +120,5 @@ module _ {part : List ℕ → List ℕ} {P : Term Variable → Type 0} where
     pub known-next : {memo : List ℕ} → Remembered P (part (blockAt file i)) memo → Carried part P file (i + 1) memo
     known-next {memo} w = record { long = w .long; known = λ after. subst (λ (n : ℕ). Remembered P (part (blockAt file n)) memo) (sym (here i)) w }
 
-    pub other-next : {memo : List ℕ} → Carried part P file i memo → ¬ (kindOf (blockAt file i) ≡ 5) → Carried part P file (i + 1) memo
-    other-next w off = record { long = w .long; known = λ after. absurd (off (subst (λ (n : ℕ). kindOf (blockAt file n) ≡ 5) (here i) (after .rule))) }
+    pub other-next : {memo : List ℕ} → Carried part P file i memo → ¬ (kindOf (blockAt file i) ≡ ruleKind) → Carried part P file (i + 1) memo
+    other-next w off = record { long = w .long; known = λ after. absurd (off (subst (λ (n : ℕ). kindOf (blockAt file n) ≡ ruleKind) (here i) (after .rule))) }

@@ -11,7 +11,9 @@ use borrow.Author.Tests.{eq-eqb, eqb-true, not-false}
 use borrow.Rule.Slice.PartAt.{part-to-end}
 use lib.ListN.{length, getD, set, drop}
 use lib.Seq.{getD-set-same, getD-set-other, getD-drop}
+use Rattle.blocks.specs.Kinds.{secretKind}
 use Rattle.blocks.specs.Block.{blockAt, kindOf, firstEntries}
+use Rattle.blocks.proofs.KindLaws.{secret-lists}
 use Rattle.terms.specs.Term.{Term, Message, Variable, variable, atom, pair, encrypted, Sort, named, replace, asTerm}
 use Rattle.terms.specs.Tag.{atomTag, pairTag, encryptionTag, sortTag, VariableTag, SymbolTag, sort-tag, sort-tagged}
 use Rattle.terms.specs.Tag.{Tagged, isAtom, isPair, isEncryption, isVariable, isNone, tagged}
@@ -31,7 +33,7 @@ use Rattle.terms.specs.Solve.{Says, says-same}
 use Rattle.terms.specs.Decide.{answer}
 use Rattle.judge.proofs.ListedLaws.{answer-says}
 use Rattle.judge.specs.Listed.{HoldsAt, TermPart, SharesListed, IsSecret, slotFor, slotBy, slotAt, FlaggedAt, FlaggedMore, SecretSlot, RootsOf, NoRoot}
-use Rattle.judge.proofs.Listing.{none-found, term-block}
+use Rattle.judge.proofs.Listing.{none-found}
 use Rattle.judge.proofs.Numbers.{pair-message}
 
 -- ---- slots
@@ -166,8 +168,8 @@ module _ (roots : List ℕ) {n : ℕ} (inside : n < length roots) where
 
 -- One more block whose root is flagged if it is a secret's.
 pub flags-more : {file old new : List ℕ} {i : ℕ} → FlaggedMore file i old new
-    → ((j : ℕ) → j < i → kindOf (blockAt file j) ≡ 2 → FlaggedAt old (firstEntries (blockAt file j)))
-    → (j : ℕ) → j < i + 1 → kindOf (blockAt file j) ≡ 2 → FlaggedAt new (firstEntries (blockAt file j))
+    → ((j : ℕ) → j < i → kindOf (blockAt file j) ≡ secretKind → FlaggedAt old (firstEntries (blockAt file j)))
+    → (j : ℕ) → j < i + 1 → kindOf (blockAt file j) ≡ secretKind → FlaggedAt new (firstEntries (blockAt file j))
 flags-more {file} {old} {new} {i} more all j below kind = elim (ℕ-discrete j i) [
   | yes e ↦ subst (λ (n : ℕ). FlaggedAt new (firstEntries (blockAt file n))) (sym e) (more .here (ap (λ (n : ℕ). kindOf (blockAt file n)) (sym e) ∙ kind))
   | no off ↦ more .kept _ (all j (omega arith) kind)
@@ -242,11 +244,11 @@ lefts-share {s} {t} left right two other share =
 
 module _ {file roots e : List ℕ} (laid : Laid file) (flags : RootsOf file roots) (b : Begins e) (none : NoRoot roots e) where
   -- Where a secret and e's term share an instance, their roots have one slot, which is flagged.
-  apart : (i : ℕ) → i < blockCount file → kindOf (blockAt file i) ≡ 2 → Share (patternOf (blockAt file i)) (termOf e) → ⊥
+  apart : (i : ℕ) → i < blockCount file → kindOf (blockAt file i) ≡ secretKind → Share (patternOf (blockAt file i)) (termOf e) → ⊥
   unfolding patternOf
   apart i inside kind share =
       let s = firstEntries (blockAt file i) in
-      let start = term-block laid (omega arith) (omega arith) inside kind .term in
+      let start = laid .terms i inside (secret-lists kind) .term in
       let secret = laid .secrets i inside kind in
       let symbol = message-symbol start (secret .message) (secret .same) in
       tags-apart start b symbol (none .symbol) (λ tags. values-apart start b symbol (none .symbol) (λ values.
@@ -267,11 +269,11 @@ module _ {file roots e : List ℕ} (laid : Laid file) (flags : RootsOf file root
           let on : getD roots (slotAt e) 0 ≡ 1 = ap (λ (n : ℕ). getD roots n 0) (sym same) ∙ flags .flagged i inside kind in
           omega (arith, none .absent)
 
-  pub no-root-shares : ¬ SharesListed (certificateOf file) 2 (termOf e)
-  no-root-shares = none-found laid 2 (λ p. Share p (termOf e)) (λ i inside h. apart i inside (h .of-kind) (h .holds))
+  pub no-root-shares : ¬ SharesListed (certificateOf file) secretKind (termOf e)
+  no-root-shares = none-found laid secretKind (λ p. Share p (termOf e)) (λ i inside h. apart i inside (h .of-kind) (h .holds))
 
   pub no-root-secret : ¬ IsSecret (certificateOf file) (termOf e)
-  no-root-secret = none-found laid 2 (λ p. p ≡ termOf e) (λ i inside h.
+  no-root-secret = none-found laid secretKind (λ p. p ≡ termOf e) (λ i inside h.
       let secret = laid .secrets i inside (h .of-kind) in
       let itself : Matches (patternOf (blockAt file i)) (secret .message) = record { by = λ x. atom 0; same = ap (replace (λ x. atom 0)) (secret .same) ∙ replace-asTerm (λ x. atom 0) (secret .message) } in
       apart i inside (h .of-kind) (subst (Share (patternOf (blockAt file i))) (h .holds) (record { message = secret .message; left = itself; right = itself })))
@@ -306,8 +308,8 @@ instance-shares {b} secret {t} = (to, back)
         }
 
 -- As the code finds it at block i.
-pub instance-answer : {file : List ℕ} {i : ℕ} {p : List ℕ} {t : Term Variable} → Laid file → i < blockCount file → kindOf (blockAt file i) ≡ 2 → TermPart file i p
-    → (b : Bool) (d : Dec (Matches t (termOf p))) → b ≡ answer d → Says b (HoldsAt file 2 (λ s. Share s t) i)
+pub instance-answer : {file : List ℕ} {i : ℕ} {p : List ℕ} {t : Term Variable} → Laid file → i < blockCount file → kindOf (blockAt file i) ≡ secretKind → TermPart file i p
+    → (b : Bool) (d : Dec (Matches t (termOf p))) → b ≡ answer d → Says b (HoldsAt file secretKind (λ s. Share s t) i)
 unfolding patternOf
 instance-answer {file} {i} {p} {t} laid inside kind part b d is =
     let there : termOf p ≡ patternOf (blockAt file i) = ap termOf (part .part) in

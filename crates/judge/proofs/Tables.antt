@@ -5,6 +5,8 @@ use Prim.Native.Nat.{ℕ, _+_, _*_, _<_, _≤_}
 use native.Mathlib.Omega.{arith}
 use native.Mathlib.Decide.{ℕ-discrete}
 use lib.ListN.{length}
+use Rattle.blocks.specs.Kinds.{secretKind, ListsTerm}
+use Rattle.blocks.specs.Limits.{mostTermBytes}
 use Rattle.blocks.specs.Block.{blockAt, kindOf, firstEntries}
 use Rattle.blocks.proofs.Parts.{first-length}
 use Rattle.terms.specs.Term.{Term, variable, atom, pair, encrypted, replace}
@@ -16,13 +18,13 @@ use Rattle.terms.specs.WalkLaws.{from}
 use Rattle.terms.specs.Sizes.{SizedFrom, KeptBelow, sizes-at, sizes-kept}
 use Rattle.judge.specs.File.{blockCount, patternOf}
 use Rattle.judge.specs.Laid.{Laid}
-use Rattle.judge.specs.Listed.{Searching, HoldsAt, TermPart, ListsTerm, SizesBelow, SizesIn, SizeOf}
+use Rattle.judge.specs.Listed.{Searching, HoldsAt, TermPart, SizesBelow, SizesIn, SizeOf}
 use Rattle.judge.proofs.Roots.{instance-shares}
 
 -- A listed term has at most 63 entries.
-listed-short : {file : List ℕ} {i : ℕ} → Laid file → i < blockCount file → ListsTerm file i → length (firstEntries (blockAt file i)) ≤ 252
+listed-short : {file : List ℕ} {i : ℕ} → Laid file → i < blockCount file → ListsTerm (kindOf (blockAt file i)) → length (firstEntries (blockAt file i)) ≤ mostTermBytes
 listed-short {file} {i} laid inside lists =
-    let b = laid .terms i inside (lists .low) (lists .high) in
+    let b = laid .terms i inside lists in
     omega (arith, b .short, first-length (blockAt file i) (b .fitting))
 
 -- With the sizes of block i's terms filled in.
@@ -37,7 +39,7 @@ sizes-more {file} {old} {new} {e} {i} laid inside below is sized kept = record {
 }
 
 -- Block i lists no term.
-pub sizes-other : {file sizes : List ℕ} {i : ℕ} → SizesBelow file i sizes → ¬ ListsTerm file i → SizesBelow file (i + 1) sizes
+pub sizes-other : {file sizes : List ℕ} {i : ℕ} → SizesBelow file i sizes → ¬ ListsTerm (kindOf (blockAt file i)) → SizesBelow file (i + 1) sizes
 sizes-other {file} {sizes} {i} below off = record {
   long = below .long;
   at = λ j low lists. elim (ℕ-discrete j i) [
@@ -50,10 +52,10 @@ sizes-other {file} {sizes} {i} below off = record {
 pub term-sizes : {file sizes e t : List ℕ} {kind i : ℕ} → SizesIn file sizes → Searching file kind e → i < blockCount file → kindOf (blockAt file i) ≡ kind
     → t ≡ firstEntries (blockAt file i) → SizesOf t (from (64 * i) sizes)
 term-sizes {i = i} all s inside kind is =
-    rw is (all .at i inside (record { low = omega (arith, s .low); high = omega (arith, s .high) }))
+    rw is (all .at i inside (rw kind (s .lists)))
 
 -- A secret of another size is another term.
-pub other-size : {file e t : List ℕ} {i n : ℕ} → TermPart file i t → SizeOf e n → ¬ (length t ≡ 4 * n) → ¬ HoldsAt file 2 (λ p. p ≡ termOf e) i
+pub other-size : {file e t : List ℕ} {i n : ℕ} → TermPart file i t → SizeOf e n → ¬ (length t ≡ 4 * n) → ¬ HoldsAt file secretKind (λ p. p ≡ termOf e) i
 unfolding patternOf
 other-size {e = e} {t = t} part size-of off h =
     let same : termOf t ≡ termOf e = ap termOf (part .part) ∙ h .holds in
@@ -69,8 +71,8 @@ grown by (pair t u) = let left = grown by t in let right = grown by u in omega a
 grown by (encrypted k t) = let content = grown by t in omega arith
 
 -- A secret that is smaller is no instance.
-pub too-small : {file e t : List ℕ} {i n : ℕ} → Laid file → i < blockCount file → kindOf (blockAt file i) ≡ 2 → TermPart file i t → SizeOf e n → length t < 4 * n
-    → ¬ HoldsAt file 2 (λ p. Share p (termOf e)) i
+pub too-small : {file e t : List ℕ} {i n : ℕ} → Laid file → i < blockCount file → kindOf (blockAt file i) ≡ secretKind → TermPart file i t → SizeOf e n → length t < 4 * n
+    → ¬ HoldsAt file secretKind (λ p. Share p (termOf e)) i
 unfolding patternOf
 too-small {e = e} {t = t} {i = i} laid inside kind part size-of small h =
     let m = instance-shares (laid .secrets i inside kind) .1 (h .holds) in

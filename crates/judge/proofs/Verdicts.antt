@@ -7,6 +7,7 @@ use mathlib.Core.Option.{Option, none, some, Option·none-ne-some}
 use Prim.Native.Nat.{ℕ, _+_, _<_}
 use native.Mathlib.Omega.{arith}
 use lib.Dec.{eqb, leb}
+use Rattle.blocks.specs.Kinds.{secretKind, goodKind, ruleKind}
 use Rattle.blocks.specs.Block.{blockAt, kindOf, firstCount}
 use Rattle.terms.specs.declared.valid.Found.{Found}
 use Rattle.terms.specs.declared.valid.Found.the-variants.{At, Nothing}
@@ -45,11 +46,11 @@ use Rattle.judge.proofs.Members.{count-has, has-count, member-number, n
 
 -- ---- number 4
 
-missing-judged : (file : List ℕ) → Exact (HasKind 2 file × HasKind 5 file)
-    (λ g. (g ≡ Missing (blockCount file)) × (¬ (HasKind 2 file × HasKind 5 file))) (missingFault file)
+missing-judged : (file : List ℕ) → Exact (HasKind secretKind file × HasKind ruleKind file)
+    (λ g. (g ≡ Missing (blockCount file)) × (¬ (HasKind secretKind file × HasKind ruleKind file))) (missingFault file)
 unfolding missingFault
-missing-judged file = tested (leb 1 (kindCount 2 file) && leb 1 (kindCount 5 file)) (Missing (blockCount file))
-    (says-both (HasKind 2 file) (HasKind 5 file) (leb 1 (kindCount 2 file)) (leb 1 (kindCount 5 file)) (has 2) (has 5))
+missing-judged file = tested (leb 1 (kindCount secretKind file) && leb 1 (kindCount ruleKind file)) (Missing (blockCount file))
+    (says-both (HasKind secretKind file) (HasKind ruleKind file) (leb 1 (kindCount secretKind file)) (leb 1 (kindCount ruleKind file)) (has secretKind) (has ruleKind))
   where
     has : (kind : ℕ) → Says (leb 1 (kindCount kind file)) (HasKind kind file)
     has kind = says-same (leb 1 (kindCount kind file)) (count-has kind file) (has-count kind file) (says-le 1 (kindCount kind file))
@@ -148,9 +149,9 @@ module _ (certificate : Certificate) (file : List ℕ) where
   abbrev KnownWrong : ℕ → Fault → Type 0
   KnownWrong i g = (g ≡ KnownSecret i) × KnownAtom certificate (secretOf (blockAt file i))
 
-  known-judged : Exact (Every 2 file (SecretNotKnown certificate)) (KindWrong 2 file (SecretNotKnown certificate) KnownWrong) (knownFault certificate file)
+  known-judged : Exact (Every secretKind file (SecretNotKnown certificate)) (KindWrong secretKind file (SecretNotKnown certificate) KnownWrong) (knownFault certificate file)
   unfolding knownFault knownSecret
-  known-judged = kind-judged 2 (knownSecret certificate) file (λ i. go i (known-atom? certificate (secretOf (blockAt file i))))
+  known-judged = kind-judged secretKind (knownSecret certificate) file (λ i. go i (known-atom? certificate (secretOf (blockAt file i))))
     where
       go : (i : ℕ) (d : Dec (KnownAtom certificate (secretOf (blockAt file i))))
           → Exact (SecretNotKnown certificate (blockAt file i)) (KnownWrong i) (elim (answer d) [ true ↦ some (KnownSecret i) | false ↦ none ])
@@ -160,38 +161,38 @@ module _ (certificate : Certificate) (file : List ℕ) where
   abbrev ClosedWrong : ℕ → Fault → Type 0
   ClosedWrong i g = (g ≡ NotClosed i) × (¬ SecretClosed certificate (blockAt file i))
 
-  closed-judged : Exact (Every 2 file (SecretClosed certificate)) (KindWrong 2 file (SecretClosed certificate) ClosedWrong) (closedFault certificate file)
+  closed-judged : Exact (Every secretKind file (SecretClosed certificate)) (KindWrong secretKind file (SecretClosed certificate) ClosedWrong) (closedFault certificate file)
   unfolding closedFault unclosedSecret
-  closed-judged = kind-judged 2 (unclosedSecret certificate) file
+  closed-judged = kind-judged secretKind (unclosedSecret certificate) file
       (λ i. tested (answer (weakly-closed? certificate (secretOf (blockAt file i)))) (NotClosed i)
       (says-decided (weakly-closed? certificate (secretOf (blockAt file i)))))
 
   abbrev KeyWrong : ℕ → Fault → Type 0
   KeyWrong i g = (g ≡ KeyNotKept i) × (¬ RootKeyKept certificate (blockAt file i))
 
-  key-judged : Exact (Every 3 file (RootKeyKept certificate)) (KindWrong 3 file (RootKeyKept certificate) KeyWrong) (keyFault certificate file)
+  key-judged : Exact (Every goodKind file (RootKeyKept certificate)) (KindWrong goodKind file (RootKeyKept certificate) KeyWrong) (keyFault certificate file)
   unfolding keyFault unkeptKey
-  key-judged = kind-judged 3 (unkeptKey certificate) file
+  key-judged = kind-judged goodKind (unkeptKey certificate) file
       (λ i. tested (answer (kept-key? certificate (patternOf (blockAt file i)))) (KeyNotKept i)
       (says-decided (kept-key? certificate (patternOf (blockAt file i)))))
 
   abbrev RuleWrong : ℕ → Fault → Type 0
   RuleWrong i g = RuleOpen certificate (ruleOf (blockAt file i)) (λ k. Uncovered i (firstCount (blockAt file i) + k)) g
 
-  rule-judged : Exact (Every 5 file (Passing certificate)) (KindWrong 5 file (Passing certificate) RuleWrong) (ruleFault certificate file)
+  rule-judged : Exact (Every ruleKind file (Passing certificate)) (KindWrong ruleKind file (Passing certificate) RuleWrong) (ruleFault certificate file)
   unfolding ruleFault uncoveredRule
-  rule-judged = kind-judged 5 (uncoveredRule certificate) file
+  rule-judged = kind-judged ruleKind (uncoveredRule certificate) file
       (λ i. passes-judged certificate (ruleOf (blockAt file i)) (λ k. Uncovered i (firstCount (blockAt file i) + k)))
 
   abbrev Judged : Type 0
-  Judged = Every 2 file (SecretNotKnown certificate) × (Every 2 file (SecretClosed certificate)
-      × (Every 3 file (RootKeyKept certificate) × Every 5 file (Passing certificate)))
+  Judged = Every secretKind file (SecretNotKnown certificate) × (Every secretKind file (SecretClosed certificate)
+      × (Every goodKind file (RootKeyKept certificate) × Every ruleKind file (Passing certificate)))
 
   abbrev JudgedWrong : Fault → Type 0
-  JudgedWrong g = KindWrong 2 file (SecretNotKnown certificate) KnownWrong g
-      ⊎ (Every 2 file (SecretNotKnown certificate) × (KindWrong 2 file (SecretClosed certificate) ClosedWrong g
-      ⊎ (Every 2 file (SecretClosed certificate) × (KindWrong 3 file (RootKeyKept certificate) KeyWrong g
-      ⊎ (Every 3 file (RootKeyKept certificate) × KindWrong 5 file (Passing certificate) RuleWrong g)))))
+  JudgedWrong g = KindWrong secretKind file (SecretNotKnown certificate) KnownWrong g
+      ⊎ (Every secretKind file (SecretNotKnown certificate) × (KindWrong secretKind file (SecretClosed certificate) ClosedWrong g
+      ⊎ (Every secretKind file (SecretClosed certificate) × (KindWrong goodKind file (RootKeyKept certificate) KeyWrong g
+      ⊎ (Every goodKind file (RootKeyKept certificate) × KindWrong ruleKind file (Passing certificate) RuleWrong g)))))
 
   certificate-judged : Exact Judged JudgedWrong (certificateFault certificate file)
   unfolding certificateFault
@@ -209,13 +210,13 @@ module _ (file : List ℕ) where
   form-judged = first-block (blockFault file) (block-judged file) (blockCount file)
 
   abbrev Right : Type 0
-  Right = LengthRight file × (Blocks × ((HasKind 2 file × HasKind 5 file) × Judged (certificateOf file) file))
+  Right = LengthRight file × (Blocks × ((HasKind secretKind file × HasKind ruleKind file) × Judged (certificateOf file) file))
 
   abbrev Wrong : Fault → Type 0
   Wrong g = ((g ≡ Length) × (¬ LengthRight file)) ⊎ (LengthRight file
       × (FirstBlock (BlockRight file) (BlockFaulty file) 0 (blockCount file) g ⊎ (Blocks
-      × (((g ≡ Missing (blockCount file)) × (¬ (HasKind 2 file × HasKind 5 file)))
-      ⊎ ((HasKind 2 file × HasKind 5 file) × JudgedWrong (certificateOf file) file g)))))
+      × (((g ≡ Missing (blockCount file)) × (¬ (HasKind secretKind file × HasKind ruleKind file)))
+      ⊎ ((HasKind secretKind file × HasKind ruleKind file) × JudgedWrong (certificateOf file) file g)))))
 
   fault-judged : Exact (Accepts file) (RefusedWith file) (faultOf file)
   unfolding faultOf
@@ -223,7 +224,7 @@ module _ (file : List ℕ) where
       (then (lengthFault file) (length-judged file) (λ l. then (formFault file) form-judged
       (λ b. then (missingFault file) (missing-judged file) (λ h. certificate-judged (certificateOf file) file))))
     where
-      formed : LengthRight file → Blocks → HasKind 2 file × HasKind 5 file → Formed file
+      formed : LengthRight file → Blocks → HasKind secretKind file × HasKind ruleKind file → Formed file
       formed l b h = record { long = l; blocks = b; secret = h .0; rule = h .1 }
 
       to : Right → Accepts file

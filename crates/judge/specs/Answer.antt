@@ -4,6 +4,7 @@ use mathlib.Core.Bool.{cond}
 use mathlib.Core.List.{List, []}
 use Prim.Native.Nat.{ℕ, _+_, _*_}
 use lib.Dec.{eqb}
+use Rattle.blocks.specs.Limits.{blockSize}
 use Rattle.judge.specs.declared.verdict.Fault.{Fault}
 use Rattle.judge.specs.declared.verdict.Fault.the-variants.{Length, Check, Kind, Missing, Layout, AtomEntry}
 use Rattle.judge.specs.declared.verdict.Fault.the-variants.{TermEntry, NotOneTerm, KnownSecret, NotClosed, KeyNotKept, Uncovered}
@@ -58,7 +59,7 @@ partOf file (Refused f) = cond (eqb (numberOf f) 1) [] (cond (eqb (numberOf f) 4
 
 -- Where it stands in the file: at the start of its block; an empty part at the start of the file.
 unfoldable pub blockStart : List ℕ → ℕ → ℕ
-blockStart file i = cond (hasBlock file i) (512 * i) 0
+blockStart file i = cond (hasBlock file i) (blockSize * i) 0
 
 unfoldable pub partStart : List ℕ → Verdict → ℕ
 partStart file (Accepted c) = 0

@@ -7,6 +7,8 @@ use mathlib.Core.Logic.{_⊎_, _↔_}
 use mathlib.Core.Option.{some}
 use Prim.Native.Nat.{ℕ, _+_, _*_, _-_, _<_, _≤_}
 use lib.ListN.{length, getD}
+use Rattle.blocks.specs.Kinds.{ruleKind}
+use Rattle.blocks.specs.Limits.{mostTermBytes}
 use Rattle.blocks.specs.Block.{blockAt, kindOf}
 use Rattle.terms.specs.Term.{Term, Variable, variable, marked, named}
 use Rattle.terms.specs.Place.{Place, subtermAt}
@@ -104,14 +106,14 @@ pub record Laying (p e : List ℕ) (h : ℕ) : Type 0 where
   pub term : Begins (from (4 * h) e)
   pub match : Matches (termOf p) (subAt e h)
   pub inside : 4 * h ≤ length e
-  pub short : length e ≤ 252
+  pub short : length e ≤ mostTermBytes
 
 -- The file is laid, and a term stands at entry h of e.
 pub record Standing (file e : List ℕ) (h : ℕ) : Type 0 where
   pub laid : Laid file
   pub term : Begins (from (4 * h) e)
   pub inside : 4 * h < length e
-  pub short : length e ≤ 252
+  pub short : length e ≤ mostTermBytes
 
 -- A sure hat for entry k: the subterm u at entry h, a good pattern with its variables replaced by terms, a mark at or
 -- above the entry, that shares an instance with no bad pattern.
@@ -138,7 +140,7 @@ pub record Flags (flags : List ℕ) (P : ℕ → Type 0) : Type 0 where
 pub record Entries (e : List ℕ) : Type 0 where
   pub some-term : ¬ (length e ≡ 0) → Begins e
   pub whole : ¬ (length e ≡ 0) → 4 * size (termOf e) ≡ length e
-  pub short : length e ≤ 252
+  pub short : length e ≤ mostTermBytes
 
 -- Entry k is open as far as the first n entries go: every encryption among them that stands strictly above it either
 -- shares an instance with no good pattern, or is a bad pattern with its variables replaced by terms.
@@ -224,12 +226,12 @@ pub record Concluded (file e : List ℕ) : Type 0 where
   pub laid : Laid file
   pub term : Begins e
   pub whole : 4 * size (termOf e) ≡ length e
-  pub short : length e ≤ 252
+  pub short : length e ≤ mostTermBytes
 
 -- The block before block i is a rule.
 pub record AfterRule (file : List ℕ) (i : ℕ) : Type 0 where
   pub behind : 1 ≤ i
-  pub rule : kindOf (blockAt file (i - 1)) ≡ 5
+  pub rule : kindOf (blockAt file (i - 1)) ≡ ruleKind
 
 -- Block i has the same part as the rule before it.
 pub record Repeats (part : List ℕ → List ℕ) (file : List ℕ) (i : ℕ) : Type 0 where

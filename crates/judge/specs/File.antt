@@ -5,6 +5,8 @@ use mathlib.Core.Option.{Option, none, some}
 use Prim.Native.Nat.{ℕ, zero, suc, _+_, _*_, _/_}
 use lib.Dec.{eqb}
 use lib.ListN.{length, take}
+use Rattle.blocks.specs.Kinds.{secretKind, goodKind, badKind, ruleKind}
+use Rattle.blocks.specs.Limits.{blockSize}
 use Rattle.blocks.specs.Block.{blockAt, kindOf, firstCount, secondCount, entriesOf, firstEntries, secondEntries}
 use Rattle.terms.specs.Term.{Term, Message, Variable, atom, instance}
 use Rattle.terms.specs.Entry.{termOf}
@@ -19,7 +21,7 @@ blocksFrom file i (suc left) = blockAt file i ∷ blocksFrom file (suc i) left
 
 -- How many blocks a file has, and all of them.
 abbrev pub blockCount : List ℕ → ℕ
-blockCount file = length file / 512
+blockCount file = length file / blockSize
 
 unfoldable pub blocksOf : List ℕ → List (List ℕ)
 unfolding blocksFrom
@@ -38,10 +40,10 @@ kindCount kind file = length (ofKind kind (blocksOf file))
 unfoldable pub countsOf : List ℕ → Counts
 countsOf file = record {
   blocks = blockCount file;
-  secrets = kindCount 2 file;
-  goods = kindCount 3 file;
-  bads = kindCount 4 file;
-  rules = kindCount 5 file;
+  secrets = kindCount secretKind file;
+  goods = kindCount goodKind file;
+  bads = kindCount badKind file;
+  rules = kindCount ruleKind file;
 }
 
 -- The atoms of a file: those of its first block.
@@ -75,8 +77,8 @@ unfoldable pub certificateOf : List ℕ → Certificate
 unfolding blocksOf ofKind patternOf secretOf ruleOf
 certificateOf file = record {
   atoms = atomsOf (firstEntries (blockAt file 0));
-  secrets = map secretOf (ofKind 2 (blocksOf file));
-  goods = map patternOf (ofKind 3 (blocksOf file));
-  bads = map patternOf (ofKind 4 (blocksOf file));
-  rules = map ruleOf (ofKind 5 (blocksOf file));
+  secrets = map secretOf (ofKind secretKind (blocksOf file));
+  goods = map patternOf (ofKind goodKind (blocksOf file));
+  bads = map patternOf (ofKind badKind (blocksOf file));
+  rules = map ruleOf (ofKind ruleKind (blocksOf file));
 }

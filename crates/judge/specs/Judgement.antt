@@ -3,6 +3,7 @@ use mathlib.Core.Path.{_≡_}
 use mathlib.Core.List.{List}
 use mathlib.Core.Option.{Option, none, some}
 use Prim.Native.Nat.{ℕ, _<_, _≤_}
+use Rattle.blocks.specs.Kinds.{ruleKind}
 use Rattle.blocks.specs.Block.{blockAt, kindOf, firstEntries, secondEntries, Fitting}
 use Rattle.terms.specs.Each.{Each}
 use Rattle.terms.specs.OneTerm.{HasSymbol}
@@ -29,7 +30,7 @@ pub record Spelled (b : List ℕ) : Type 0 where
 pub record OnlyRulesFrom (file : List ℕ) (n : ℕ) : Type 0 where
   pub some-block : 1 ≤ n
   pub inside : n ≤ blockCount file
-  pub rules : (i : ℕ) → n ≤ i → i < blockCount file → kindOf (blockAt file i) ≡ 5
+  pub rules : (i : ℕ) → n ≤ i → i < blockCount file → kindOf (blockAt file i) ≡ ruleKind
 
 -- The head of a file judges a rule as the file does.
 pub record Heads (head file : List ℕ) : Type 0 where

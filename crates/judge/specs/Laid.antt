@@ -3,6 +3,8 @@ use mathlib.Core.Path.{_≡_}
 use mathlib.Core.List.{List}
 use Prim.Native.Nat.{ℕ, _*_, _<_, _≤_}
 use lib.ListN.{length}
+use Rattle.blocks.specs.Kinds.{secretKind, goodKind, ruleKind, ListsTerm}
+use Rattle.blocks.specs.Limits.{blockSize, mostBlocks, mostTermEntries}
 use Rattle.blocks.specs.Block.{blockAt, kindOf, firstCount, secondCount, firstEntries, secondEntries, Fitting}
 use Rattle.terms.specs.Term.{Term, Message, Variable, encrypted, asTerm}
 use Rattle.terms.specs.Entry.{Begins, termOf, size}
@@ -13,7 +15,7 @@ pub record TermBlock (b : List ℕ) : Type 0 where
   pub fitting : Fitting b
   pub term : Begins (firstEntries b)
   pub whole : 4 * size (termOf (firstEntries b)) ≡ length (firstEntries b)
-  pub short : firstCount b ≤ 63
+  pub short : firstCount b ≤ mostTermEntries
 
 -- A block of kind 5 holds a premise, or none, and a conclusion, each of at most 63 entries.
 pub record RuleBlock (b : List ℕ) : Type 0 where
@@ -22,8 +24,8 @@ pub record RuleBlock (b : List ℕ) : Type 0 where
   pub conclusion : Begins (secondEntries b)
   pub premise-whole : (firstCount b ≡ 0 → ⊥) → 4 * size (termOf (firstEntries b)) ≡ length (firstEntries b)
   pub conclusion-whole : 4 * size (termOf (secondEntries b)) ≡ length (secondEntries b)
-  pub premise-short : firstCount b ≤ 63
-  pub conclusion-short : secondCount b ≤ 63
+  pub premise-short : firstCount b ≤ mostTermEntries
+  pub conclusion-short : secondCount b ≤ mostTermEntries
 
 -- A secret has no variables.
 pub record SecretBlock (b : List ℕ) : Type 0 where
@@ -38,12 +40,12 @@ pub record GoodBlock (b : List ℕ) : Type 0 where
 
 -- The length is right, kinds do not fall from block to block, and each block holds what its kind asks for.
 pub record Laid (file : List ℕ) : Type 0 where
-  pub exact : 512 * blockCount file ≡ length file
+  pub exact : blockSize * blockCount file ≡ length file
   pub some-block : 1 ≤ blockCount file
-  pub few : blockCount file ≤ 64
+  pub few : blockCount file ≤ mostBlocks
   pub ordered : (i j : ℕ) → i ≤ j → j < blockCount file → kindOf (blockAt file i) ≤ kindOf (blockAt file j)
   pub atoms : Fitting (blockAt file 0)
-  pub terms : (i : ℕ) → i < blockCount file → 2 ≤ kindOf (blockAt file i) → kindOf (blockAt file i) ≤ 4 → TermBlock (blockAt file i)
-  pub rules : (i : ℕ) → i < blockCount file → kindOf (blockAt file i) ≡ 5 → RuleBlock (blockAt file i)
-  pub secrets : (i : ℕ) → i < blockCount file → kindOf (blockAt file i) ≡ 2 → SecretBlock (blockAt file i)
-  pub goods : (i : ℕ) → i < blockCount file → kindOf (blockAt file i) ≡ 3 → GoodBlock (blockAt file i)
+  pub terms : (i : ℕ) → i < blockCount file → ListsTerm (kindOf (blockAt file i)) → TermBlock (blockAt file i)
+  pub rules : (i : ℕ) → i < blockCount file → kindOf (blockAt file i) ≡ ruleKind → RuleBlock (blockAt file i)
+  pub secrets : (i : ℕ) → i < blockCount file → kindOf (blockAt file i) ≡ secretKind → SecretBlock (blockAt file i)
+  pub goods : (i : ℕ) → i < blockCount file → kindOf (blockAt file i) ≡ goodKind → GoodBlock (blockAt file i)

@@ -5,7 +5,10 @@ use mathlib.Core.List.{List, [], map, List·Memᴰ}
 use mathlib.Core.Logic.{_⊎_, inl, inr}
 use mathlib.Core.Option.{Option, none, some}
 use Prim.Native.Nat.{ℕ, zero, suc, _+_, _*_, _%_, _<_, _≤_}
+use lib.Dec.{eqb}
 use lib.ListN.{length, getD, drop}
+use Rattle.blocks.specs.Kinds.{secretKind, goodKind, badKind, ListsTerm}
+use Rattle.blocks.specs.Limits.{mostTermBytes}
 use Rattle.blocks.specs.Block.{blockAt, kindOf, firstEntries}
 use Rattle.terms.specs.Term.{Term, Variable, asTerm, replace}
 use Rattle.terms.specs.Instance.{Matches, Share}
@@ -24,15 +27,16 @@ use Rattle.judge.specs.File.{patternOf, blockCount}
 use Rattle.judge.specs.Laid.{Laid}
 use Rattle.judge.specs.Decisions.{same-term?, matches?, shares?}
 
--- The terms that the blocks of one kind list: 2 the secrets, 3 the good patterns, 4 the bad ones.
+-- The terms that the blocks of one kind list: secrets, good patterns or bad ones.
 unfoldable pub listedOf : Certificate → ℕ → List (Term Variable)
 unfolding asTerm replace
-listedOf c zero = []
-listedOf c (suc zero) = []
-listedOf c (suc (suc zero)) = map asTerm (c .secrets)
-listedOf c (suc (suc (suc zero))) = c .goods
-listedOf c (suc (suc (suc (suc zero)))) = c .bads
-listedOf c (suc (suc (suc (suc (suc n))))) = []
+listedOf c kind = elim (eqb kind secretKind) [
+  | true ↦ map asTerm (c .secrets)
+  | false ↦ elim (eqb kind goodKind) [
+    | true ↦ c .goods
+    | false ↦ elim (eqb kind badKind) [ true ↦ c .bads | false ↦ [] ]
+  ]
+]
 
 -- One of them has P.
 pub record AnyListed (c : Certificate) (kind : ℕ) (P : Term Variable → Type 0) : Type 0 where
@@ -63,15 +67,15 @@ shares-listed? c kind t = any-listed? c kind (λ p. shares? p t)
 
 -- A bad pattern shares an instance with the term.
 abbrev pub SharesBad : Certificate → Term Variable → Type 0
-SharesBad c t = SharesListed c 4 t
+SharesBad c t = SharesListed c badKind t
 
 -- The term, symbol for symbol, is a listed secret.
 abbrev pub IsSecret : Certificate → Term Variable → Type 0
-IsSecret c t = AnyListed c 2 (λ p. p ≡ t)
+IsSecret c t = AnyListed c secretKind (λ p. p ≡ t)
 
 unfoldable pub is-secret? : (c : Certificate) (t : Term Variable) → Dec (IsSecret c t)
 unfolding any-listed? same-term?
-is-secret? c t = any-listed? c 2 (λ p. same-term? p t)
+is-secret? c t = any-listed? c secretKind (λ p. same-term? p t)
 
 -- Block i is of this kind, and its term has P.
 pub record HoldsAt (file : List ℕ) (kind : ℕ) (P : Term Variable → Type 0) (i : ℕ) : Type 0 where
@@ -81,10 +85,9 @@ pub record HoldsAt (file : List ℕ) (kind : ℕ) (P : Term Variable → Type 0)
 -- What a search asks for: a laid file, a kind that lists terms, and entries that begin with a term.
 pub record Searching (file : List ℕ) (kind : ℕ) (e : List ℕ) : Type 0 where
   pub laid : Laid file
-  pub low : 2 ≤ kind
-  pub high : kind ≤ 4
+  pub lists : ListsTerm kind
   pub term : Begins e
-  pub short : length e ≤ 252
+  pub short : length e ≤ mostTermBytes
 
 -- The term that e begins with has n entries.
 pub record SizeOf (e : List ℕ) (n : ℕ) : Type 0 where
@@ -117,22 +120,22 @@ FlaggedAt roots e = getD roots (slotAt e) 0 ≡ 1
 pub record FlaggedMore (file : List ℕ) (i : ℕ) (old new : List ℕ) : Type 0 where
   pub long : length new ≡ 400
   pub kept : (k : ℕ) → getD old k 0 ≡ 1 → getD new k 0 ≡ 1
-  pub here : kindOf (blockAt file i) ≡ 2 → FlaggedAt new (firstEntries (blockAt file i))
+  pub here : kindOf (blockAt file i) ≡ secretKind → FlaggedAt new (firstEntries (blockAt file i))
   pub bits : ((k : ℕ) → getD old k 0 ≤ 1) → (k : ℕ) → getD new k 0 ≤ 1
   pub only : (k : ℕ) → getD new k 0 ≡ 1
-      → (getD old k 0 ≡ 1) ⊎ ((kindOf (blockAt file i) ≡ 2) × (slotAt (firstEntries (blockAt file i)) ≡ k))
+      → (getD old k 0 ≡ 1) ⊎ ((kindOf (blockAt file i) ≡ secretKind) × (slotAt (firstEntries (blockAt file i)) ≡ k))
 
 -- The root of a secret among the first n blocks has this slot.
 pub record SecretSlot (file : List ℕ) (n slot : ℕ) : Type 0 where
   pub number : ℕ
   pub before : number < n
-  pub of-kind : kindOf (blockAt file number) ≡ 2
+  pub of-kind : kindOf (blockAt file number) ≡ secretKind
   pub same : slotAt (firstEntries (blockAt file number)) ≡ slot
 
 -- The root of every secret is flagged, and nothing else; a flag is 0 or 1.
 pub record RootsOf (file roots : List ℕ) : Type 0 where
   pub long : length roots ≡ 400
-  pub flagged : (i : ℕ) → i < blockCount file → kindOf (blockAt file i) ≡ 2 → FlaggedAt roots (firstEntries (blockAt file i))
+  pub flagged : (i : ℕ) → i < blockCount file → kindOf (blockAt file i) ≡ secretKind → FlaggedAt roots (firstEntries (blockAt file i))
   pub bits : (k : ℕ) → getD roots k 0 ≤ 1
   pub only : (k : ℕ) → getD roots k 0 ≡ 1 → SecretSlot file (blockCount file) k
 
@@ -142,15 +145,10 @@ pub record NoRoot (roots e : List ℕ) : Type 0 where
   pub left-symbol : tagAt e ≡ pairTag → SymbolTag (tagAt (drop 4 e))
   pub absent : getD roots (slotAt e) 0 ≡ 0
 
--- Block i lists a term.
-pub record ListsTerm (file : List ℕ) (i : ℕ) : Type 0 where
-  pub low : 2 ≤ kindOf (blockAt file i)
-  pub high : kindOf (blockAt file i) ≤ 4
-
 -- The table has the sizes of the terms that the first n blocks list, those of block i from 64 * i on.
 pub record SizesBelow (file : List ℕ) (n : ℕ) (sizes : List ℕ) : Type 0 where
   pub long : length sizes ≡ 4096
-  pub at : (i : ℕ) → i < n → ListsTerm file i → SizesOf (firstEntries (blockAt file i)) (from (64 * i) sizes)
+  pub at : (i : ℕ) → i < n → ListsTerm (kindOf (blockAt file i)) → SizesOf (firstEntries (blockAt file i)) (from (64 * i) sizes)
 
 -- It has those of all blocks.
 abbrev pub SizesIn : List ℕ → List ℕ → Type 0
@@ -161,7 +159,7 @@ pub record TermPart (file : List ℕ) (i : ℕ) (e : List ℕ) : Type 0 where
   pub part : e ≡ firstEntries (blockAt file i)
   pub term : Begins e
   pub whole : 4 * size (termOf e) ≡ length e
-  pub short : length e ≤ 252
+  pub short : length e ≤ mostTermBytes
 
 -- A fault, if a test tells of one.
 abbrev pub faultIf : Bool → Fault → Option Fault

@@ -4,6 +4,8 @@ use mathlib.Core.Path.{_≡_}
 use mathlib.Core.List.{List}
 use Prim.Native.Nat.{ℕ, suc, _+_, _%_, _<_, _≤_}
 use lib.ListN.{length}
+use Rattle.blocks.specs.Kinds.{atomsKind, secretKind, goodKind, badKind, ruleKind, ListsTerm, HoldsTerms}
+use Rattle.blocks.specs.Limits.{blockSize, mostBytes}
 use Rattle.blocks.specs.Block.{blockAt, kindOf, firstCount, secondCount, firstEntries, secondEntries}
 use Rattle.blocks.specs.Check.{CheckRight}
 use Rattle.blocks.specs.Layout.{LayoutRight}
@@ -25,13 +27,13 @@ use Rattle.judge.specs.File.{fileAtoms, usedEntries}
 -- 1: not length 0, a multiple of 512, not above 32,768.
 pub record LengthRight (file : List ℕ) : Type 0 where
   pub some-byte : 1 ≤ length file
-  pub whole : length file % 512 ≡ 0
-  pub most : length file ≤ 32768
+  pub whole : length file % blockSize ≡ 0
+  pub most : length file ≤ mostBytes
 
 -- 3: the first block has kind 1; a later one has a kind from 2 to 5, not below that of the block before it.
 pub data KindRight (file : List ℕ) (i : ℕ) : Type 0 where
-  first : i ≡ 0 → kindOf (blockAt file i) ≡ 1 → KindRight file i
-  later : {j : ℕ} → i ≡ suc j → 2 ≤ kindOf (blockAt file i) → kindOf (blockAt file i) ≤ 5
+  first : i ≡ 0 → kindOf (blockAt file i) ≡ atomsKind → KindRight file i
+  later : {j : ℕ} → i ≡ suc j → secretKind ≤ kindOf (blockAt file i) → kindOf (blockAt file i) ≤ ruleKind
       → kindOf (blockAt file j) ≤ kindOf (blockAt file i) → KindRight file i
 
 -- Numbers 2, 3 and 5 find nothing at block i.
@@ -54,7 +56,7 @@ EntriesRight atoms b = (n : ℕ) → n < firstCount b + secondCount b → TermEn
 -- 8: the entries are exactly one term, and a pattern's root is an encryption.
 pub record PatternRight (b : List ℕ) : Type 0 where
   pub one : OneTerm (firstEntries b)
-  pub root : 3 ≤ kindOf b → kindOf b ≤ 4 → IsEncryption (termOf (firstEntries b))
+  pub root : goodKind ≤ kindOf b → kindOf b ≤ badKind → IsEncryption (termOf (firstEntries b))
 
 -- A premise of no entries is none.
 abbrev pub PremiseRight : List ℕ → Type 0
@@ -63,11 +65,11 @@ PremiseRight b = (firstCount b ≡ 0 → ⊥) → OneTerm (firstEntries b)
 -- Numbers 2, 3, 5, 6, 7 and 8 find nothing at block i.
 pub record BlockRight (file : List ℕ) (i : ℕ) : Type 0 where
   pub shaped : Shaped file i
-  pub atoms : kindOf (blockAt file i) ≡ 1 → (n : ℕ) → n < firstCount (blockAt file i) → AtomEntryRight (blockAt file i) n
-  pub entries : 2 ≤ kindOf (blockAt file i) → EntriesRight (fileAtoms file) (blockAt file i)
-  pub pattern : 2 ≤ kindOf (blockAt file i) → kindOf (blockAt file i) ≤ 4 → PatternRight (blockAt file i)
-  pub premise : kindOf (blockAt file i) ≡ 5 → PremiseRight (blockAt file i)
-  pub conclusion : kindOf (blockAt file i) ≡ 5 → OneTerm (secondEntries (blockAt file i))
+  pub atoms : kindOf (blockAt file i) ≡ atomsKind → (n : ℕ) → n < firstCount (blockAt file i) → AtomEntryRight (blockAt file i) n
+  pub entries : HoldsTerms (kindOf (blockAt file i)) → EntriesRight (fileAtoms file) (blockAt file i)
+  pub pattern : ListsTerm (kindOf (blockAt file i)) → PatternRight (blockAt file i)
+  pub premise : kindOf (blockAt file i) ≡ ruleKind → PremiseRight (blockAt file i)
+  pub conclusion : kindOf (blockAt file i) ≡ ruleKind → OneTerm (secondEntries (blockAt file i))
 
 -- What they find first: the condition fails, and what the order puts before it in this block holds.
 pub data BlockFaulty (file : List ℕ) (i : ℕ) (fault : Fault) : Type 0 where
@@ -79,19 +81,19 @@ pub data BlockFaulty (file : List ℕ) (i : ℕ) (fault : Fault) : Type 0 where
   layoutFails : fault ≡ Layout i → CheckRight (blockAt file i) → KindRight file i → ¬ LayoutRight (blockAt file i)
       → BlockFaulty file i fault
   -- 6
-  atomFails : {n : ℕ} → fault ≡ AtomEntry i n → Shaped file i → kindOf (blockAt file i) ≡ 1
+  atomFails : {n : ℕ} → fault ≡ AtomEntry i n → Shaped file i → kindOf (blockAt file i) ≡ atomsKind
       → n < firstCount (blockAt file i) → ¬ AtomEntryRight (blockAt file i) n
       → ((k : ℕ) → k < n → AtomEntryRight (blockAt file i) k) → BlockFaulty file i fault
   -- 7
-  entryFails : {n : ℕ} → fault ≡ TermEntry i n → Shaped file i → 2 ≤ kindOf (blockAt file i)
+  entryFails : {n : ℕ} → fault ≡ TermEntry i n → Shaped file i → HoldsTerms (kindOf (blockAt file i))
       → n < firstCount (blockAt file i) + secondCount (blockAt file i) → ¬ TermEntryRight (fileAtoms file) (blockAt file i) n
       → ((k : ℕ) → k < n → TermEntryRight (fileAtoms file) (blockAt file i) k) → BlockFaulty file i fault
   -- 8
-  patternFails : fault ≡ NotOneTerm i 0 → Shaped file i → 2 ≤ kindOf (blockAt file i) → kindOf (blockAt file i) ≤ 4
+  patternFails : fault ≡ NotOneTerm i 0 → Shaped file i → ListsTerm (kindOf (blockAt file i))
       → EntriesRight (fileAtoms file) (blockAt file i) → ¬ PatternRight (blockAt file i) → BlockFaulty file i fault
-  premiseFails : fault ≡ NotOneTerm i 0 → Shaped file i → kindOf (blockAt file i) ≡ 5
+  premiseFails : fault ≡ NotOneTerm i 0 → Shaped file i → kindOf (blockAt file i) ≡ ruleKind
       → EntriesRight (fileAtoms file) (blockAt file i) → ¬ PremiseRight (blockAt file i) → BlockFaulty file i fault
-  conclusionFails : fault ≡ NotOneTerm i (firstCount (blockAt file i)) → Shaped file i → kindOf (blockAt file i) ≡ 5
+  conclusionFails : fault ≡ NotOneTerm i (firstCount (blockAt file i)) → Shaped file i → kindOf (blockAt file i) ≡ ruleKind
       → EntriesRight (fileAtoms file) (blockAt file i) → PremiseRight (blockAt file i)
       → ¬ OneTerm (secondEntries (blockAt file i)) → BlockFaulty file i fault
 
@@ -105,8 +107,8 @@ pub record HasKind (kind : ℕ) (file : List ℕ) : Type 0 where
 pub record Formed (file : List ℕ) : Type 0 where
   pub long : LengthRight file
   pub blocks : (i : ℕ) → i < blockCount file → BlockRight file i
-  pub secret : HasKind 2 file
-  pub rule : HasKind 5 file
+  pub secret : HasKind secretKind file
+  pub rule : HasKind ruleKind file
 
 -- P of the blocks of this kind before block n, and of all of them.
 abbrev pub EveryBefore : ℕ → ℕ → List ℕ → (List ℕ → Type 0) → Type 0
@@ -141,10 +143,10 @@ pub record FirstUncovered (certificate : Certificate) (rule : Rule) (k : ℕ) : 
 -- Accepted: every condition of document 01 holds.
 pub record Accepts (file : List ℕ) : Type 0 where
   pub formed : Formed file
-  pub unknown : Every 2 file (SecretNotKnown (certificateOf file))
-  pub closed : Every 2 file (SecretClosed (certificateOf file))
-  pub kept : Every 3 file (RootKeyKept (certificateOf file))
-  pub passing : Every 5 file (Passing (certificateOf file))
+  pub unknown : Every secretKind file (SecretNotKnown (certificateOf file))
+  pub closed : Every secretKind file (SecretClosed (certificateOf file))
+  pub kept : Every goodKind file (RootKeyKept (certificateOf file))
+  pub passing : Every ruleKind file (Passing (certificateOf file))
 
 -- Block i is of this kind, P fails there, and holds of the blocks of this kind before it.
 pub record FirstAt (i kind : ℕ) (file : List ℕ) (P : List ℕ → Type 0) : Type 0 where
@@ -162,18 +164,18 @@ pub data RefusedWith (file : List ℕ) (fault : Fault) : Type 0 where
       → BlockFaulty file i fault → RefusedWith file fault
   -- 4
   missing : fault ≡ Missing (blockCount file) → LengthRight file → ((i : ℕ) → i < blockCount file → BlockRight file i)
-      → ¬ (HasKind 2 file × HasKind 5 file) → RefusedWith file fault
+      → ¬ (HasKind secretKind file × HasKind ruleKind file) → RefusedWith file fault
   -- 9
-  secretKnown : {i : ℕ} → fault ≡ KnownSecret i → Formed file → FirstAt i 2 file (SecretNotKnown (certificateOf file))
+  secretKnown : {i : ℕ} → fault ≡ KnownSecret i → Formed file → FirstAt i secretKind file (SecretNotKnown (certificateOf file))
       → KnownAtom (certificateOf file) (secretOf (blockAt file i)) → RefusedWith file fault
   -- 10
-  secretNotClosed : {i : ℕ} → fault ≡ NotClosed i → Formed file → Every 2 file (SecretNotKnown (certificateOf file))
-      → FirstAt i 2 file (SecretClosed (certificateOf file)) → RefusedWith file fault
+  secretNotClosed : {i : ℕ} → fault ≡ NotClosed i → Formed file → Every secretKind file (SecretNotKnown (certificateOf file))
+      → FirstAt i secretKind file (SecretClosed (certificateOf file)) → RefusedWith file fault
   -- 11
-  keyNotKept : {i : ℕ} → fault ≡ KeyNotKept i → Formed file → Every 2 file (SecretNotKnown (certificateOf file))
-      → Every 2 file (SecretClosed (certificateOf file)) → FirstAt i 3 file (RootKeyKept (certificateOf file)) → RefusedWith file fault
+  keyNotKept : {i : ℕ} → fault ≡ KeyNotKept i → Formed file → Every secretKind file (SecretNotKnown (certificateOf file))
+      → Every secretKind file (SecretClosed (certificateOf file)) → FirstAt i goodKind file (RootKeyKept (certificateOf file)) → RefusedWith file fault
   -- 12: the place is the entry's number in the block.
   placeUncovered : {i k : ℕ} → fault ≡ Uncovered i (firstCount (blockAt file i) + k) → Formed file
-      → Every 2 file (SecretNotKnown (certificateOf file)) → Every 2 file (SecretClosed (certificateOf file))
-      → Every 3 file (RootKeyKept (certificateOf file)) → FirstAt i 5 file (Passing (certificateOf file))
+      → Every secretKind file (SecretNotKnown (certificateOf file)) → Every secretKind file (SecretClosed (certificateOf file))
+      → Every goodKind file (RootKeyKept (certificateOf file)) → FirstAt i ruleKind file (Passing (certificateOf file))
       → FirstUncovered (certificateOf file) (ruleOf (blockAt file i)) k → RefusedWith file fault

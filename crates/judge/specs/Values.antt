@@ -3,6 +3,7 @@
 use mathlib.Core.List.{List, [], _∷_}
 use mathlib.Core.Option.{none, some}
 use Prim.Native.Nat.{ℕ}
+use Rattle.blocks.specs.Kinds.{secretKind, goodKind, badKind, ruleKind}
 use Rattle.judge.specs.declared.verdict.Verdict.{Verdict}
 use Rattle.judge.specs.declared.verdict.Verdict.the-variants.{Accepted, Refused}
 use Rattle.judge.specs.Answer.{numberOf, blockOf, placeOf}
@@ -26,6 +27,6 @@ judgingValues file = elim (faultOf file) [
   | some f ↦ record { number = numberOf f; values = blockOf f ∷ placeOf f ∷ [] }
   | none ↦ record {
     number = 0;
-    values = blockCount file ∷ kindCount 2 file ∷ kindCount 3 file ∷ kindCount 4 file ∷ kindCount 5 file ∷ [];
+    values = blockCount file ∷ kindCount secretKind file ∷ kindCount goodKind file ∷ kindCount badKind file ∷ kindCount ruleKind file ∷ [];
   }
 ]

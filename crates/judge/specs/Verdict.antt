@@ -7,6 +7,8 @@ use mathlib.Core.Option.{Option, none, some}
 use Prim.Native.Nat.{ℕ, zero, suc, _+_, _%_}
 use lib.Dec.{eqb, leb}
 use lib.ListN.{length}
+use Rattle.blocks.specs.Kinds.{atomsKind, secretKind, goodKind, badKind, ruleKind}
+use Rattle.blocks.specs.Limits.{blockSize, mostBytes}
 use Rattle.blocks.specs.Block.{blockAt, kindOf, firstCount, entriesOf, firstEntries, secondEntries}
 use Rattle.blocks.specs.Check.{checkRight, checkA, checkB, total, weighted}
 use Rattle.blocks.specs.Layout.{within, layoutRight, countsRight, zeroFrom, allZero}
@@ -35,7 +37,7 @@ use Rattle.judge.specs.Decisions.{known-atom?, weakly-closed?, kept-key?
 
 -- 1: "length 0, not a multiple of 512, or above 32,768".
 unfoldable pub lengthRight : List ℕ → Bool
-lengthRight file = leb 1 (length file) && (eqb (length file % 512) 0 && leb (length file) 32768)
+lengthRight file = leb 1 (length file) && (eqb (length file % blockSize) 0 && leb (length file) mostBytes)
 
 unfoldable pub lengthFault : List ℕ → Option Fault
 lengthFault file = elim (lengthRight file) [ true ↦ none | false ↦ some Length ]
@@ -44,9 +46,9 @@ lengthFault file = elim (lengthRight file) [ true ↦ none | false ↦ some Leng
 
 -- 3: the first block has kind 1; a later one has a kind from 2 to 5, not below that of the block before it.
 unfoldable pub kindRight : List ℕ → ℕ → Bool
-kindRight file zero = eqb (kindOf (blockAt file 0)) 1
+kindRight file zero = eqb (kindOf (blockAt file 0)) atomsKind
 kindRight file (suc i) =
-    within 2 5 (kindOf (blockAt file (suc i))) && leb (kindOf (blockAt file i)) (kindOf (blockAt file (suc i)))
+    within secretKind ruleKind (kindOf (blockAt file (suc i))) && leb (kindOf (blockAt file i)) (kindOf (blockAt file (suc i)))
 
 -- 6: "atom entry wrong".
 unfoldable pub atomFault : ℕ → List ℕ → Option Fault
@@ -59,7 +61,7 @@ entryFault atoms i b =
 
 -- A pattern's root is an encryption; the patterns are of kinds 3 and 4.
 unfoldable pub rootRight : ℕ → List ℕ → Bool
-rootRight kind e = elim (within 3 4 kind) [ true ↦ answer (encryption? (termOf e)) | false ↦ true ]
+rootRight kind e = elim (within goodKind badKind kind) [ true ↦ answer (encryption? (termOf e)) | false ↦ true ]
 
 -- 8: "entries are not exactly one term, or a pattern's root is no encryption". Kinds 2 to 4 hold one term.
 unfoldable pub patternFault : ℕ → List ℕ → Option Fault
@@ -80,11 +82,11 @@ rulePartsFault i b = elim (eqb (firstCount b) 0) [
 ]
 
 unfoldable pub termFault : ℕ → List ℕ → Option Fault
-termFault i b = elim (eqb (kindOf b) 5) [ true ↦ rulePartsFault i b | false ↦ patternFault i b ]
+termFault i b = elim (eqb (kindOf b) ruleKind) [ true ↦ rulePartsFault i b | false ↦ patternFault i b ]
 
 -- 6 for the atoms, else 7 and then 8.
 unfoldable pub entriesFault : List Atom → ℕ → List ℕ → Option Fault
-entriesFault atoms i b = elim (eqb (kindOf b) 1) [
+entriesFault atoms i b = elim (eqb (kindOf b) atomsKind) [
   | true ↦ atomFault i b
   | false ↦ elim (entryFault atoms i b) [ some f ↦ some f | none ↦ termFault i b ]
 ]
@@ -117,7 +119,7 @@ formFault file = formFrom file 0 (blockCount file)
 
 -- 4: "no secret or no rule".
 unfoldable pub missingFault : List ℕ → Option Fault
-missingFault file = elim (leb 1 (kindCount 2 file) && leb 1 (kindCount 5 file)) [ true ↦ none | false ↦ some (Missing (blockCount file)) ]
+missingFault file = elim (leb 1 (kindCount secretKind file) && leb 1 (kindCount ruleKind file)) [ true ↦ none | false ↦ some (Missing (blockCount file)) ]
 
 -- ---- numbers 9 to 12: the certificate
 
@@ -159,16 +161,16 @@ uncoveredRule certificate i b =
     elim (uncovered certificate (ruleOf b)) [ At k ↦ some (Uncovered i (firstCount b + k)) | Nothing ↦ none ]
 
 unfoldable pub knownFault : Certificate → List ℕ → Option Fault
-knownFault certificate file = kindFault 2 (knownSecret certificate) file
+knownFault certificate file = kindFault secretKind (knownSecret certificate) file
 
 unfoldable pub closedFault : Certificate → List ℕ → Option Fault
-closedFault certificate file = kindFault 2 (unclosedSecret certificate) file
+closedFault certificate file = kindFault secretKind (unclosedSecret certificate) file
 
 unfoldable pub keyFault : Certificate → List ℕ → Option Fault
-keyFault certificate file = kindFault 3 (unkeptKey certificate) file
+keyFault certificate file = kindFault goodKind (unkeptKey certificate) file
 
 unfoldable pub ruleFault : Certificate → List ℕ → Option Fault
-ruleFault certificate file = kindFault 5 (uncoveredRule certificate) file
+ruleFault certificate file = kindFault ruleKind (uncoveredRule certificate) file
 
 -- 9, 10, 11, 12, each over all blocks.
 unfoldable pub certificateFault : Certificate → List ℕ → Option Fault

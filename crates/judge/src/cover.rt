@@ -5,6 +5,7 @@ ghost use mathlib.Core.Path.{_≡_};
 ghost use mathlib.Core.Bool.{true};
 ghost use Prim.Native.Nat.{_+_, _*_, _<_, _≤_};
 ghost use lib.ListN.{length, getD};
+ghost use Rattle.blocks.specs.Kinds.{secretKind, goodKind};
 ghost use Rattle.blocks.specs.Block.{firstEntries, secondEntries};
 ghost use Rattle.terms.specs.Entry.{Begins, termOf, size};
 ghost use Rattle.terms.specs.Instance.{Matches};
@@ -19,6 +20,8 @@ ghost use Rattle.judge.specs.CoverEntries.{subAt, On, Raised, Cleared, M
 ghost use Rattle.judge.specs.CoverEntries.{ClosedBelow, Flagged, FlaggedWith, SomeFlagged, IndexedBelow, Indexed, Remembered, RiskyEntry, Wanted, WantedEntry, Concluded};
 use crate::flag;
 use crate::listed;
+use blocks::kinds;
+use blocks::limits;
 use terms::entry;
 use terms::matching;
 use terms::valid::Found;
@@ -52,10 +55,10 @@ fn mark_cover(p: &[u8], e: &[u8], h: usize, cover: &mut [u8; 64])
 fn lay_good(file: &[u8], i: usize, e: &[u8], h: usize, cover: &mut [u8; 64])
     requires { ⌜ Standing (now file) (now e) h × (i < blockCount (now file)) × (length (now cover) ≡ 64) ⌝ }
     ensures { λ _. ⌜ Raised (now (cover .entry)) (now (cover .exit))
-        (λ k. HoldsAt (now (file .entry)) 3 (λ p. Matches p (subAt (now (e .entry)) h) × MarkOver p (subAt (now (e .entry)) h) h k) i) ⌝ }
+        (λ k. HoldsAt (now (file .entry)) goodKind (λ p. Matches p (subAt (now (e .entry)) h) × MarkOver p (subAt (now (e .entry)) h) h k) i) ⌝ }
 {
     let block = blocks::block(file, i);
-    if blocks::kind(block) == 3 {
+    if blocks::kind(block) == kinds::GOOD {
         let p = blocks::first_entries(block);
         if matching::matches(p, &e[4 * h..]) {
             mark_cover(p, e, h, cover);
@@ -67,9 +70,9 @@ fn lay_good(file: &[u8], i: usize, e: &[u8], h: usize, cover: &mut [u8; 64])
 fn lay_goods(file: &[u8], e: &[u8], h: usize, cover: &mut [u8; 64])
     requires { ⌜ Standing (now file) (now e) h × (length (now cover) ≡ 64) ⌝ }
     ensures { λ _. ⌜ Raised (now (cover .entry)) (now (cover .exit))
-        (λ k. AnyListed (certificateOf (now (file .entry))) 3 (λ p. Matches p (subAt (now (e .entry)) h) × MarkOver p (subAt (now (e .entry)) h) h k)) ⌝ }
+        (λ k. AnyListed (certificateOf (now (file .entry))) goodKind (λ p. Matches p (subAt (now (e .entry)) h) × MarkOver p (subAt (now (e .entry)) h) h k)) ⌝ }
 {
-    let count = file.len() / 512;
+    let count = file.len() / limits::BLOCK_SIZE;
     let mut i = 0;
     while i < count {
         lay_good(file, i, e, h, cover);
@@ -80,7 +83,7 @@ fn lay_goods(file: &[u8], e: &[u8], h: usize, cover: &mut [u8; 64])
 // The entries at or below a mark of a good pattern that matches the term at entry h.
 fn marked_places(file: &[u8], e: &[u8], h: usize) -> [u8; 64]
     requires { ⌜ Standing (now file) (now e) h ⌝ }
-    ensures { λ r. ⌜ Flags r (λ k. AnyListed (certificateOf (now (file .entry))) 3 (λ p. Matches p (subAt (now (e .entry)) h) × MarkOver p (subAt (now (e .entry)) h) h k)) ⌝ }
+    ensures { λ r. ⌜ Flags r (λ k. AnyListed (certificateOf (now (file .entry))) goodKind (λ p. Matches p (subAt (now (e .entry)) h) × MarkOver p (subAt (now (e .entry)) h) h k)) ⌝ }
 {
     let mut marked = [0u8; 64];
     lay_goods(file, e, h, &mut marked);
@@ -108,7 +111,7 @@ fn shares_bad(
         return false;
     }
     let part = &z[..];
-    let answer = listed::shares_listed(file, sizes, 4, &e[4 * h..], &part[h..]);
+    let answer = listed::shares_listed(file, sizes, kinds::BAD, &e[4 * h..], &part[h..]);
     shared[h] = flag::told(answer);
     answer
 }
@@ -171,11 +174,11 @@ fn take_hats(file: &[u8], sizes: &[u8; 4096], e: &[u8], shared: &mut [u8; 64], b
 
 // Is the term such that an open place may have it above?
 fn no_hat(file: &[u8], sizes: &[u8; 4096], t: &[u8], z: &[u8]) -> bool
-    requires { ⌜ Searching (now file) 3 (now t) × SizesIn (now file) (now sizes) × SizesOf (now t) (now z) ⌝ }
+    requires { ⌜ Searching (now file) goodKind (now t) × SizesIn (now file) (now sizes) × SizesOf (now t) (now z) ⌝ }
     ensures { λ r. ⌜ Says r (NoHat (certificateOf (now (file .entry))) (termOf (now (t .entry)))) ⌝ }
 {
-    if listed::shares_listed(file, sizes, 3, t, z) {
-        listed::is_listed_match(file, 4, t)
+    if listed::shares_listed(file, sizes, kinds::GOOD, t, z) {
+        listed::is_listed_match(file, kinds::BAD, t)
     } else {
         true
     }
@@ -387,7 +390,7 @@ fn stands_at(e: &[u8], flags: &[u8; 64], index: &[u8; 400], t: &[u8]) -> bool
 
 // Is the term a listed secret?
 fn is_secret(file: &[u8], roots: &[u8; 400], t: &[u8]) -> bool
-    requires { ⌜ Searching (now file) 2 (now t) × RootsOf (now file) (now roots) ⌝ }
+    requires { ⌜ Searching (now file) secretKind (now t) × RootsOf (now file) (now roots) ⌝ }
     ensures { λ r. ⌜ Says r (IsSecret (certificateOf (now (file .entry))) (termOf (now (t .entry)))) ⌝ }
 {
     if listed::may_be_secret(roots, t) {
@@ -399,7 +402,7 @@ fn is_secret(file: &[u8], roots: &[u8; 400], t: &[u8]) -> bool
 
 // Is the term a variable, or does it share an instance with a secret?
 fn is_risky(file: &[u8], roots: &[u8; 400], t: &[u8]) -> bool
-    requires { ⌜ Searching (now file) 2 (now t) × RootsOf (now file) (now roots) ⌝ }
+    requires { ⌜ Searching (now file) secretKind (now t) × RootsOf (now file) (now roots) ⌝ }
     ensures { λ r. ⌜ Says r (Risky (certificateOf (now (file .entry))) (termOf (now (t .entry)))) ⌝ }
 {
     if t[0] > 3 {

@@ -12,6 +12,8 @@ ghost use Rattle.judge.specs.Verdict.{rulePartsFault, termFault, entries
 ghost use Rattle.judge.specs.File.{kindCount, countsOf};
 use crate::verdict::Counts;
 use crate::verdict::Fault;
+use blocks::kinds;
+use blocks::limits;
 use terms::valid;
 use terms::valid::Found;
 
@@ -29,10 +31,10 @@ pub fn length_right(file: &[u8]) -> bool
     if n < 1 {
         return false;
     }
-    if n % 512 != 0 {
+    if n % limits::BLOCK_SIZE != 0 {
         return false;
     }
-    n <= 32768
+    n <= limits::MOST_BYTES
 }
 
 // Number 3: the first block has kind 1; a later one has a kind from 2 to 5, not below that of the block before it.
@@ -42,13 +44,13 @@ fn kind_right(file: &[u8], i: usize) -> bool
 {
     let kind = blocks::kind(blocks::block(file, i));
     if i == 0 {
-        return kind == 1;
+        return kind == kinds::ATOMS;
     }
     let before = blocks::kind(blocks::block(file, i - 1));
-    if kind < 2 {
+    if kind < kinds::SECRET {
         return false;
     }
-    if 5 < kind {
+    if kinds::RULE < kind {
         return false;
     }
     before <= kind
@@ -82,10 +84,10 @@ fn root_right(kind: u8, e: &[u8]) -> bool
     requires { ⌜ Begins (now e) ⌝ }
     ensures { λ r. ⌜ r ≡ rootRight kind (now (e .entry)) ⌝ }
 {
-    if kind < 3 {
+    if kind < kinds::GOOD {
         return true;
     }
-    if 4 < kind {
+    if kinds::BAD < kind {
         return true;
     }
     valid::is_encryption(e)
@@ -139,7 +141,7 @@ fn term_fault(i: u8, block: &[u8]) -> Judged
     requires { ⌜ Spelled (now block) ⌝ }
     ensures { λ r. ⌜ r ≡ judgedOf (termFault i (now (block .entry))) ⌝ }
 {
-    if blocks::kind(block) == 5 {
+    if blocks::kind(block) == kinds::RULE {
         rule_parts_fault(i, block)
     } else {
         pattern_fault(i, block)
@@ -151,7 +153,7 @@ fn entries_fault(atoms: &[u8], i: u8, block: &[u8]) -> Judged
     requires { ⌜ Fitting (now block) ⌝ }
     ensures { λ r. ⌜ r ≡ judgedOf (entriesFault (atomsOf (now (atoms .entry))) i (now (block .entry))) ⌝ }
 {
-    if blocks::kind(block) == 1 {
+    if blocks::kind(block) == kinds::ATOMS {
         return atom_fault(i, block);
     }
     match entry_fault(atoms, i, block) {
@@ -185,7 +187,7 @@ pub fn form_fault(file: &[u8]) -> Judged
     requires { ⌜ lengthRight (now file) ≡ true ⌝ }
     ensures { λ r. ⌜ r ≡ judgedOf (formFault (now (file .entry))) ⌝ }
 {
-    let count = file.len() / 512;
+    let count = file.len() / limits::BLOCK_SIZE;
     let mut i = 0;
     while i < count {
         match block_fault(file, i) {
@@ -200,7 +202,7 @@ pub fn form_fault(file: &[u8]) -> Judged
 pub fn count_kind(file: &[u8], kind: u8) -> usize
     ensures { λ r. ⌜ (r ≡ kindCount kind (now (file .entry))) × (r ≤ blockCount (now (file .entry))) ⌝ }
 {
-    let count = file.len() / 512;
+    let count = file.len() / limits::BLOCK_SIZE;
     let mut n: usize = 0;
     let mut i = 0;
     while i < count {
@@ -217,11 +219,11 @@ pub fn missing_fault(file: &[u8]) -> Judged
     requires { ⌜ lengthRight (now file) ≡ true ⌝ }
     ensures { λ r. ⌜ r ≡ judgedOf (missingFault (now (file .entry))) ⌝ }
 {
-    let count = file.len() / 512;
-    if count_kind(file, 2) < 1 {
+    let count = file.len() / limits::BLOCK_SIZE;
+    if count_kind(file, kinds::SECRET) < 1 {
         return Judged::Faulty(Fault::Missing(count as u8));
     }
-    if count_kind(file, 5) < 1 {
+    if count_kind(file, kinds::RULE) < 1 {
         return Judged::Faulty(Fault::Missing(count as u8));
     }
     Judged::Fine
@@ -233,10 +235,10 @@ pub fn counts(file: &[u8]) -> Counts
     ensures { λ r. ⌜ r ≡ countsOf (now (file .entry)) ⌝ }
 {
     Counts {
-        blocks: (file.len() / 512) as u8,
-        secrets: count_kind(file, 2) as u8,
-        goods: count_kind(file, 3) as u8,
-        bads: count_kind(file, 4) as u8,
-        rules: count_kind(file, 5) as u8,
+        blocks: (file.len() / limits::BLOCK_SIZE) as u8,
+        secrets: count_kind(file, kinds::SECRET) as u8,
+        goods: count_kind(file, kinds::GOOD) as u8,
+        bads: count_kind(file, kinds::BAD) as u8,
+        rules: count_kind(file, kinds::RULE) as u8,
     }
 }

@@ -1,6 +1,7 @@
 // The verdict of a file: numbers 1 to 12 in document 01's order.
 ghost use mathlib.Core.Path.{_≡_};
 ghost use Prim.Native.Nat.{_+_, _<_};
+ghost use Rattle.blocks.specs.Kinds.{ruleKind};
 ghost use Rattle.blocks.specs.Block.{blockAt, kindOf, firstEntries, secondEntries};
 ghost use Rattle.terms.specs.Solve.{Says};
 ghost use Rattle.judge.specs.File.{blockCount, certificateOf, ruleOf};
@@ -19,6 +20,8 @@ use crate::form::Judged;
 use crate::listed;
 use crate::verdict::Fault;
 use crate::verdict::Verdict;
+use blocks::kinds;
+use blocks::limits;
 use terms::valid::Found;
 
 // So many blocks that only rules stand behind them: they list all secrets and patterns.
@@ -26,9 +29,9 @@ fn leading(file: &[u8]) -> usize
     requires { ⌜ Laid (now file) ⌝ }
     ensures { λ r. ⌜ OnlyRulesFrom (now (file .entry)) r ⌝ }
 {
-    let mut n = file.len() / 512;
+    let mut n = file.len() / limits::BLOCK_SIZE;
     while 1 < n {
-        if blocks::kind(blocks::block(file, n - 1)) != 5 {
+        if blocks::kind(blocks::block(file, n - 1)) != kinds::RULE {
             return n;
         }
         n -= 1;
@@ -61,12 +64,12 @@ fn is_after_rule(file: &[u8], i: usize) -> bool
     if i == 0 {
         return false;
     }
-    blocks::kind(blocks::block(file, i - 1)) == 5
+    blocks::kind(blocks::block(file, i - 1)) == kinds::RULE
 }
 
 // Has rule i the premise of the rule before it?
 fn repeats_premise(file: &[u8], i: usize) -> bool
-    requires { ⌜ Laid (now file) × (i < blockCount (now file)) × (kindOf (blockAt (now file) i) ≡ 5) ⌝ }
+    requires { ⌜ Laid (now file) × (i < blockCount (now file)) × (kindOf (blockAt (now file) i) ≡ ruleKind) ⌝ }
     ensures { λ r. ⌜ Says r (Repeats firstEntries (now (file .entry)) i) ⌝ }
 {
     if is_after_rule(file, i) {
@@ -79,7 +82,7 @@ fn repeats_premise(file: &[u8], i: usize) -> bool
 
 // Has rule i the conclusion of the rule before it?
 fn repeats_conclusion(file: &[u8], i: usize) -> bool
-    requires { ⌜ Laid (now file) × (i < blockCount (now file)) × (kindOf (blockAt (now file) i) ≡ 5) ⌝ }
+    requires { ⌜ Laid (now file) × (i < blockCount (now file)) × (kindOf (blockAt (now file) i) ≡ ruleKind) ⌝ }
     ensures { λ r. ⌜ Says r (Repeats secondEntries (now (file .entry)) i) ⌝ }
 {
     if is_after_rule(file, i) {
@@ -101,7 +104,7 @@ fn uncovered_in(
     shared: &mut [u8; 64],
     i: usize,
 ) -> Found
-    requires { ⌜ Laid (now file) × (i < blockCount (now file)) × (kindOf (blockAt (now file) i) ≡ 5) × Laid (now head) × RootsOf (now head) (now roots)
+    requires { ⌜ Laid (now file) × (i < blockCount (now file)) × (kindOf (blockAt (now file) i) ≡ ruleKind) × Laid (now head) × RootsOf (now head) (now roots)
         × Carried firstEntries (NoHat (certificateOf (now head))) (now file) i (now above)
         × Carried secondEntries (SharesBad (certificateOf (now head))) (now file) i (now shared)
         × SizesIn (now head) (now sizes) ⌝ }
@@ -128,12 +131,12 @@ fn uncovered_at(
         × Carried firstEntries (NoHat (certificateOf (now head))) (now file) i (now above)
         × Carried secondEntries (SharesBad (certificateOf (now head))) (now file) i (now shared)
         × SizesIn (now head) (now sizes) ⌝ }
-    ensures answer { λ r. ⌜ r ≡ judgedOf (onKind 5 (uncoveredRule (certificateOf (now (file .entry)))) (now (file .entry)) i) ⌝ }
+    ensures answer { λ r. ⌜ r ≡ judgedOf (onKind ruleKind (uncoveredRule (certificateOf (now (file .entry)))) (now (file .entry)) i) ⌝ }
     ensures premise { λ _. ⌜ Carried firstEntries (NoHat (certificateOf (now (head .entry)))) (now (file .entry)) (i + 1) (now (above .exit)) ⌝ }
     ensures conclusion { λ _. ⌜ Carried secondEntries (SharesBad (certificateOf (now (head .entry)))) (now (file .entry)) (i + 1) (now (shared .exit)) ⌝ }
 {
     let block = blocks::block(file, i);
-    if blocks::kind(block) != 5 {
+    if blocks::kind(block) != kinds::RULE {
         return Judged::Fine;
     }
     match uncovered_in(file, head, roots, sizes, above, shared, i) {
@@ -151,10 +154,10 @@ fn rule_fault(file: &[u8]) -> Judged
     ensures { λ r. ⌜ r ≡ judgedOf (ruleFault (certificateOf (now (file .entry))) (now (file .entry))) ⌝ }
 {
     let n = leading(file);
-    let head = &file[0..512 * n];
+    let head = &file[0..limits::BLOCK_SIZE * n];
     let roots = listed::secret_roots(head);
     let sizes = listed::listed_sizes(head);
-    let count = file.len() / 512;
+    let count = file.len() / limits::BLOCK_SIZE;
     let mut above = [0u8; 64];
     let mut shared = [0u8; 64];
     let mut i = 0;

@@ -4,6 +4,7 @@ ghost use mathlib.Core.Bool.{false};
 ghost use mathlib.Core.Logic.{_↔_};
 ghost use Prim.Native.Nat.{_+_, _*_, _<_, _≤_};
 ghost use lib.ListN.{length};
+ghost use Rattle.blocks.specs.Kinds.{secretKind, goodKind, ListsTerm};
 ghost use Rattle.blocks.specs.Block.{blockAt, kindOf, firstEntries};
 ghost use Rattle.terms.specs.Term.{Message, atom, asTerm};
 ghost use Rattle.terms.specs.Instance.{Matches, Share};
@@ -18,8 +19,10 @@ ghost use Rattle.judge.specs.Laid.{Laid, TermBlock};
 ghost use Rattle.judge.specs.Conditions.{KnownAtom, WeaklyClosed, KeptKey};
 ghost use Rattle.judge.specs.Verdict.{onKind, knownSecret, unclosedSecret, unkeptKey, knownFault, closedFault, keyFault};
 ghost use Rattle.judge.specs.Listed.{HoldsAt, Searching, TermPart, matches-listed?, shares-listed?, is-secret?, faultIf, faultFound, FoundBelow};
-ghost use Rattle.judge.specs.Listed.{slotAt, FlaggedMore, RootsOf, NoRoot, ListsTerm, SizesBelow, SizesIn, SizeOf};
+ghost use Rattle.judge.specs.Listed.{slotAt, FlaggedMore, RootsOf, NoRoot, SizesBelow, SizesIn, SizeOf};
 ghost use Rattle.judge.specs.declared.verdict.Fault.the-variants.{KnownSecret, NotClosed, KeyNotKept};
+use blocks::kinds;
+use blocks::limits;
 use terms::entry;
 use terms::matching;
 use terms::sharing;
@@ -68,7 +71,7 @@ pub fn is_listed_match(file: &[u8], kind: u8, e: &[u8]) -> bool
     requires { ⌜ Searching (now file) kind (now e) ⌝ }
     ensures { λ r. ⌜ r ≡ answer (matches-listed? (certificateOf (now (file .entry))) kind (termOf (now (e .entry)))) ⌝ }
 {
-    let count = file.len() / 512;
+    let count = file.len() / limits::BLOCK_SIZE;
     let mut left = count;
     while 0 < left {
         if matches_at(file, left - 1, kind, e) {
@@ -101,7 +104,7 @@ pub fn shares_listed(file: &[u8], sizes: &[u8; 4096], kind: u8, e: &[u8], z: &[u
     requires { ⌜ Searching (now file) kind (now e) × SizesIn (now file) (now sizes) × SizesOf (now e) (now z) ⌝ }
     ensures { λ r. ⌜ r ≡ answer (shares-listed? (certificateOf (now (file .entry))) kind (termOf (now (e .entry)))) ⌝ }
 {
-    let count = file.len() / 512;
+    let count = file.len() / limits::BLOCK_SIZE;
     let mut left = count;
     while 0 < left {
         if shares_at(file, sizes, left - 1, kind, e, z) {
@@ -117,10 +120,10 @@ pub fn shares_listed(file: &[u8], sizes: &[u8; 4096], kind: u8, e: &[u8], z: &[u
 
 // Is block i a secret's, and its secret e's term, which has n entries, symbol for symbol?
 fn same_at(file: &[u8], i: usize, e: &[u8], n: usize) -> bool
-    requires { ⌜ Searching (now file) 2 (now e) × (i < blockCount (now file)) × SizeOf (now e) n ⌝ }
-    ensures { λ r. ⌜ Says r (HoldsAt (now (file .entry)) 2 (λ p. p ≡ termOf (now (e .entry))) i) ⌝ }
+    requires { ⌜ Searching (now file) secretKind (now e) × (i < blockCount (now file)) × SizeOf (now e) n ⌝ }
+    ensures { λ r. ⌜ Says r (HoldsAt (now (file .entry)) secretKind (λ p. p ≡ termOf (now (e .entry))) i) ⌝ }
 {
-    if is_kind(file, i, 2) {
+    if is_kind(file, i, kinds::SECRET) {
         let secret = term_at(file, i);
         if secret.len() != 4 * n {
             return false;
@@ -134,17 +137,17 @@ fn same_at(file: &[u8], i: usize, e: &[u8], n: usize) -> bool
 // Is the term that e begins with, symbol for symbol, a listed secret? Asked from the first block to the first of a higher
 // kind.
 pub fn is_listed_secret(file: &[u8], e: &[u8]) -> bool
-    requires { ⌜ Searching (now file) 2 (now e) ⌝ }
+    requires { ⌜ Searching (now file) secretKind (now e) ⌝ }
     ensures { λ r. ⌜ r ≡ answer (is-secret? (certificateOf (now (file .entry))) (termOf (now (e .entry)))) ⌝ }
 {
     let n = entry::term_size(e);
-    let count = file.len() / 512;
+    let count = file.len() / limits::BLOCK_SIZE;
     let mut i = 0;
     while i < count {
         if same_at(file, i, e, n) {
             return true;
         }
-        if 2 < kind_at(file, i) {
+        if kinds::SECRET < kind_at(file, i) {
             return false;
         }
         i += 1;
@@ -155,10 +158,10 @@ pub fn is_listed_secret(file: &[u8], e: &[u8]) -> bool
 // Is block i a secret's, and its secret an instance of e's term, which has n entries? A secret has no variables: they then
 // share it. An instance has no fewer entries.
 fn instance_at(file: &[u8], i: usize, e: &[u8], n: usize) -> bool
-    requires { ⌜ Searching (now file) 2 (now e) × (i < blockCount (now file)) × SizeOf (now e) n ⌝ }
-    ensures { λ r. ⌜ Says r (HoldsAt (now (file .entry)) 2 (λ p. Share p (termOf (now (e .entry)))) i) ⌝ }
+    requires { ⌜ Searching (now file) secretKind (now e) × (i < blockCount (now file)) × SizeOf (now e) n ⌝ }
+    ensures { λ r. ⌜ Says r (HoldsAt (now (file .entry)) secretKind (λ p. Share p (termOf (now (e .entry)))) i) ⌝ }
 {
-    if is_kind(file, i, 2) {
+    if is_kind(file, i, kinds::SECRET) {
         let secret = term_at(file, i);
         if secret.len() < 4 * n {
             return false;
@@ -172,17 +175,17 @@ fn instance_at(file: &[u8], i: usize, e: &[u8], n: usize) -> bool
 // Does a listed secret share an instance with the term that e begins with? Asked from the first block to the first of a
 // higher kind.
 pub fn shares_secret(file: &[u8], e: &[u8]) -> bool
-    requires { ⌜ Searching (now file) 2 (now e) ⌝ }
-    ensures { λ r. ⌜ r ≡ answer (shares-listed? (certificateOf (now (file .entry))) 2 (termOf (now (e .entry)))) ⌝ }
+    requires { ⌜ Searching (now file) secretKind (now e) ⌝ }
+    ensures { λ r. ⌜ r ≡ answer (shares-listed? (certificateOf (now (file .entry))) secretKind (termOf (now (e .entry)))) ⌝ }
 {
     let n = entry::term_size(e);
-    let count = file.len() / 512;
+    let count = file.len() / limits::BLOCK_SIZE;
     let mut i = 0;
     while i < count {
         if instance_at(file, i, e, n) {
             return true;
         }
-        if 2 < kind_at(file, i) {
+        if kinds::SECRET < kind_at(file, i) {
             return false;
         }
         i += 1;
@@ -193,16 +196,9 @@ pub fn shares_secret(file: &[u8], e: &[u8]) -> bool
 // Does block i list a term?
 fn lists_term(file: &[u8], i: usize) -> bool
     requires { ⌜ i < blockCount (now file) ⌝ }
-    ensures { λ r. ⌜ Says r (ListsTerm (now (file .entry)) i) ⌝ }
+    ensures { λ r. ⌜ Says r (ListsTerm (kindOf (blockAt (now (file .entry)) i))) ⌝ }
 {
-    let kind = kind_at(file, i);
-    if kind < 2 {
-        return false;
-    }
-    if 4 < kind {
-        return false;
-    }
-    true
+    blocks::lists_term(kind_at(file, i))
 }
 
 // Fills in the sizes of block i's terms, if it lists one.
@@ -221,7 +217,7 @@ pub fn listed_sizes(file: &[u8]) -> [u8; 4096]
     ensures { λ r. ⌜ SizesIn (now (file .entry)) r ⌝ }
 {
     let mut sizes = [0u8; 4096];
-    let count = file.len() / 512;
+    let count = file.len() / limits::BLOCK_SIZE;
     let mut i = 0;
     while i < count {
         size_block(file, i, &mut sizes);
@@ -253,7 +249,7 @@ fn flag_root(file: &[u8], i: usize, roots: &mut [u8; 400])
     requires { ⌜ Laid (now file) × (i < blockCount (now file)) × (length (now roots) ≡ 400) ⌝ }
     ensures { λ _. ⌜ FlaggedMore (now (file .entry)) i (now (roots .entry)) (now (roots .exit)) ⌝ }
 {
-    if is_kind(file, i, 2) {
+    if is_kind(file, i, kinds::SECRET) {
         let n = root_slot(term_at(file, i));
         roots[n] = 1;
     }
@@ -265,7 +261,7 @@ pub fn secret_roots(file: &[u8]) -> [u8; 400]
     ensures { λ r. ⌜ RootsOf (now (file .entry)) r ⌝ }
 {
     let mut roots = [0u8; 400];
-    let count = file.len() / 512;
+    let count = file.len() / limits::BLOCK_SIZE;
     let mut i = 0;
     while i < count {
         flag_root(file, i, &mut roots);
@@ -312,7 +308,7 @@ fn atom_entries(file: &[u8]) -> &[u8]
 
 // Is the term that e begins with, as a message, a known atom?
 fn is_known(file: &[u8], e: &[u8]) -> bool
-    requires { ⌜ Searching (now file) 2 (now e) ⌝ }
+    requires { ⌜ Searching (now file) secretKind (now e) ⌝ }
     ensures { λ r. ⌜ ((m : Message) → termOf (now (e .entry)) ≡ asTerm m → Says r (KnownAtom (certificateOf (now (file .entry))) m)) ⌝ }
 {
     let tag = e[0];
@@ -331,9 +327,9 @@ fn is_known(file: &[u8], e: &[u8]) -> bool
 // Is block i a secret's, and its secret a known atom?
 fn known_at(file: &[u8], i: usize) -> bool
     requires { ⌜ Laid (now file) × (i < blockCount (now file)) ⌝ }
-    ensures { λ r. ⌜ faultIf r (KnownSecret i) ≡ onKind 2 (knownSecret (certificateOf (now (file .entry)))) (now (file .entry)) i ⌝ }
+    ensures { λ r. ⌜ faultIf r (KnownSecret i) ≡ onKind secretKind (knownSecret (certificateOf (now (file .entry)))) (now (file .entry)) i ⌝ }
 {
-    if is_kind(file, i, 2) {
+    if is_kind(file, i, kinds::SECRET) {
         is_known(file, term_at(file, i))
     } else {
         false
@@ -346,7 +342,7 @@ pub fn known_secret(file: &[u8]) -> Found
     ensures fault { λ r. ⌜ faultFound KnownSecret r ≡ knownFault (certificateOf (now (file .entry))) (now (file .entry)) ⌝ }
     ensures inside { λ r. ⌜ FoundBelow (blockCount (now (file .entry))) r ⌝ }
 {
-    let count = file.len() / 512;
+    let count = file.len() / limits::BLOCK_SIZE;
     let mut i = 0;
     while i < count {
         if known_at(file, i) {
@@ -359,7 +355,7 @@ pub fn known_secret(file: &[u8]) -> Found
 
 // Is the term that e begins with, as a message, weakly closed? With a pair, one half is listed; with {m}k, m or k is.
 fn is_closed(file: &[u8], e: &[u8]) -> bool
-    requires { ⌜ Searching (now file) 2 (now e) ⌝ }
+    requires { ⌜ Searching (now file) secretKind (now e) ⌝ }
     ensures { λ r. ⌜ ((m : Message) → termOf (now (e .entry)) ≡ asTerm m → Says r (WeaklyClosed (certificateOf (now (file .entry))) m)) ⌝ }
 {
     let tag = e[0];
@@ -382,9 +378,9 @@ fn is_closed(file: &[u8], e: &[u8]) -> bool
 // Is block i a secret's, and its secret not weakly closed?
 fn unclosed_at(file: &[u8], i: usize) -> bool
     requires { ⌜ Laid (now file) × (i < blockCount (now file)) ⌝ }
-    ensures { λ r. ⌜ faultIf r (NotClosed i) ≡ onKind 2 (unclosedSecret (certificateOf (now (file .entry)))) (now (file .entry)) i ⌝ }
+    ensures { λ r. ⌜ faultIf r (NotClosed i) ≡ onKind secretKind (unclosedSecret (certificateOf (now (file .entry)))) (now (file .entry)) i ⌝ }
 {
-    if is_kind(file, i, 2) {
+    if is_kind(file, i, kinds::SECRET) {
         !is_closed(file, term_at(file, i))
     } else {
         false
@@ -397,7 +393,7 @@ pub fn not_closed(file: &[u8]) -> Found
     ensures fault { λ r. ⌜ faultFound NotClosed r ≡ closedFault (certificateOf (now (file .entry))) (now (file .entry)) ⌝ }
     ensures inside { λ r. ⌜ FoundBelow (blockCount (now (file .entry))) r ⌝ }
 {
-    let count = file.len() / 512;
+    let count = file.len() / limits::BLOCK_SIZE;
     let mut i = 0;
     while i < count {
         if unclosed_at(file, i) {
@@ -423,7 +419,7 @@ fn inverse_of(file: &[u8], k: usize) -> usize
 
 // Is the inverse of the root key of the encryption that e begins with a listed secret?
 fn is_kept(file: &[u8], e: &[u8]) -> bool
-    requires { ⌜ Searching (now file) 3 (now e) × IsEncryption (termOf (now e)) ⌝ }
+    requires { ⌜ Searching (now file) goodKind (now e) × IsEncryption (termOf (now e)) ⌝ }
     ensures { λ r. ⌜ Says r (KeptKey (certificateOf (now (file .entry))) (termOf (now (e .entry)))) ⌝ }
 {
     is_listed_atom(file, inverse_of(file, entry::value(e)))
@@ -432,9 +428,9 @@ fn is_kept(file: &[u8], e: &[u8]) -> bool
 // Is block i a good pattern's, and the inverse of its root key no listed secret?
 fn unkept_at(file: &[u8], i: usize) -> bool
     requires { ⌜ Laid (now file) × (i < blockCount (now file)) ⌝ }
-    ensures { λ r. ⌜ faultIf r (KeyNotKept i) ≡ onKind 3 (unkeptKey (certificateOf (now (file .entry)))) (now (file .entry)) i ⌝ }
+    ensures { λ r. ⌜ faultIf r (KeyNotKept i) ≡ onKind goodKind (unkeptKey (certificateOf (now (file .entry)))) (now (file .entry)) i ⌝ }
 {
-    if is_kind(file, i, 3) {
+    if is_kind(file, i, kinds::GOOD) {
         !is_kept(file, term_at(file, i))
     } else {
         false
@@ -447,7 +443,7 @@ pub fn key_not_kept(file: &[u8]) -> Found
     ensures fault { λ r. ⌜ faultFound KeyNotKept r ≡ keyFault (certificateOf (now (file .entry))) (now (file .entry)) ⌝ }
     ensures inside { λ r. ⌜ FoundBelow (blockCount (now (file .entry))) r ⌝ }
 {
-    let count = file.len() / 512;
+    let count = file.len() / limits::BLOCK_SIZE;
     let mut i = 0;
     while i < count {
         if unkept_at(file, i) {

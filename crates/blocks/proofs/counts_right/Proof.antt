@@ -26,21 +26,21 @@ counts-right-spec = tie.close (tie.spec
     let at = c .before .before in
     let rule = sym (counts-of-rule _ _ _ (at .before .if1 .left) (at .if3 .taken)) in
     and-left _ (c .before .is-within2 .ensures) (c .if4 .left) ∙ rule)  -- returns-4
-    (λ c κs. search needs)  -- is-within-requires-4
+    (λ c κs. search needs)  -- lists-term-requires
     (λ c.
     let at = c .before .before in
     let term = sym (counts-of-term _ _ _ (at .before .if1 .left) (at .if3 .left)) in
     let other = not-true _ (c .if5 .taken) in
-    sym other ∙ and-left _ (c .before .is-within4 .ensures) other ∙ term)  -- returns-5
-    (λ c κs. search needs)  -- is-within-requires-5
+    sym other ∙ and-left _ (c .before .lists-term .ensures) other ∙ term)  -- returns-5
+    (λ c κs. search needs)  -- is-within-requires-4
     (λ c.
     let at = c .before .before .before in
     let term = sym (counts-of-term _ _ _ (at .before .before .if1 .left) (at .before .if3 .left)) in
-    let kinds = and-taken (at .is-within4 .ensures) (not-false _ (c .before .before .if5 .left)) in
-    and-taken (c .before .is-within5 .ensures) (c .if6 .taken) ∙ kinds ∙ term)  -- returns-6
+    let kinds = and-taken (at .lists-term .ensures) (not-false _ (c .before .before .if5 .left)) in
+    and-taken (c .before .is-within4 .ensures) (c .if6 .taken) ∙ kinds ∙ term)  -- returns-6
     (λ c.
     let at = c .before .before .before in
     let term = sym (counts-of-term _ _ _ (at .before .before .if1 .left) (at .before .if3 .left)) in
-    let kinds = and-taken (at .is-within4 .ensures) (not-false _ (c .before .before .if5 .left)) in
-    and-left _ (c .before .is-within5 .ensures) (c .if6 .left) ∙ kinds ∙ term)  -- returns-7
+    let kinds = and-taken (at .lists-term .ensures) (not-false _ (c .before .before .if5 .left)) in
+    and-left _ (c .before .is-within4 .ensures) (c .if6 .left) ∙ kinds ∙ term)  -- returns-7
     )

@@ -3,6 +3,7 @@ use borrow.Author.Needs.{needs}
 use Prim.Native.Nat.{ℕ, _≤_, _<_, _-_}
 use borrow.Author.Count.{below-none, below-more}
 use lib.ListN.{length}
+use Rattle.blocks.specs.Limits.{mostTermEntries}
 use Rattle.terms.specs.Decisions.{says-yes, says-no}
 use Rattle.judge.specs.File.{certificateOf}
 use Rattle.judge.specs.Listed.{IsSecret}
@@ -12,7 +13,7 @@ use Rattle.judge.proofs.cover.is_dead.Statement.{statement}
 use Rattle.judge.proofs.cover.is_dead.Tie as tie
 
 abbrev Inv-loop : tie.InvT-loop
-Inv-loop file roots e opened k₀ k = (k ≤ 63) × ((j : ℕ) → j < k → ¬ FlaggedWith e opened (IsSecret (certificateOf file)) j)
+Inv-loop file roots e opened k₀ k = (k ≤ mostTermEntries) × ((j : ℕ) → j < k → ¬ FlaggedWith e opened (IsSecret (certificateOf file)) j)
 
 abbrev μ-loop : tie.MeasureT-loop
 μ-loop file roots e opened k₀ k = length e - k

@@ -1,5 +1,7 @@
 -- `judge::cover::no_hat_at` meets its contract. Assumes nothing.
+use mathlib.Core.Path.{refl}
 use borrow.Author.Needs.{needs}
+use Rattle.blocks.proofs.KindLaws.{good-lists}
 use Rattle.terms.specs.Sizes.{sizes-part}
 use Rattle.judge.proofs.Hats.{searching-at}
 use Rattle.judge.proofs.Repeats.{remembered-more}
@@ -18,7 +20,7 @@ no-hat-at-spec = tie.close (tie.spec
     (λ c. let inside = c .before .before .before .before .before .before .before .pre .0 .inside in let short = c .before .before .before .before .before .before .before .pre .0 .short in search needs)  -- sub-no-hat-2
     (λ c. let inside = c .before .before .before .before .before .before .before .pre .0 .inside in let short = c .before .before .before .before .before .before .before .pre .0 .short in search needs)  -- part-no-hat-start-2
     (λ c. let inside = c .before .before .before .before .before .before .before .pre .0 .inside in let short = c .before .before .before .before .before .before .before .pre .0 .short in search needs)  -- part-no-hat-end-2
-    (λ c κs. let start = c .before .before .before .before .before .before .before .before in let pre = start .pre in (searching-at (pre .0) (search needs) (search needs), pre .2, sizes-part (start .args .h) (pre .3)))  -- no-hat-requires
+    (λ c κs. let start = c .before .before .before .before .before .before .before .before in let pre = start .pre in (searching-at (pre .0) (good-lists refl), pre .2, sizes-part (start .args .h) (pre .3)))  -- no-hat-requires
     (λ c κs. search needs)  -- told-requires
     (λ c. let long = c .before .before .before .before .before .before .before .before .before .before .pre .1 .long in let inside = c .before .before .before .before .before .before .before .before .before .before .pre .0 .inside in let short = c .before .before .before .before .before .before .before .before .before .before .pre .0 .short in search needs)  -- element-write-above
     (λ c. let told = c .before .no-hat in let answer = told .ensures in let inside = c .before .before .before .before .before .before .before .before .before .before .pre .0 .inside in let short = c .before .before .before .before .before .before .before .before .before .before .pre .0 .short in

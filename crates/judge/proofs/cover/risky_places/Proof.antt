@@ -1,7 +1,9 @@
 -- `judge::cover::risky_places` meets its contract: the flags before entry k are on where it is risky. Assumes nothing.
+use mathlib.Core.Path.{refl}
 use borrow.Author.Needs.{needs}
 use native.Mathlib.Omega.{arith}
 use Prim.Native.Nat.{_≤_, _-_}
+use Rattle.blocks.proofs.KindLaws.{secret-lists}
 use Rattle.terms.specs.Entry.{termOf, size}
 use Rattle.judge.specs.Cover.{Risky}
 use Rattle.judge.specs.File.{certificateOf}
@@ -25,7 +27,7 @@ risky-places-spec = tie.close (tie.spec Inv-loop μ-loop
     (λ c. search needs)  -- sub-is-risky
     (λ c. search needs)  -- part-is-risky-start
     (λ c. search needs)  -- part-is-risky-end
-    (λ c κs. let pre = c .before .before .before .before .before .pre in let whole = pre .0 .whole in (searching-at (standing-concluded (pre .0) (search needs)) (search needs) (search needs), pre .1))  -- is-risky-requires
+    (λ c κs. let pre = c .before .before .before .before .before .pre in let whole = pre .0 .whole in (searching-at (standing-concluded (pre .0) (search needs)) (secret-lists refl), pre .1))  -- is-risky-requires
     (λ c κs. search needs)  -- flag-of-requires
     (λ c. let whole = c .before .before .before .before .before .before .before .pre .0 .whole in let short = c .before .before .before .before .before .before .before .pre .0 .short in search needs)  -- array-write-risky
     (λ c. search needs)  -- add-k

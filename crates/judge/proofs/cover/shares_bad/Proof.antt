@@ -1,5 +1,7 @@
 -- `judge::cover::shares_bad` meets its contract. Assumes nothing.
+use mathlib.Core.Path.{refl}
 use borrow.Author.Needs.{needs}
+use Rattle.blocks.proofs.KindLaws.{bad-lists}
 use Rattle.terms.specs.Sizes.{sizes-part}
 use Rattle.judge.proofs.Hats.{searching-at}
 use Rattle.judge.proofs.Repeats.{remembered-more}
@@ -20,7 +22,7 @@ shares-bad-spec = tie.close (tie.spec
     (λ c. let inside = c .before .before .before .before .before .before .before .pre .0 .inside in let short = c .before .before .before .before .before .before .before .pre .0 .short in search needs)  -- sub-shares-listed-2
     (λ c. let inside = c .before .before .before .before .before .before .before .pre .0 .inside in let short = c .before .before .before .before .before .before .before .pre .0 .short in search needs)  -- part-shares-listed-start-2
     (λ c. let inside = c .before .before .before .before .before .before .before .pre .0 .inside in let short = c .before .before .before .before .before .before .before .pre .0 .short in search needs)  -- part-shares-listed-end-2
-    (λ c κs. let start = c .before .before .before .before .before .before .before .before in let pre = start .pre in (searching-at (pre .0) (search needs) (search needs), pre .2, sizes-part (start .args .h) (pre .3)))  -- shares-listed-requires
+    (λ c κs. let start = c .before .before .before .before .before .before .before .before in let pre = start .pre in (searching-at (pre .0) (bad-lists refl), pre .2, sizes-part (start .args .h) (pre .3)))  -- shares-listed-requires
     (λ c κs. search needs)  -- told-requires
     (λ c. let long = c .before .before .before .before .before .before .before .before .before .before .pre .1 .long in let inside = c .before .before .before .before .before .before .before .before .before .before .pre .0 .inside in let short = c .before .before .before .before .before .before .before .before .before .before .pre .0 .short in search needs)  -- element-write-shared
     (λ c. let told = c .before .shares-listed in let answer = answer-says (told .result) (shares-listed? _ _ _) (told .ensures) in let inside = c .before .before .before .before .before .before .before .before .before .before .pre .0 .inside in

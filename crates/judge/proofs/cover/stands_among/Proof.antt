@@ -3,6 +3,7 @@ use borrow.Author.Needs.{needs}
 use Prim.Native.Nat.{ℕ, _≤_, _<_, _-_}
 use borrow.Author.Count.{below-none, below-more}
 use lib.ListN.{length}
+use Rattle.blocks.specs.Limits.{mostTermEntries}
 use Rattle.terms.specs.Decisions.{says-yes, says-no}
 use mathlib.Core.Path.{_≡_}
 use Rattle.terms.specs.Entry.{termOf}
@@ -12,7 +13,7 @@ use Rattle.judge.proofs.cover.stands_among.Statement.{statement}
 use Rattle.judge.proofs.cover.stands_among.Tie as tie
 
 abbrev Inv-loop : tie.InvT-loop
-Inv-loop e flags t k₀ k = (k ≤ 63) × ((j : ℕ) → j < k → ¬ FlaggedWith e flags (λ s. s ≡ termOf t) j)
+Inv-loop e flags t k₀ k = (k ≤ mostTermEntries) × ((j : ℕ) → j < k → ¬ FlaggedWith e flags (λ s. s ≡ termOf t) j)
 
 abbrev μ-loop : tie.MeasureT-loop
 μ-loop e flags t k₀ k = length e - k

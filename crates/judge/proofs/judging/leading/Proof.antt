@@ -2,6 +2,7 @@
 use mathlib.Core.Path.{_≡_, sym, ap, _∙_}
 use Prim.Native.Nat.{ℕ, _<_, _≤_}
 use native.Mathlib.Omega.{arith}
+use Rattle.blocks.specs.Kinds.{ruleKind}
 use Rattle.blocks.specs.Block.{blockAt, kindOf}
 use Rattle.judge.specs.File.{blockCount}
 use Rattle.judge.proofs.Listing.{above-more}
@@ -10,7 +11,7 @@ use Rattle.judge.proofs.judging.leading.Statement.{statement}
 use Rattle.judge.proofs.judging.leading.Tie as tie
 
 abbrev Inv-loop : tie.InvT-loop
-Inv-loop file n₀ n = (1 ≤ n) × (n ≤ blockCount file) × ((i : ℕ) → n ≤ i → i < blockCount file → kindOf (blockAt file i) ≡ 5)
+Inv-loop file n₀ n = (1 ≤ n) × (n ≤ blockCount file) × ((i : ℕ) → n ≤ i → i < blockCount file → kindOf (blockAt file i) ≡ ruleKind)
 
 abbrev μ-loop : tie.MeasureT-loop
 μ-loop file n₀ n = n

@@ -2,6 +2,7 @@
 use borrow.Author.Needs.{needs}
 use mathlib.Core.Path.{_≡_, sym, _∙_}
 use Prim.Native.Nat.{_-_, _≤_}
+use Rattle.blocks.specs.Kinds.{ruleKind}
 use Rattle.blocks.specs.Block.{firstEntries, secondEntries}
 use Rattle.judge.specs.Cover.{NoHat}
 use Rattle.judge.specs.Listed.{SharesBad}
@@ -17,7 +18,7 @@ use Rattle.judge.proofs.judging.rule_fault.Tie as tie
 
 abbrev Inv-loop : tie.InvT-loop
 Inv-loop file n head roots sizes count above₀ shared₀ i₀ above shared i =
-    (i ≤ blockCount file) × (firstFault (onKind 5 (uncoveredRule (certificateOf file)) file) i (blockCount file - i) ≡ ruleFault (certificateOf file) file)
+    (i ≤ blockCount file) × (firstFault (onKind ruleKind (uncoveredRule (certificateOf file)) file) i (blockCount file - i) ≡ ruleFault (certificateOf file) file)
     × Carried firstEntries (NoHat (certificateOf head)) file i above × Carried secondEntries (SharesBad (certificateOf head)) file i shared
 
 abbrev μ-loop : tie.MeasureT-loop

@@ -1,9 +1,10 @@
 -- `judge::listed::flag_root` meets its contract. Assumes nothing.
-use mathlib.Core.Path.{sym, ap, _∙_}
+use mathlib.Core.Path.{refl, sym, ap, _∙_}
 use mathlib.Core.Logic.{inl, inr, ⊎-elim}
 use Prim.Native.Nat.{_<_}
 use native.Mathlib.Omega.{arith}
 use lib.ListN.{length, length-set}
+use Rattle.blocks.proofs.KindLaws.{secret-lists}
 use Rattle.terms.specs.Decisions.{says-yes, says-no}
 use Rattle.judge.specs.Listed.{slotAt}
 use Rattle.judge.proofs.Listing.{term-block}
@@ -18,7 +19,7 @@ flag-root-spec = tie.close (tie.spec
     (λ c κs. search needs)  -- is-kind-requires
     (λ c κs.
     let pre = c .before .before .before .pre in
-    (pre .1, term-block (pre .0) (omega arith) (omega arith) (pre .1) (says-yes (c .before .is-kind .result) (c .before .is-kind .ensures) (c .if1 .taken))))  -- term-at-requires
+    (pre .1, term-block (pre .0) (secret-lists refl) (pre .1) (says-yes (c .before .is-kind .result) (c .before .is-kind .ensures) (c .if1 .taken))))  -- term-at-requires
     (λ c κs. c .term-at .ensures .term)  -- root-slot-requires
     (λ c. search needs)  -- element-write-roots
     (λ c.

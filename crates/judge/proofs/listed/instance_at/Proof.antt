@@ -14,7 +14,7 @@ pub instance-at-spec : {M : Type 1} → statement M
 instance-at-spec = tie.close (tie.spec
     (λ c κs. search needs)  -- is-kind-requires
     (λ c κs. let pre = c .before .before .before .before .pre in let k = c .before .is-kind in
-    block-there (pre .0 .laid) (pre .0 .low) (pre .0 .high) (pre .1) (k .result) (k .ensures) (c .if1 .taken))  -- term-at-requires
+    block-there (pre .0 .laid) (pre .0 .lists) (pre .1) (k .result) (k .ensures) (c .if1 .taken))  -- term-at-requires
     (λ c. let fits = c .before .before .before .before .before .pre .2 .fits in let short = c .before .before .before .before .before .pre .0 .short in search needs)  -- mul-if2
     (λ c. let pre = c .before .before .before .before .before .before .pre in let k = c .before .before .before .is-kind in
     too-small (pre .0 .laid) (pre .1) (says-yes (k .result) (k .ensures) (c .before .before .if1 .taken)) (c .before .term-at .ensures) (pre .2) (c .if2 .taken))  -- returns

@@ -1,6 +1,7 @@
 -- `judge::listed::is_listed_atom` meets its contract. Assumes nothing.
 use mathlib.Core.Path.{refl}
 use borrow.Author.Needs.{needs}
+use Rattle.blocks.proofs.KindLaws.{secret-lists}
 use Rattle.terms.specs.EntryLaws.{begins}
 use Rattle.judge.specs.File.{certificateOf}
 use Rattle.judge.proofs.Numbers.{one-atom, atom-says}
@@ -15,8 +16,7 @@ is-listed-atom-spec = tie.close (tie.spec
     (λ c κs.
     record {
       laid = c .before .before .pre .0;
-      low = search needs;
-      high = search needs;
+      lists = secret-lists refl;
       term = begins (one-atom (c .before .before .args .a));
       short = search needs;
     })  -- is-listed-secret-requires

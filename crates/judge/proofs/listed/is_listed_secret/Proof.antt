@@ -4,6 +4,7 @@ use native.Mathlib.Omega.{arith}
 use borrow.Author.Needs.{needs}
 use borrow.Author.Count.{below-none, below-more}
 use mathlib.Core.Path.{_≡_}
+use Rattle.blocks.specs.Kinds.{secretKind}
 use Rattle.terms.specs.Entry.{termOf}
 use Rattle.terms.specs.Decisions.{says-no}
 use Rattle.judge.specs.File.{blockCount}
@@ -13,7 +14,7 @@ use Rattle.judge.proofs.listed.is_listed_secret.Statement.{statement}
 use Rattle.judge.proofs.listed.is_listed_secret.Tie as tie
 
 abbrev Inv-loop : tie.InvT-loop
-Inv-loop file e n count i₀ i = (i ≤ blockCount file) × ((k : ℕ) → k < i → ¬ HoldsAt file 2 (λ p. p ≡ termOf e) k)
+Inv-loop file e n count i₀ i = (i ≤ blockCount file) × ((k : ℕ) → k < i → ¬ HoldsAt file secretKind (λ p. p ≡ termOf e) k)
 
 abbrev μ-loop : tie.MeasureT-loop
 μ-loop file e n count i₀ i = blockCount file - i

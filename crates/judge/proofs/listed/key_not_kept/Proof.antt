@@ -1,6 +1,7 @@
 -- `judge::listed::key_not_kept` meets its contract: no block before block i has the fault. Assumes nothing.
 use Prim.Native.Nat.{_-_}
 use borrow.Author.Needs.{needs}
+use Rattle.blocks.specs.Kinds.{goodKind}
 use Rattle.judge.specs.declared.verdict.Fault.the-variants.{KeyNotKept}
 use Rattle.judge.specs.File.{blockCount, certificateOf}
 use Rattle.judge.specs.Verdict.{onKind, unkeptKey, kindFault, keyFault}
@@ -9,7 +10,7 @@ use Rattle.judge.proofs.listed.key_not_kept.Statement.{statement}
 use Rattle.judge.proofs.listed.key_not_kept.Tie as tie
 
 abbrev Inv-loop : tie.InvT-loop
-Inv-loop file count i₀ i = FaultFree (onKind 3 (unkeptKey (certificateOf file)) file) (blockCount file) i
+Inv-loop file count i₀ i = FaultFree (onKind goodKind (unkeptKey (certificateOf file)) file) (blockCount file) i
 
 abbrev μ-loop : tie.MeasureT-loop
 μ-loop file count i₀ i = blockCount file - i

@@ -1,5 +1,7 @@
 -- `judge::listed::known_at` meets its contract. Assumes nothing.
+use mathlib.Core.Path.{refl}
 use borrow.Author.Needs.{needs}
+use Rattle.blocks.proofs.KindLaws.{secret-lists}
 use Rattle.terms.specs.Decisions.{says-yes, says-no}
 use Rattle.judge.specs.File.{certificateOf}
 use Rattle.judge.specs.Verdict.{knownSecret}
@@ -12,7 +14,7 @@ pub known-at-spec : {M : Type 1} → statement M
 known-at-spec = tie.close (tie.spec
     (λ c κs. search needs)  -- is-kind-requires
     (λ c κs. let s = c .before .before .before in let k = c .before .is-kind in
-    block-there (s .pre .0) (search needs) (search needs) (s .pre .1) (k .result) (k .ensures) (c .if1 .taken))  -- term-at-requires
+    block-there (s .pre .0) (secret-lists refl) (s .pre .1) (k .result) (k .ensures) (c .if1 .taken))  -- term-at-requires
     (λ c κs. search needs)  -- is-known-requires
     (λ c. let is-kind = c .before .before .before .is-kind in let s = c .before .before .before .before .before in let k = is-kind in
     let kind = says-yes (k .result) (k .ensures) (c .before .before .if1 .taken) in

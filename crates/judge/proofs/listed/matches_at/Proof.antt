@@ -12,7 +12,7 @@ pub matches-at-spec : {M : Type 1} → statement M
 matches-at-spec = tie.close (tie.spec
     (λ c κs. search needs)  -- is-kind-requires
     (λ c κs. let pre = c .before .before .before .before .pre in let k = c .before .is-kind in
-    block-there (pre .0 .laid) (pre .0 .low) (pre .0 .high) (pre .1) (k .result) (k .ensures) (c .if1 .taken))  -- term-at-requires
+    block-there (pre .0 .laid) (pre .0 .lists) (pre .1) (k .result) (k .ensures) (c .if1 .taken))  -- term-at-requires
     (λ c κs. search needs)  -- matches-requires
     (λ c. let a = c .before .before .before .before .before .before .args in let k = c .before .before .before .is-kind in
     block-answer (λ p. Matches p (termOf (a .e .now))) (says-yes (k .result) (k .ensures) (c .before .before .if1 .taken)) (c .before .term-at .ensures)

@@ -1,6 +1,7 @@
 -- `judge::listed::not_closed` meets its contract: no block before block i has the fault. Assumes nothing.
 use Prim.Native.Nat.{_-_}
 use borrow.Author.Needs.{needs}
+use Rattle.blocks.specs.Kinds.{secretKind}
 use Rattle.judge.specs.declared.verdict.Fault.the-variants.{NotClosed}
 use Rattle.judge.specs.File.{blockCount, certificateOf}
 use Rattle.judge.specs.Verdict.{onKind, unclosedSecret, kindFault, closedFault}
@@ -9,7 +10,7 @@ use Rattle.judge.proofs.listed.not_closed.Statement.{statement}
 use Rattle.judge.proofs.listed.not_closed.Tie as tie
 
 abbrev Inv-loop : tie.InvT-loop
-Inv-loop file count i₀ i = FaultFree (onKind 2 (unclosedSecret (certificateOf file)) file) (blockCount file) i
+Inv-loop file count i₀ i = FaultFree (onKind secretKind (unclosedSecret (certificateOf file)) file) (blockCount file) i
 
 abbrev μ-loop : tie.MeasureT-loop
 μ-loop file count i₀ i = blockCount file - i

@@ -13,7 +13,7 @@ pub same-at-spec : {M : Type 1} → statement M
 same-at-spec = tie.close (tie.spec
     (λ c κs. search needs)  -- is-kind-requires
     (λ c κs. let pre = c .before .before .before .before .pre in let k = c .before .is-kind in
-    block-there (pre .0 .laid) (pre .0 .low) (pre .0 .high) (pre .1) (k .result) (k .ensures) (c .if1 .taken))  -- term-at-requires
+    block-there (pre .0 .laid) (pre .0 .lists) (pre .1) (k .result) (k .ensures) (c .if1 .taken))  -- term-at-requires
     (λ c. let fits = c .before .before .before .before .before .pre .2 .fits in let short = c .before .before .before .before .before .pre .0 .short in search needs)  -- mul-if2
     (λ c. other-size (c .before .term-at .ensures) (c .before .before .before .before .before .before .pre .2) (c .if2 .taken))  -- returns
     (λ c κs. (c .before .term-at .ensures .term, c .before .before .before .before .before .before .pre .0 .term))  -- same-requires

@@ -3,6 +3,7 @@ use mathlib.Core.Path.{_≡_, refl}
 use Prim.Native.Nat.{ℕ, _-_, _<_, _≤_}
 use native.Mathlib.Omega.{arith}
 use lib.ListN.{length, getD}
+use Rattle.blocks.specs.Kinds.{secretKind}
 use Rattle.blocks.specs.Block.{blockAt, kindOf, firstEntries}
 use Rattle.judge.specs.File.{blockCount}
 use Rattle.judge.specs.Listed.{FlaggedAt, SecretSlot}
@@ -16,7 +17,7 @@ abbrev Inv-loop : tie.InvT-loop
 Inv-loop file roots₀ count i₀ roots i =
     (i ≤ blockCount file)
     × (length roots ≡ 400)
-    × ((j : ℕ) → j < i → kindOf (blockAt file j) ≡ 2 → FlaggedAt roots (firstEntries (blockAt file j)))
+    × ((j : ℕ) → j < i → kindOf (blockAt file j) ≡ secretKind → FlaggedAt roots (firstEntries (blockAt file j)))
     × ((k : ℕ) → getD roots k 0 ≤ 1)
     × ((k : ℕ) → getD roots k 0 ≡ 1 → SecretSlot file i k)
 

@@ -13,7 +13,7 @@ pub shares-at-spec : {M : Type 1} → statement M
 shares-at-spec = tie.close (tie.spec
     (λ c κs. search needs)  -- is-kind-requires
     (λ c κs. let pre = c .before .before .before .before .before .before .pre in let k = c .before .before .is-kind in
-    block-there (pre .0 .laid) (pre .0 .low) (pre .0 .high) (pre .1) (k .result) (k .ensures) (c .before .if1 .taken))  -- term-at-requires
+    block-there (pre .0 .laid) (pre .0 .lists) (pre .1) (k .result) (k .ensures) (c .before .if1 .taken))  -- term-at-requires
     (λ c. let pre = c .before .before .before .before .before .before .before .pre in let few = pre .0 .laid .few in let inside = pre .1 in let long = pre .2 .long in search needs)  -- mul-shares
     (λ c. let pre = c .before .before .before .before .before .before .before .pre in let few = pre .0 .laid .few in let inside = pre .1 in let long = pre .2 .long in search needs)  -- sub-shares
     (λ c. let pre = c .before .before .before .before .before .before .before .pre in let few = pre .0 .laid .few in let inside = pre .1 in let long = pre .2 .long in search needs)  -- part-shares-start

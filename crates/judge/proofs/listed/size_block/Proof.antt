@@ -10,7 +10,7 @@ pub size-block-spec : {M : Type 1} → statement M
 size-block-spec = tie.close (tie.spec
     (λ c κs. search needs)  -- lists-term-requires
     (λ c κs. let start = c .before .before .before in let pre = start .pre in let k = c .before .lists-term in let lists = says-yes (k .result) (k .ensures) (c .if1 .taken) in
-    (pre .1, pre .0 .terms (start .args .i) (pre .1) (lists .low) (lists .high)))  -- term-at-requires
+    (pre .1, pre .0 .terms (start .args .i) (pre .1) lists))  -- term-at-requires
     (λ c. let few = c .before .before .before .before .before .pre .0 .few in let inside = c .before .before .before .before .before .pre .1 in search needs)  -- mul-fill-sizes
     (λ c κs. let pre = c .before .before .before .before .before .pre in let part = c .before .term-at .ensures in (
       part .term,

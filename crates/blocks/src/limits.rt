@@ -1,0 +1,8 @@
+// The sizes and limits of files and blocks (specs/Limits.antt).
+pub const BLOCK_SIZE: usize = 512;
+
+pub const MOST_BYTES: usize = 32768;
+
+pub const MOST_ENTRIES: usize = 126;
+
+pub const MOST_TERM_ENTRIES: usize = 63;
