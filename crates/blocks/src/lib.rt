@@ -49,7 +49,8 @@ pub fn written(answer: Writing) -> usize
     }
 }
 
-fn wide(x: u8) -> usize
+// A byte, wider.
+pub fn wide(x: u8) -> usize
     ensures { λ r. ⌜ (r ≡ x) × (r ≤ 255) ⌝ }
 {
     x as usize

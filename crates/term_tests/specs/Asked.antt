@@ -6,6 +6,8 @@ use Prim.Native.Nat.{ℕ, _%_, _≤_, _<_}
 use lib.Dec.{eqb, leb}
 use borrow.Author.Tests.{leb-true, lt-leb, le-leb, eq-eqb, ne-eqb}
 use lib.ListN.{length, replicate}
+use Rattle.blocks.specs.Kinds.{goodKind}
+use Rattle.blocks.specs.Limits.{mostTermBytes}
 use Rattle.terms.specs.declared.valid.Found.{Found}
 use Rattle.terms.specs.declared.valid.Found.the-variants.{At, Nothing}
 use Rattle.terms.specs.Entry.{termOf, Begins}
@@ -30,7 +32,7 @@ nothingFound Nothing = true
 
 -- One term of at most 63 entries, over these atoms, with variables of both kinds (as in a good pattern, kind 3).
 unfoldable pub isTerm : List ℕ → Bool
-isTerm e = then (leb (length e) 252) (then (eqb (length e % 4) 0) (then (nothingFound (wrongEntry keys 3 e)) (answer (oneTerm? e))))
+isTerm e = then (leb (length e) mostTermBytes) (then (eqb (length e % 4) 0) (then (nothingFound (wrongEntry keys goodKind e)) (answer (oneTerm? e))))
 
 abbrev pub yesNumber : Bool → ℕ
 yesNumber true = 1
@@ -52,36 +54,36 @@ sameNumber s t = numberBy (then (isTerm s) (isTerm t)) (yesNumber (answer (term?
 -- What a yes says.
 pub record Term (e : List ℕ) : Type 0 where
   pub begins : Begins e
-  pub short : length e ≤ 252
+  pub short : length e ≤ mostTermBytes
 
 pub term-is : (e : List ℕ) → isTerm e ≡ true → Term e
 unfolding isTerm
-term-is e q = go (leb (length e) 252) (eqb (length e % 4) 0) (nothingFound (wrongEntry keys 3 e)) refl q
+term-is e q = go (leb (length e) mostTermBytes) (eqb (length e % 4) 0) (nothingFound (wrongEntry keys goodKind e)) refl q
   where
-    go : (a b c : Bool) → leb (length e) 252 ≡ a → then a (then b (then c (answer (oneTerm? e)))) ≡ true → Term e
-    go true true true l q = record { begins = one-begins (yes-of (oneTerm? e) q); short = leb-true (length e) 252 l }
+    go : (a b c : Bool) → leb (length e) mostTermBytes ≡ a → then a (then b (then c (answer (oneTerm? e)))) ≡ true → Term e
+    go true true true l q = record { begins = one-begins (yes-of (oneTerm? e) q); short = leb-true (length e) mostTermBytes l }
     go true true false l q = absurd (false≢true q)
     go true false c l q = absurd (false≢true q)
     go false b c l q = absurd (false≢true q)
 
 -- Entries that are right have symbols.
-pub found-symbols : (e : List ℕ) {f : Found} → length e % 4 ≡ 0 → f ≡ wrongEntry keys 3 e → f ≡ Nothing → Each HasSymbol e
+pub found-symbols : (e : List ℕ) {f : Found} → length e % 4 ≡ 0 → f ≡ wrongEntry keys goodKind e → f ≡ Nothing → Each HasSymbol e
 found-symbols e whole is none = right-symbols (right-each keys 3 e whole (sym is ∙ none))
 
 -- The answers, branch by branch.
-pub too-long : (e : List ℕ) → 252 < length e → false ≡ isTerm e
+pub too-long : (e : List ℕ) → mostTermBytes < length e → false ≡ isTerm e
 unfolding isTerm
-too-long e h = sym (rw (lt-leb (length e) 252 h))
+too-long e h = sym (rw (lt-leb (length e) mostTermBytes h))
 
-pub not-whole : (e : List ℕ) → length e ≤ 252 → (length e % 4 ≡ 0 → ⊥) → false ≡ isTerm e
+pub not-whole : (e : List ℕ) → length e ≤ mostTermBytes → (length e % 4 ≡ 0 → ⊥) → false ≡ isTerm e
 unfolding isTerm
-not-whole e h off = sym (rw (le-leb (length e) 252 h, ne-eqb (length e % 4) 0 off))
+not-whole e h off = sym (rw (le-leb (length e) mostTermBytes h, ne-eqb (length e % 4) 0 off))
 
-pub by-entries : (e : List ℕ) {f : Found} (b : Bool) → length e ≤ 252 → length e % 4 ≡ 0 → f ≡ wrongEntry keys 3 e
+pub by-entries : (e : List ℕ) {f : Found} (b : Bool) → length e ≤ mostTermBytes → length e % 4 ≡ 0 → f ≡ wrongEntry keys goodKind e
     → b ≡ then (nothingFound f) (answer (oneTerm? e)) → b ≡ isTerm e
 unfolding isTerm
 by-entries e b h whole is q =
-    q ∙ ap (λ (g : Found). then (nothingFound g) (answer (oneTerm? e))) is ∙ sym (rw (le-leb (length e) 252 h, eq-eqb (length e % 4) 0 whole))
+    q ∙ ap (λ (g : Found). then (nothingFound g) (answer (oneTerm? e))) is ∙ sym (rw (le-leb (length e) mostTermBytes h, eq-eqb (length e % 4) 0 whole))
 
 module _ (s t : List ℕ) where
   pub asked : {r n : ℕ} → isTerm s ≡ true → isTerm t ≡ true → r ≡ n → r ≡ numberBy (then (isTerm s) (isTerm t)) n

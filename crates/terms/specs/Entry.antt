@@ -6,6 +6,7 @@ use mathlib.Core.Option.{Option, none, some}
 use Prim.Native.Nat.{ℕ, zero, suc, _+_, _*_, _/_, _%_, _≤_}
 use lib.Dec.{ltb}
 use lib.ListN.{length, getD}
+use Rattle.blocks.specs.Block.{wordAt}
 use Rattle.terms.specs.Term.{Term, Variable, variable, atom, pair, encrypted, named}
 use Rattle.terms.specs.Tag.{atomTag, pairTag, encryptionTag, sortTag, variables, Tagged, isAtom, isPair, isEncryption, isVariable, isNone, tagged}
 
@@ -120,4 +121,4 @@ abbrev pub tagAt : List ℕ → ℕ
 tagAt e = getD e 0 0
 
 abbrev pub valueAt : List ℕ → ℕ
-valueAt e = getD e 2 0 + 256 * getD e 3 0
+valueAt e = wordAt e 2

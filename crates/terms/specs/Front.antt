@@ -7,6 +7,7 @@ use mathlib.Core.Option.{Option, none, some}
 use Prim.Native.Nat.{ℕ, _+_, _*_, _-_, _<_, _≤_}
 use lib.Dec.{ltb}
 use lib.ListN.{length, getD, take}
+use Rattle.blocks.specs.Limits.{mostTermBytes}
 use Rattle.terms.specs.Term.{Term, Variable, replace}
 use Rattle.terms.specs.Tag.{SymbolTag}
 use Rattle.terms.specs.Slot.{slotCount, inSlot}
@@ -85,7 +86,7 @@ pub record Ready (p t : List ℕ) (at need : ℕ) (bound : List ℕ) : Type 0 wh
   pub subject : Front need (from (4 * at) t)
   pub held : (i : ℕ) → Bound bound i → Begins (from (4 * getD bound i 0) t)
   pub inside : 4 * (at + need) ≤ length t
-  pub small : length t ≤ 252
+  pub small : length t ≤ mostTermBytes
 
 -- What the walk says: some replacement that agrees with the bindings makes the first terms of t from its entry `at` on
 -- from the first terms of p.

@@ -31,7 +31,7 @@ pub mod EntryLaws
 pub mod WalkLaws
 pub mod Count
 pub mod ValidLaws
-pub mod Limits
+pub mod EntryTables
 pub mod TermLaws
 -- Sameness and matching on entries: what the walks promise, and their laws.
 pub mod Front

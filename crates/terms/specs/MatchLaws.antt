@@ -11,6 +11,7 @@ use borrow.Author.Tests.{lt-ltb, le-ltb, ltb-false}
 use lib.ListN.{length, getD, set, drop, replicate, getD-replicate}
 use lib.Seq.{getD-set-same, getD-set-other}
 use borrow.Rule.Slice.PartAt.{part-to-end}
+use Rattle.blocks.specs.Limits.{mostTermBytes}
 use Rattle.terms.specs.Term.{Term, Variable, Sort, variable, atom, pair, encrypted, plain, marked, named, replace}
 use Rattle.terms.specs.Tag.{plainTag, markedTag, sortTag, variables, SymbolTag, childrenOf}
 use Rattle.terms.specs.Slot.{slotCount, slotIn, slotOf, inSlot, slot-in, slot-of-slot}
@@ -263,7 +264,7 @@ module _ {p t bound : List ℕ} {at need : ℕ} (r : Ready p t at need bound) (s
 from-none : (e : List ℕ) → from (4 * 0) e ≡ e
 from-none e = part-to-end e 0
 
-pub match-ready : {p t : List ℕ} {need : ℕ} → Begins p → Begins t → length t ≤ 252 → need ≤ 1 → Ready p t 0 need (replicate slotCount 255)
+pub match-ready : {p t : List ℕ} {need : ℕ} → Begins p → Begins t → length t ≤ mostTermBytes → need ≤ 1 → Ready p t 0 need (replicate slotCount 255)
 match-ready {p} {t} b d small few = record {
   pattern = front-few b few;
   subject = rw (from-none t) (front-few d few);

@@ -5,6 +5,7 @@ use mathlib.Core.List.{List}
 use mathlib.Core.Logic.{_↔_}
 use Prim.Native.Nat.{ℕ, _+_, _*_, _<_, _≤_}
 use lib.ListN.{length, getD}
+use Rattle.blocks.specs.Limits.{mostTermEntries}
 use Rattle.terms.specs.declared.sharing.Walk.{Walk}
 use Rattle.terms.specs.declared.sharing.Walk.the-variants.{Apart, Through}
 use Rattle.terms.specs.Term.{Term, Message, Variable, replace}
@@ -25,14 +26,14 @@ pub record RootsDiffer (s t : List ℕ) : Type 0 where
 -- n entries of each side are noted.
 pub record Noted (s t m : List ℕ) (n : ℕ) : Type 0 where
   pub long : length m ≡ 128
-  pub few : n ≤ 63
+  pub few : n ≤ mostTermEntries
   pub left : (k : ℕ) → k < n → 4 * (getD m k 0 + 1) ≤ length s
   pub right : (k : ℕ) → k < n → 4 * (getD m (64 + k) 0 + 1) ≤ length t
 
 -- Those of the first side alone.
 pub record NotedIn (s m : List ℕ) (n : ℕ) : Type 0 where
   pub long : length m ≡ 128
-  pub few : n ≤ 63
+  pub few : n ≤ mostTermEntries
   pub inside : (k : ℕ) → k < n → 4 * (getD m k 0 + 1) ≤ length s
 
 -- The slot of the term at the k-th noted entry of the first side: its variable's, or 16.

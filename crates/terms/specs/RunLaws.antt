@@ -7,6 +7,7 @@ use Prim.Native.Nat.{ℕ, _+_, _*_, _-_, _<_, _≤_}
 use native.Mathlib.Omega.{arith}
 use borrow.Rule.Slice.PartAt.{part-to-end}
 use lib.ListN.{length, getD, replicate}
+use Rattle.blocks.specs.Limits.{mostTermBytes}
 use Rattle.terms.specs.Term.{Term, Message, Variable, variable, atom, replace, asTerm}
 use Rattle.terms.specs.Instance.{Matches, Share}
 use Rattle.terms.specs.Occurs.{replace-twice}
@@ -129,7 +130,7 @@ pub tag-from : (e : List ℕ) (k : ℕ) → getD e (4 * k) 0 ≡ tagAt (from (4 
 tag-from e k = rw part-to-end (tag-in e k)
 
 -- Matching goes on behind the run, with nothing bound.
-pub run-ready : {e f : List ℕ} {k left : ℕ} → Ran 1 e f k left → length f ≤ 252 → Ready (from (4 * k) e) f k left (replicate slotCount 255)
+pub run-ready : {e f : List ℕ} {k left : ℕ} → Ran 1 e f k left → length f ≤ mostTermBytes → Ready (from (4 * k) e) f k left (replicate slotCount 255)
 run-ready {e} {f} {k} {left} r small = record {
   pattern = r .front;
   subject = r .other-front;

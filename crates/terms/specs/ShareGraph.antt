@@ -11,6 +11,7 @@ use lib.Dec.{ltb}
 use borrow.Author.Tests.{lt-ltb, le-ltb, ltb-true, ltb-false}
 use borrow.Rule.Slice.PartAt.{part-to-end}
 use lib.ListN.{length, getD, drop}
+use Rattle.blocks.specs.Limits.{mostTermBytes}
 use Rattle.terms.specs.Term.{Term, Message, Variable, Sort, atom, named, replace, asTerm}
 use Rattle.terms.specs.Tag.{variables}
 use Rattle.terms.specs.Slot.{slotIn, inSlot, slot-small, slot-in}
@@ -61,7 +62,7 @@ equal-down : (f g : Variable → Message) (t u : Term Variable) → replace {Y =
     → replace f t ≡ replace g u
 equal-down f g t u h = sym (grounded f t) ∙ ap (replace (λ (x : Variable). atom 0)) h ∙ grounded g u
 
-module _ (s t : List ℕ) (bs : Begins s) (bt : Begins t) (ss : length s ≤ 252) (st : length t ≤ 252) where
+module _ (s t : List ℕ) (bs : Begins s) (bt : Begins t) (ss : length s ≤ mostTermBytes) (st : length t ≤ mostTermBytes) where
   -- What a valid valuation gives an entry's node: the instance of the term that stands there.
   module _ {v : ℕ → Message} (valid : Valid (nodeOf s t) v) where
     left-value : (k : ℕ) → 4 * (k + 1) ≤ length s → v (home s 0 variableNodes k) ≡ replace (read v variableNodes) (termOf (from (4 * k) s))

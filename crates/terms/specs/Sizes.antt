@@ -8,6 +8,7 @@ use native.Mathlib.Nat.{zero-add}
 use lib.ListN.{length, getD, set, drop, length-drop, length-set}
 use lib.Seq.{drop-drop, getD-drop, getD-set-same, getD-set-other}
 use borrow.Rule.Slice.PartAt.{part-to-end}
+use Rattle.blocks.specs.Limits.{mostTermEntries, mostTermBytes}
 use Rattle.terms.specs.Tag.{pairTag, encryptionTag}
 use Rattle.terms.specs.Entry.{termOf, size, Begins}
 use Rattle.terms.specs.EntryLaws.{termOf-reads, fits}
@@ -32,16 +33,16 @@ pub record PairSizes (e z : List ℕ) (base k : ℕ) : Type 0 where
   pub right-inside : base + k + 1 + sizeIn e (k + 1) < length z
   pub right-size : getD z (base + k + 1 + sizeIn e (k + 1)) 0 ≡ sizeIn e (rightIn e k)
   pub whole : sizeIn e k ≡ 1 + (sizeIn e (k + 1) + sizeIn e (rightIn e k))
-  pub small : sizeIn e k ≤ 63
+  pub small : sizeIn e k ≤ mostTermEntries
 
 -- And of the content of an encryption.
 pub record ContentSize (e z : List ℕ) (base k : ℕ) : Type 0 where
   pub inside : base + k + 1 < length z
   pub content-size : getD z (base + k + 1) 0 ≡ sizeIn e (k + 1)
   pub whole : sizeIn e k ≡ 1 + sizeIn e (k + 1)
-  pub small : sizeIn e k ≤ 63
+  pub small : sizeIn e k ≤ mostTermEntries
 
-module _ {e z : List ℕ} {base : ℕ} (k : ℕ) (b : Begins e) (short : length e ≤ 252) (sized : SizedFrom e z base (k + 1)) where
+module _ {e z : List ℕ} {base : ℕ} (k : ℕ) (b : Begins e) (short : length e ≤ mostTermBytes) (sized : SizedFrom e z base (k + 1)) where
   next-size : 4 * (k + 1) < length e → getD z (base + k + 1) 0 ≡ sizeIn e (k + 1)
   next-size fit =
       let there : base + (k + 1) ≡ base + k + 1 = omega arith in

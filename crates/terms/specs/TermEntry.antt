@@ -4,6 +4,7 @@ use mathlib.Core.List.{List}
 use Prim.Native.Nat.{ℕ, zero, suc, _*_, _/_, _<_}
 use native.Mathlib.Decide.{ℕ-discrete, decLt}
 use lib.ListN.{length, getD, drop}
+use Rattle.blocks.specs.Kinds.{secretKind, goodKind}
 use Rattle.terms.specs.declared.valid.Found.{Found}
 use Rattle.terms.specs.Term.{Sort, plain, marked}
 use Rattle.terms.specs.Tag.{atomTag, pairTag, encryptionTag, sortTag, variables, Tagged, isAtom, isPair, isEncryption, isVariable, isNone, tagged, sort-tagged}
@@ -15,8 +16,8 @@ use Rattle.terms.specs.Each.{EntryIs}
 
 -- Where a variable of this sort may stand. "Secrets have no variables"; 5, a marked variable, is for "good only".
 unfoldable pub MayStand : Sort → ℕ → Type 0
-MayStand plain kind = kind ≡ 2 → ⊥
-MayStand marked kind = kind ≡ 3
+MayStand plain kind = kind ≡ secretKind → ⊥
+MayStand marked kind = kind ≡ goodKind
 
 -- Tags: 1 atom (its number); 2 pair (0); 3 encryption (a key's number); 4 plain variable (0 to 7); 5 marked variable
 -- (0 to 7, good only). Secrets have no variables. Kinds: 2 secret, 3 good, 4 bad, 5 rule.
@@ -34,8 +35,8 @@ pub record EntryRight (atoms : List Atom) (kind tag zeroByte value : ℕ) : Type
 -- The same, decided by the tag.
 unfoldable pub mayStand? : (s : Sort) (kind : ℕ) → Dec (MayStand s kind)
 unfolding MayStand ℕ-discrete dec-not
-mayStand? plain kind = dec-not (ℕ-discrete kind 2)
-mayStand? marked kind = ℕ-discrete kind 3
+mayStand? plain kind = dec-not (ℕ-discrete kind secretKind)
+mayStand? marked kind = ℕ-discrete kind goodKind
 
 module _ (atoms : List Atom) (kind value : ℕ) where
   -- What an entry of this tag has to have.

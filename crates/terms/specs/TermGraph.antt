@@ -7,6 +7,8 @@ use mathlib.Core.Path.{_≡_}
 use Prim.Native.Nat.{ℕ, zero, suc, _+_, _*_, _-_, _%_, _<_, _≤_}
 use lib.Dec.{ltb}
 use lib.ListN.{length, getD, drop}
+use Rattle.blocks.specs.Limits.{mostTermBytes}
+use Rattle.blocks.specs.Block.{wordAt}
 use Rattle.terms.specs.Tag.{pairTag, encryptionTag, variables, Tagged, isAtom, isPair, isEncryption, isVariable, isNone, tagged}
 use Rattle.terms.specs.Slot.{slotCount, slotIn}
 use Rattle.terms.specs.Entry.{termOf, size, Begins}
@@ -31,7 +33,7 @@ abbrev pub tagIn : List ℕ → ℕ → ℕ
 tagIn e k = getD e (4 * k) 0
 
 abbrev pub valueIn : List ℕ → ℕ → ℕ
-valueIn e k = getD e (4 * k + 2) 0 + 256 * getD e (4 * k + 3) 0
+valueIn e k = wordAt e (4 * k + 2)
 
 -- The node of an entry of this tag and value: its variable's, or the entry's own.
 abbrev pub homeFor : {tag : ℕ} → Tagged tag → ℕ → ℕ → ℕ → ℕ
@@ -93,8 +95,8 @@ nodeOf s t i = nodeBy (nodeTag s t i) (nodeValue s t i) (firstChild s t i) (seco
 pub record TwoTerms (s t : List ℕ) : Type 0 where
   pub left : Begins s
   pub right : Begins t
-  pub left-short : length s ≤ 252
-  pub right-short : length t ≤ 252
+  pub left-short : length s ≤ mostTermBytes
+  pub right-short : length t ≤ mostTermBytes
 
 -- The size of the term at entry k.
 abbrev pub sizeIn : List ℕ → ℕ → ℕ

@@ -12,6 +12,7 @@ use borrow.Author.Tests.{lt-ltb, le-ltb, ltb-true, ltb-false}
 use lib.ListN.{length, getD, drop, length-drop, List·getD-eq-default}
 use lib.Seq.{drop-drop, getD-drop}
 use native.Mathlib.Decide.{decLt}
+use Rattle.blocks.specs.Limits.{mostTermBytes}
 use Rattle.terms.specs.Term.{Term, Message, Variable, variable, atom, pair, encrypted, Sort, plain, marked, named, replace}
 use Rattle.terms.specs.Tag.{atomTag, pairTag, encryptionTag, plainTag, markedTag, sortTag, variables}
 use Rattle.terms.specs.Tag.{Tagged, isAtom, isPair, isEncryption, isVariable, isNone, tagged, sort-tagged}
@@ -31,7 +32,9 @@ pub tag-in : (e : List ℕ) (k : ℕ) → tagIn e k ≡ tagAt (drop (4 * k) e)
 tag-in e k = let here : 4 * k + 0 ≡ 4 * k = omega arith in sym (getD-drop (4 * k) e 0 0 ∙ ap (λ (n : ℕ). getD e n 0) here)
 
 pub value-in : (e : List ℕ) (k : ℕ) → valueIn e k ≡ valueAt (drop (4 * k) e)
-value-in e k = sym (ap₂ (λ (x y : ℕ). x + 256 * y) (getD-drop (4 * k) e 2 0) (getD-drop (4 * k) e 3 0))
+value-in e k =
+    let high : 4 * k + 3 ≡ 4 * k + 2 + 1 = omega arith in
+    sym (ap₂ (λ (x y : ℕ). x + 256 * y) (getD-drop (4 * k) e 2 0) (getD-drop (4 * k) e 3 0 ∙ ap (λ (n : ℕ). getD e n 0) high))
 
 pub value-part : (e : List ℕ) (k : ℕ) {n : ℕ} → n ≡ valueAt (from (4 * k) e) → n ≡ valueIn e k
 value-part e k is = is ∙ ap valueAt (part-to-end e (4 * k)) ∙ sym (value-in e k)
@@ -99,7 +102,7 @@ mod-small : (n : ℕ) → n % variables < variables
 mod-small n = omega arith
 
 -- One side of the graph: entries e from node base on, variables from slots on.
-module _ (node : ℕ → Node) (e : List ℕ) (base slots : ℕ) (short : length e ≤ 252)
+module _ (node : ℕ → Node) (e : List ℕ) (base slots : ℕ) (short : length e ≤ mostTermBytes)
     (at-side : (k : ℕ) → k < rightNodes → node (base + k) ≡ nodeBy (tagIn e k) (valueIn e k) (home e base slots (k + 1)) (home e base slots (rightIn e k))) where
   node-tag : {k n : ℕ} → k < rightNodes → tagIn e k ≡ n → node (base + k) ≡ nodeBy n (valueIn e k) (home e base slots (k + 1)) (home e base slots (rightIn e k))
   node-tag {k} h g = at-side k h ∙ ap (λ (m : ℕ). nodeBy m (valueIn e k) (home e base slots (k + 1)) (home e base slots (rightIn e k))) g

@@ -10,6 +10,7 @@ use native.Mathlib.Decide.{decLt, decLe}
 use lib.Dec.{ltb}
 use borrow.Author.Tests.{lt-ltb, ltb-true}
 use lib.ListN.{length, getD, length-append}
+use Rattle.blocks.specs.Kinds.{secretKind, goodKind}
 use Rattle.terms.specs.declared.valid.Found.the-variants.{Nothing}
 use Rattle.terms.specs.Term.{Term, Variable, Message, Foreign, variable, atom, pair, encrypted, Sort, plain, marked, named, replace, asTerm}
 use Rattle.terms.specs.Occurs.{Occurs}
@@ -124,12 +125,12 @@ unfolding AllOf
 right-term {e = e} each o = right-terms each (termOf e ∷ []) (record { is = one-alone o }) .0
 
 -- Secrets have no variables: a secret is a message.
-pub secret-bare : (s : Sort) {kind : ℕ} → kind ≡ 2 → ¬ MayStand s kind
+pub secret-bare : (s : Sort) {kind : ℕ} → kind ≡ secretKind → ¬ MayStand s kind
 unfolding MayStand
 secret-bare plain secret may = may secret
 secret-bare marked secret may = omega arith
 
-pub secret-message : {atoms : List Atom} {kind : ℕ} {t : Term Variable} → kind ≡ 2 → TermRight atoms kind t → (m : Message) × (t ≡ asTerm m)
+pub secret-message : {atoms : List Atom} {kind : ℕ} {t : Term Variable} → kind ≡ secretKind → TermRight atoms kind t → (m : Message) × (t ≡ asTerm m)
 unfolding asTerm replace
 secret-message s (atomRight {a} l) = (atom a, refl)
 secret-message s (pairRight w v) = let a = secret-message s w in let b = secret-message s v in (pair (a .0) (b .0), ap₂ pair (a .1) (b .1))
@@ -137,12 +138,12 @@ secret-message s (encryptedRight {k} i w) = let a = secret-message s w in (encry
 secret-message s (variableRight {s = sort} l k) = absurd (secret-bare sort s k)
 
 -- Marked variables stand in good patterns only.
-mark-stands : (s : Sort) {kind x y : ℕ} → named marked x ≡ named s y → MayStand s kind → kind ≡ 3
+mark-stands : (s : Sort) {kind x y : ℕ} → named marked x ≡ named s y → MayStand s kind → kind ≡ goodKind
 unfolding MayStand
 mark-stands plain same may = let z : _≡_ {A = ℕ} 0 1 = cc in absurd (omega arith)
 mark-stands marked same may = may
 
-pub no-mark : {atoms : List Atom} {kind : ℕ} {t : Term Variable} → (kind ≡ 3 → ⊥) → TermRight atoms kind t → (x : ℕ) → ¬ Occurs (named marked x) t
+pub no-mark : {atoms : List Atom} {kind : ℕ} {t : Term Variable} → (kind ≡ goodKind → ⊥) → TermRight atoms kind t → (x : ℕ) → ¬ Occurs (named marked x) t
 unfolding Occurs
 no-mark not-good (atomRight l) x o = o
 no-mark not-good (pairRight w v) x o = ⊎-elim (no-mark not-good w x) (no-mark not-good v x) o

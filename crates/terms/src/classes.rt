@@ -1,6 +1,5 @@
 // Classes of nodes that must get equal messages. In the array c every node leads to a lower node of its class, and the lowest
 // leads to itself and names the class; so a symbol's class is named by a symbol.
-use crate::entry::wide;
 use crate::node::ALL_NODES;
 use crate::node::VARIABLE_NODES;
 use crate::node::first_child;
@@ -9,6 +8,7 @@ use crate::node::tag_at;
 use crate::node::value_at;
 use crate::tag::ENCRYPTION;
 use crate::tag::PAIR;
+use blocks::wide;
 ghost use mathlib.Core.Path.{_≡_};
 ghost use Prim.Native.Nat.{ℕ, _≤_, _<_};
 ghost use lib.ListN.{length, getD};

@@ -2,6 +2,7 @@
 ghost use mathlib.Core.Path.{_≡_};
 ghost use Prim.Native.Nat.{_+_, _*_, _≤_, _<_};
 ghost use lib.ListN.{length};
+ghost use Rattle.blocks.specs.Limits.{mostTermBytes};
 ghost use Rattle.terms.specs.Entry.{Begins, termOf, size, valueAt};
 ghost use Rattle.terms.specs.Tag.{childrenOf};
 ghost use Rattle.terms.specs.TermGraph.{sizeIn, SizesOf};
@@ -9,23 +10,17 @@ ghost use Rattle.terms.specs.Sizes.{SizedFrom, KeptBelow};
 ghost use Rattle.terms.specs.WalkLaws.{from};
 use crate::tag::ENCRYPTION;
 use crate::tag::PAIR;
+use blocks::wide;
 
 // Room for the sizes of the terms at the entries of one term.
 pub const SIZES: usize = 64;
-
-// A byte, wider.
-pub(crate) fn wide(x: u8) -> usize
-    ensures { λ r. ⌜ (r ≡ x) × (r ≤ 255) ⌝ }
-{
-    x as usize
-}
 
 // The value of the entry that stands first.
 pub fn value(e: &[u8]) -> usize
     requires { ⌜ 4 ≤ length (now e) ⌝ }
     ensures { λ r. ⌜ (r ≡ valueAt (now (e .entry))) × (r ≤ 65535) ⌝ }
 {
-    wide(e[2]) + 256 * wide(e[3])
+    blocks::word(e, 2)
 }
 
 // How many children an entry of this tag has.
@@ -56,7 +51,7 @@ pub fn term_size(e: &[u8]) -> usize
 
 // The size of the term at entry k, by those of the entries behind it; the table has them from `base` on.
 fn size_by_children(e: &[u8], z: &[u8], base: usize, k: usize) -> u8
-    requires { ⌜ Begins (now e) × (length (now e) ≤ 252) × (base ≤ 4096) × (4 * k < length (now e)) × SizedFrom (now e) (now z) base (k + 1) ⌝ }
+    requires { ⌜ Begins (now e) × (length (now e) ≤ mostTermBytes) × (base ≤ 4096) × (4 * k < length (now e)) × SizedFrom (now e) (now z) base (k + 1) ⌝ }
     ensures { λ r. ⌜ r ≡ sizeIn (now (e .entry)) k ⌝ }
 {
     let tag = e[4 * k];
@@ -72,7 +67,7 @@ fn size_by_children(e: &[u8], z: &[u8], base: usize, k: usize) -> u8
 
 // Fills in the sizes of the terms at e's entries, the last first, from `base` on.
 pub fn fill_sizes(e: &[u8], z: &mut [u8], base: usize)
-    requires { ⌜ Begins (now e) × (length (now e) ≤ 252) × (base ≤ 4096) × (4 * base + length (now e) ≤ 4 * length (now z)) ⌝ }
+    requires { ⌜ Begins (now e) × (length (now e) ≤ mostTermBytes) × (base ≤ 4096) × (4 * base + length (now e) ≤ 4 * length (now z)) ⌝ }
     ensures { λ _. ⌜ SizedFrom (now (e .entry)) (now (z .exit)) base 0 × KeptBelow base (now (z .entry)) (now (z .exit)) ⌝ }
 {
     let mut left = e.len() / 4;
@@ -84,7 +79,7 @@ pub fn fill_sizes(e: &[u8], z: &mut [u8], base: usize)
 
 // For each entry, how many entries the term has that begins there.
 pub fn sizes(e: &[u8]) -> [u8; SIZES]
-    requires { ⌜ Begins (now e) × (length (now e) ≤ 252) ⌝ }
+    requires { ⌜ Begins (now e) × (length (now e) ≤ mostTermBytes) ⌝ }
     ensures { λ r. ⌜ SizesOf (now (e .entry)) r ⌝ }
 {
     let mut z = [0u8; SIZES];
@@ -94,7 +89,7 @@ pub fn sizes(e: &[u8]) -> [u8; SIZES]
 
 // The entry past the term at entry h, by the sizes.
 pub fn end_of(e: &[u8], z: &[u8; SIZES], h: usize) -> usize
-    requires { ⌜ SizesOf (now e) (now z) × Begins (from (4 * h) (now e)) × (4 * h < length (now e)) × (length (now e) ≤ 252) ⌝ }
+    requires { ⌜ SizesOf (now e) (now z) × Begins (from (4 * h) (now e)) × (4 * h < length (now e)) × (length (now e) ≤ mostTermBytes) ⌝ }
     ensures { λ r. ⌜ (r ≡ h + size (termOf (from (4 * h) (now (e .entry))))) × (4 * r ≤ length (now (e .entry))) ⌝ }
 {
     h + wide(z[h])

@@ -3,6 +3,7 @@ ghost use mathlib.Core.Path.{_≡_};
 ghost use mathlib.Core.Bool.{true};
 ghost use Prim.Native.Nat.{_*_, _<_, _≤_};
 ghost use lib.ListN.{length, set};
+ghost use Rattle.blocks.specs.Limits.{mostTermBytes};
 ghost use Rattle.terms.specs.Term.{variable};
 ghost use Rattle.terms.specs.Entry.{Begins, termOf};
 ghost use Rattle.terms.specs.Instance.{Share};
@@ -12,12 +13,12 @@ ghost use Rattle.terms.specs.Decide.{answer, variable?, term?, match?};
 ghost use Rattle.terms.specs.Slot.{slotCount, slotOf};
 ghost use Rattle.terms.specs.Front.{SameFirst, Word, Comparable, Bindable, Front, Takes, Ready, Made, Ran, Goes};
 use crate::entry;
-use crate::entry::wide;
 use crate::tag::MARKED;
 use crate::tag::PLAIN;
 use crate::tag::SLOTS;
 use crate::tag::VARIABLES;
 use crate::tag::is_variable;
+use blocks::wide;
 
 // The entry that stands first, as one number.
 fn word(e: &[u8]) -> usize
@@ -178,7 +179,7 @@ fn match_front(p: &[u8], t: &[u8], at: usize, need: usize, bound: [u8; SLOTS]) -
 
 // Do different symbols follow what both terms begin with?
 pub fn differs(p: &[u8], t: &[u8], run: Run) -> bool
-    requires { ⌜ Begins (now p) × Begins (now t) × (length (now t) ≤ 252) × Ran 1 (now p) (now t) (run .count) (run .left) × ¬ Goes (now p) (now t) (run .count) (run .left) ⌝ }
+    requires { ⌜ Begins (now p) × Begins (now t) × (length (now t) ≤ mostTermBytes) × Ran 1 (now p) (now t) (run .count) (run .left) × ¬ Goes (now p) (now t) (run .count) (run .left) ⌝ }
     ensures { λ r. ⌜ (r ≡ true → ¬ Share (termOf (now (p .entry))) (termOf (now (t .entry)))) ⌝ }
 {
     if run.left == 0 {
@@ -193,7 +194,7 @@ pub fn differs(p: &[u8], t: &[u8], run: Run) -> bool
 
 // Is the term the pattern with its variables replaced by terms, behind what both begin with?
 pub fn matches_behind(p: &[u8], t: &[u8], run: Run) -> bool
-    requires { ⌜ Begins (now p) × Begins (now t) × (length (now t) ≤ 252) × Ran 1 (now p) (now t) (run .count) (run .left) ⌝ }
+    requires { ⌜ Begins (now p) × Begins (now t) × (length (now t) ≤ mostTermBytes) × Ran 1 (now p) (now t) (run .count) (run .left) ⌝ }
     ensures { λ r. ⌜ r ≡ answer (match? variable? variable? (termOf (now (p .entry))) (termOf (now (t .entry)))) ⌝ }
 {
     let at = run.count;
@@ -202,7 +203,7 @@ pub fn matches_behind(p: &[u8], t: &[u8], run: Run) -> bool
 
 // Is the term the pattern with its variables replaced by terms? Most tests end where the two first differ.
 pub fn matches(p: &[u8], t: &[u8]) -> bool
-    requires { ⌜ Begins (now p) × Begins (now t) × (length (now t) ≤ 252) ⌝ }
+    requires { ⌜ Begins (now p) × Begins (now t) × (length (now t) ≤ mostTermBytes) ⌝ }
     ensures { λ r. ⌜ r ≡ answer (match? variable? variable? (termOf (now (p .entry))) (termOf (now (t .entry)))) ⌝ }
 {
     let run = same_run(p, t);

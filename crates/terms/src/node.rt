@@ -1,13 +1,14 @@
 // Two terms as one graph: the entries of the first from node 0, of the second from node 64, and the variables of each
 // side as nodes of their own, from 128 and from 144. `zs` and `zt` have the sizes of the terms at the entries of each side.
 use crate::entry::value;
-use crate::entry::wide;
 use crate::tag::MARKED;
 use crate::tag::PLAIN;
 use crate::tag::VARIABLES;
+use blocks::wide;
 ghost use mathlib.Core.Path.{_≡_};
 ghost use Prim.Native.Nat.{_+_, _*_, _≤_, _<_};
 ghost use lib.ListN.{length, getD};
+ghost use Rattle.blocks.specs.Limits.{mostTermBytes};
 ghost use Rattle.terms.specs.Tag.{pairTag};
 ghost use Rattle.terms.specs.TermGraph as graph;
 
@@ -23,7 +24,7 @@ pub const ALL_NODES: usize = 256;
 
 // The node of entry k, on the side whose entries begin at base and whose variables begin at slots.
 pub fn home(e: &[u8], k: usize, base: usize, slots: usize) -> usize
-    requires { ⌜ (4 * (k + 1) ≤ length (now e)) × (length (now e) ≤ 252) × (base ≤ graph.rightNodes) × (slots ≤ graph.rightVariables) ⌝ }
+    requires { ⌜ (4 * (k + 1) ≤ length (now e)) × (length (now e) ≤ mostTermBytes) × (base ≤ graph.rightNodes) × (slots ≤ graph.rightVariables) ⌝ }
     ensures { λ r. ⌜ (r ≡ graph.home (now (e .entry)) base slots k) × (r < 160) ⌝ }
 {
     let tag = e[4 * k];

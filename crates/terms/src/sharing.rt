@@ -6,7 +6,6 @@ use crate::classes::alone;
 use crate::classes::unite;
 use crate::ending::is_finite;
 use crate::entry::children;
-use crate::entry::wide;
 use crate::matching::run_on;
 use crate::matching::same_entry;
 use crate::matching::slot;
@@ -17,10 +16,12 @@ use crate::node::VARIABLE_NODES;
 use crate::node::home;
 use crate::tag::SLOTS;
 use crate::tag::is_variable;
+use blocks::wide;
 ghost use mathlib.Core.Path.{_≡_};
 ghost use mathlib.Core.Bool.{true};
 ghost use Prim.Native.Nat.{_≤_};
 ghost use lib.ListN.{length};
+ghost use Rattle.blocks.specs.Limits.{mostTermBytes};
 ghost use Rattle.terms.specs.Entry.{Begins, termOf};
 ghost use Rattle.terms.specs.Tag.{childrenOf};
 ghost use Rattle.terms.specs.Decide.{answer, share?, variable?};
@@ -219,7 +220,7 @@ fn have_solution(s: &[u8], t: &[u8], zs: &[u8], zt: &[u8], m: &[u8; NOTES], n: u
 
 // Is a variable noted at each of the n entries of s, and each time another one? Then these can take what stands opposite.
 fn is_free_match(s: &[u8], m: &[u8; NOTES], n: usize) -> bool
-    requires { ⌜ Begins (now s) × (length (now s) ≤ 252) × NotedIn (now s) (now m) n ⌝ }
+    requires { ⌜ Begins (now s) × (length (now s) ≤ mostTermBytes) × NotedIn (now s) (now m) n ⌝ }
     ensures { λ r. ⌜ (r ≡ true → Distinct (now (s .entry)) (now (m .entry)) n) ⌝ }
 {
     let mut seen = [0u8; SLOTS];

@@ -8,16 +8,18 @@ ghost use Rattle.terms.specs.Decide.{answer};
 ghost use Rattle.terms.specs.Entry.{Begins, termOf};
 ghost use Rattle.terms.specs.Atom.{atomsOf, NamedBack, AtomRight, wrongAtom};
 ghost use Rattle.terms.specs.TermEntry.{wrongEntry};
-ghost use Rattle.terms.specs.Limits.{listedKind, plainLimit, markedLimit, limitsOf, ByTables};
+ghost use Rattle.terms.specs.EntryTables.{listedKind, plainLimit, markedLimit, limitsOf, ByTables};
 ghost use Rattle.terms.specs.Each.{Each};
 ghost use Rattle.terms.specs.OneTerm.{HasSymbol, oneTerm?, encryption?};
 ghost use Rattle.terms.specs.Count.{tagsOf, areTerms};
 use crate::entry::children;
 use crate::entry::value;
-use crate::entry::wide;
 use crate::tag::ENCRYPTION;
 use crate::tag::LAST;
 use crate::tag::VARIABLES;
+use blocks::kinds::GOOD;
+use blocks::kinds::SECRET;
+use blocks::wide;
 
 // Kinds of atoms.
 const PRINCIPAL: u8 = 1;
@@ -110,14 +112,14 @@ fn listed_kind(atoms: &[u8], n: usize) -> u8
 fn plain_limit(kind: u8) -> usize
     ensures { λ r. ⌜ r ≡ plainLimit kind ⌝ }
 {
-    if kind == 2 { 0 } else { VARIABLES }
+    if kind == SECRET { 0 } else { VARIABLES }
 }
 
 // How many marked variables a block of this kind may have: any but a good pattern none.
 fn marked_limit(kind: u8) -> usize
     ensures { λ r. ⌜ r ≡ markedLimit kind ⌝ }
 {
-    if kind == 3 { VARIABLES } else { 0 }
+    if kind == GOOD { VARIABLES } else { 0 }
 }
 
 // For each tag, the limit that the values of its entries stay below.

@@ -19,7 +19,7 @@ use Rattle.terms.proofs.sharing.note.Reads as note
 use Rattle.terms.proofs.sharing.note.Kinds as note-kinds
 use Rattle.terms.proofs.sharing.+meet+note.Lts-note as note-lts
 use Rattle.terms.proofs.sharing.pass.Reads as pass-reads
-use Rattle.terms.proofs.entry.wide.Reads as wide-reads
+use Rattle.blocks.proofs.wide.Reads as wide-reads
 use Rattle.terms.proofs.sharing.+meet+note.{statement}
 use Rattle.terms.proofs.sharing.+meet+note.Tie.{close}
 

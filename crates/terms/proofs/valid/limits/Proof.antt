@@ -1,5 +1,5 @@
 -- `terms::valid::limits` meets its contract. Assumes nothing.
-use Rattle.terms.specs.Limits.{limitsOf}
+use Rattle.terms.specs.EntryTables.{limitsOf}
 use borrow.Author.Needs.{needs}
 use Rattle.terms.proofs.valid.limits.Statement.{statement}
 use Rattle.terms.proofs.valid.limits.Tie as tie

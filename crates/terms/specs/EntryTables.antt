@@ -11,6 +11,7 @@ use lib.Dec.{ltb, eqb}
 use borrow.Author.Tests.{ltb-true, eqb-true, eqb-false, lt-ltb, le-ltb, eq-eqb, ne-eqb}
 use lib.ListN.{length, getD, List·getD-eq-default}
 use borrow.Rule.Slice.PartAt.{part-to-end}
+use Rattle.blocks.specs.Kinds.{secretKind, goodKind}
 use Rattle.terms.specs.Term.{Sort, plain, marked}
 use Rattle.terms.specs.Tag.{atomTag, markedTag, sortTag, variables, Tagged, isAtom, isPair, isEncryption, isVariable, isNone, tagged}
 use Rattle.terms.specs.Entry.{tagAt, valueAt}
@@ -29,10 +30,10 @@ listedKind atoms n = pick (ltb (atomKind atoms n) 6) (atomKind atoms n) 0
 
 -- How many plain and how many marked variables a block of this kind may have.
 unfoldable pub plainLimit : ℕ → ℕ
-plainLimit kind = pick (eqb kind 2) 0 variables
+plainLimit kind = pick (eqb kind secretKind) 0 variables
 
 unfoldable pub markedLimit : ℕ → ℕ
-markedLimit kind = pick (eqb kind 3) variables 0
+markedLimit kind = pick (eqb kind goodKind) variables 0
 
 -- The limits of the tags, with so many atoms, and their least kinds.
 unfoldable pub limitsOf : ℕ → ℕ → List ℕ
@@ -64,21 +65,21 @@ module _ (b : List ℕ) (n : ℕ) where
 
 -- How many variables, by the kind of the block.
 module _ {kind : ℕ} where
-  pub plain-secret : kind ≡ 2 → 0 ≡ plainLimit kind
+  pub plain-secret : kind ≡ secretKind → 0 ≡ plainLimit kind
   unfolding plainLimit
-  plain-secret e = rw (eq-eqb kind 2 e)
+  plain-secret e = rw (eq-eqb kind secretKind e)
 
-  pub plain-other : (kind ≡ 2 → ⊥) → variables ≡ plainLimit kind
+  pub plain-other : (kind ≡ secretKind → ⊥) → variables ≡ plainLimit kind
   unfolding plainLimit
-  plain-other e = rw (ne-eqb kind 2 e)
+  plain-other e = rw (ne-eqb kind secretKind e)
 
-  pub marked-good : kind ≡ 3 → variables ≡ markedLimit kind
+  pub marked-good : kind ≡ goodKind → variables ≡ markedLimit kind
   unfolding markedLimit
-  marked-good e = rw (eq-eqb kind 3 e)
+  marked-good e = rw (eq-eqb kind goodKind e)
 
-  pub marked-other : (kind ≡ 3 → ⊥) → 0 ≡ markedLimit kind
+  pub marked-other : (kind ≡ goodKind → ⊥) → 0 ≡ markedLimit kind
   unfolding markedLimit
-  marked-other e = rw (ne-eqb kind 3 e)
+  marked-other e = rw (ne-eqb kind goodKind e)
 
 -- What the tables ask of an entry is what number 7 asks, tag by tag.
 module _ (atoms : List Atom) (kind value : ℕ) where
@@ -100,11 +101,11 @@ module _ (atoms : List Atom) (kind value : ℕ) where
   within-asked tag below kept = go (tagged tag) below kept
     where
       sorted : (s : Sort) → value < getD (limitsOf kind (length atoms)) (sortTag s) 0 → (value < variables) × MayStand s kind
-      sorted plain below = elim (ℕ-discrete kind 2) [
+      sorted plain below = elim (ℕ-discrete kind secretKind) [
         | yes e ↦ absurd (omega (arith, plain-secret e))
         | no off ↦ (omega (arith, plain-other off), off)
       ]
-      sorted marked below = elim (ℕ-discrete kind 3) [
+      sorted marked below = elim (ℕ-discrete kind goodKind) [
         | yes e ↦ (omega (arith, marked-good e), e)
         | no off ↦ absurd (omega (arith, marked-other off))
       ]
