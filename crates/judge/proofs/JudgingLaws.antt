@@ -22,15 +22,16 @@ use Rattle.judge.specs.declared.verdict.Fault.the-variants.{Length, Unco
 use Rattle.judge.specs.declared.verdict.Verdict.{Verdict}
 use Rattle.judge.specs.declared.verdict.Verdict.the-variants.{Accepted, Refused}
 use Rattle.judge.specs.declared.form.Judged.the-variants.{Fine, Faulty}
+use Rattle.judge.specs.declared.listed.Condition.{Condition}
+use Rattle.judge.specs.declared.listed.Condition.the-variants.{Unknown, Closed, Kept}
 use Rattle.judge.specs.Certificate.{Certificate, Rule}
 use Rattle.judge.specs.Decisions.{dead?}
 use Rattle.judge.specs.File.{blockCount, ruleOf, certificateOf}
 use Rattle.judge.specs.Laid.{Laid, RuleBlock}
-use Rattle.judge.specs.Listed.{faultFound, FoundBelow}
 use Rattle.judge.specs.Judgement.{judgedOf}
 use Rattle.judge.specs.Verdict.{lengthRight, lengthFault, formFault, missingFault, firstFault, onKind, kindFault}
 use Rattle.judge.specs.File.{countsOf}
-use Rattle.judge.specs.Verdict.{fine?, uncovered, uncoveredRule, knownFault, closedFault, keyFault, ruleFault, certificateFault}
+use Rattle.judge.specs.Verdict.{fine?, uncovered, uncoveredRule, kindAsked, conditionAt, conditionFault, ruleFault, certificateFault}
 use Rattle.judge.specs.Verdict.{faultOf, verdictOf}
 use Rattle.judge.specs.Values.{verdictValues, judgingValues}
 use Rattle.judge.proofs.FormLaws.{found-below}
@@ -77,38 +78,39 @@ module _ (c : Certificate) (file : List ℕ) (i : ℕ) {b : List ℕ} (same : b 
     unfolding judgedOf onKind uncoveredRule
     open-fine h = rw (← same, eq-eqb (kindOf b) ruleKind (sym kind ∙ rule), ← same, ← said, h, onKind, uncoveredRule)
 
-pub rule-start : (c : Certificate) (file : List ℕ) → firstFault (onKind ruleKind (uncoveredRule c) file) 0 (blockCount file - 0) ≡ ruleFault c file
-unfolding ruleFault kindFault
-rule-start c file = let all : blockCount file - 0 ≡ blockCount file = omega arith in rw all
-
 -- ---- numbers 9 to 12
 
-pub found-some : (fault : ℕ → Fault) {r : Found} {o : Option Fault} → faultFound fault r ≡ o → {i : ℕ} → r ≡ At i → o ≡ some (fault i)
-found-some fault said h = sym said ∙ ap (faultFound fault) h
+-- The loops over the blocks start with all of them.
+kind-start : (kind : ℕ) (judged : ℕ → List ℕ → Option Fault) (file : List ℕ)
+    → firstFault (onKind kind judged file) 0 (blockCount file - 0) ≡ kindFault kind judged file
+unfolding kindFault
+kind-start kind judged file = let all : blockCount file - 0 ≡ blockCount file = omega arith in rw all
 
-pub found-none : (fault : ℕ → Fault) {r : Found} {o : Option Fault} → faultFound fault r ≡ o → r ≡ Nothing → o ≡ none
-found-none fault said h = sym said ∙ ap (faultFound fault) h
+pub rule-start : (c : Certificate) (file : List ℕ) → firstFault (onKind ruleKind (uncoveredRule c) file) 0 (blockCount file - 0) ≡ ruleFault c file
+unfolding ruleFault
+rule-start c file = kind-start ruleKind (uncoveredRule c) file
 
-pub found-block : {file : List ℕ} → Laid file → (r : Found) → FoundBelow (blockCount file) r → {i : ℕ} → r ≡ At i → i < 256
-found-block laid (At n) inside {i} h = let same : n ≡ i = cc in let few = laid .few in omega arith
-found-block laid Nothing inside h = let z : _≡_ {A = ℕ} 0 1 = cc in absurd (omega arith)
+pub condition-start : (condition : Condition) (c : Certificate) (file : List ℕ)
+    → firstFault (onKind (kindAsked condition) (conditionAt condition c) file) 0 (blockCount file - 0) ≡ conditionFault condition c file
+unfolding conditionFault
+condition-start condition c file = kind-start (kindAsked condition) (conditionAt condition c) file
 
 module _ (c : Certificate) (file : List ℕ) where
-  pub certificate-known : {f : Fault} → knownFault c file ≡ some f → certificateFault c file ≡ some f
+  pub certificate-known : {f : Fault} → conditionFault Unknown c file ≡ some f → certificateFault c file ≡ some f
   unfolding certificateFault
   certificate-known h = rw (h, certificateFault)
 
-  module _ (known : knownFault c file ≡ none) where
-    pub certificate-closed : {f : Fault} → closedFault c file ≡ some f → certificateFault c file ≡ some f
+  module _ (known : conditionFault Unknown c file ≡ none) where
+    pub certificate-closed : {f : Fault} → conditionFault Closed c file ≡ some f → certificateFault c file ≡ some f
     unfolding certificateFault
     certificate-closed h = rw (known, h, certificateFault)
 
-    module _ (closed : closedFault c file ≡ none) where
-      pub certificate-key : {f : Fault} → keyFault c file ≡ some f → certificateFault c file ≡ some f
+    module _ (closed : conditionFault Closed c file ≡ none) where
+      pub certificate-key : {f : Fault} → conditionFault Kept c file ≡ some f → certificateFault c file ≡ some f
       unfolding certificateFault
       certificate-key h = rw (known, closed, h, certificateFault)
 
-      pub certificate-rule : keyFault c file ≡ none → ruleFault c file ≡ certificateFault c file
+      pub certificate-rule : conditionFault Kept c file ≡ none → ruleFault c file ≡ certificateFault c file
       unfolding certificateFault
       certificate-rule h = rw (known, closed, h, certificateFault)
 

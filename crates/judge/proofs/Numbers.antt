@@ -1,18 +1,14 @@
--- Laws of numbers 9, 10 and 11: what the entries of a secret or of a good pattern say, and the first block with a fault.
+-- Laws of numbers 9, 10 and 11: what the entries of a secret or of a good pattern say, and what is answered of a block.
 -- Assumes nothing.
 use mathlib.Core.Path.{_≡_, refl, sym, ap, subst, _∙_}
 use mathlib.Core.Bool.{Bool, true, false, not}
 use mathlib.Core.Logic.{_⊎_, inl, inr}
 use mathlib.Core.List.{List, [], _∷_}
-use mathlib.Core.Option.{Option, none, some}
-use Prim.Native.Nat.{ℕ, zero, suc, _+_, _*_, _/_, _%_, _<_, _≤_}
+use Prim.Native.Nat.{ℕ, _+_, _*_, _/_, _%_, _<_, _≤_}
 use native.Mathlib.Omega.{arith}
-use native.Mathlib.Decide.{ℕ-discrete}
-use borrow.Author.Count.{below-none, below-more}
 use lib.Dec.{eqb}
 use lib.ListN.{length, getD, drop, List·getD-eq-default}
 use borrow.Author.Tests.{eq-eqb, ne-eqb}
-use Rattle.blocks.specs.Kinds.{secretKind, goodKind}
 use Rattle.blocks.specs.Block.{blockAt, kindOf, firstEntries}
 use Rattle.terms.specs.Term.{Term, Message, Variable, variable, atom, pair, encrypted, replace, asTerm}
 use Rattle.terms.specs.Tag.{atomTag, pairTag, encryptionTag}
@@ -25,16 +21,17 @@ use Rattle.terms.specs.ValidLaws.{known-byte, partner-bytes}
 use Rattle.terms.specs.OneTerm.{IsEncryption}
 use Rattle.terms.specs.Solve.{Says, says-same}
 use Rattle.terms.specs.Decisions.{says-eq, says-yes, says-no}
-use Rattle.terms.specs.Decide.{answer, says-answer}
-use Rattle.judge.specs.declared.verdict.Fault.{Fault}
-use Rattle.judge.specs.declared.verdict.Fault.the-variants.{KnownSecret, NotClosed, KeyNotKept}
+use Rattle.terms.specs.Decide.{answer, answer-yes, answer-no}
+use Rattle.judge.specs.declared.form.Judged.the-variants.{Fine, Faulty}
+use Rattle.judge.specs.declared.listed.Condition.{Condition}
 use Rattle.judge.specs.Certificate.{Certificate, Secret, inverse}
 use Rattle.judge.specs.File.{patternOf, secretOf, certificateOf}
 use Rattle.judge.specs.Laid.{SecretBlock, GoodBlock}
 use Rattle.judge.specs.Conditions.{KnownAtom, WeaklyClosed, KeptKey}
-use Rattle.judge.specs.Decisions.{known-atom?, weakly-closed?, kept-key?}
-use Rattle.judge.specs.Verdict.{firstFault, onKind, knownSecret, unclosedSecret, unkeptKey}
-use Rattle.judge.specs.Listed.{IsSecret, is-secret?, TermPart, faultIf}
+use Rattle.judge.specs.Meaning.{SecretNotKnown, SecretClosed, RootKeyKept}
+use Rattle.judge.specs.Judgement.{judgedOf}
+use Rattle.judge.specs.Verdict.{onKind, kindAsked, Meets, meets?, faultOn, conditionAt}
+use Rattle.judge.specs.Listed.{IsSecret, is-secret?, TermPart}
 use Rattle.judge.proofs.ListedLaws.{answer-says, asTerm-only, secret-is}
 use Rattle.judge.proofs.Listing.{secret-term}
 
@@ -205,23 +202,11 @@ kept-says c {e} begins root {k} {p} value is b says =
     (λ w. (let again : w .key ≡ root .key = (let a = w .same in let d = root .is in cc) in
     rw (ap (inverse c) again ∙ same) at (w .kept))) says
 
--- ---- the first block with a fault
+-- ---- what a block is asked
 
-module _ (file : List ℕ) (kind i : ℕ) where
-  pub other-fault : (judged : ℕ → List ℕ → Option Fault) → ¬ (kindOf (blockAt file i) ≡ kind) → none ≡ onKind kind judged file i
-  unfolding onKind
-  other-fault judged off = rw (ne-eqb _ _ off, onKind)
-
-  on-kind : (judged : ℕ → List ℕ → Option Fault) → kindOf (blockAt file i) ≡ kind → judged i (blockAt file i) ≡ onKind kind judged file i
-  unfolding onKind
-  on-kind judged k = rw (eq-eqb _ _ k, onKind)
-
-abbrev faultUnless : Bool → Fault → Option Fault
-faultUnless b f = elim b [ true ↦ none | false ↦ some f ]
-
-fault-unless : (b : Bool) (f : Fault) → faultIf (not b) f ≡ faultUnless b f
-fault-unless true f = refl
-fault-unless false f = refl
+says-not : (P : Type 0) (b : Bool) → Says b P → Says (not b) (¬ P)
+says-not P true p = λ n. n p
+says-not P false n = n
 
 module _ {file : List ℕ} {i : ℕ} {e : List ℕ} (part : TermPart file i e) where
   -- The secret of block i is the message that its entries begin with.
@@ -234,60 +219,39 @@ module _ {file : List ℕ} {i : ℕ} {e : List ℕ} (part : TermPart file i e) w
   pattern-at = ap termOf (sym (part .part))
 
   module _ (c : Certificate) (b : Bool) where
-    pub known-fault : kindOf (blockAt file i) ≡ secretKind → SecretBlock (blockAt file i)
-        → ((m : Message) → termOf e ≡ asTerm m → Says b (KnownAtom c m)) → faultIf b (KnownSecret i) ≡ onKind secretKind (knownSecret c) file i
-    unfolding knownSecret
-    known-fault k s says =
-        let is = says-answer b (says (secretOf (blockAt file i)) (message-at s)) (known-atom? c (secretOf (blockAt file i))) in
-        ap (λ (b : Bool). faultIf b (KnownSecret i)) is ∙ on-kind file secretKind i (knownSecret c) k
+    pub unknown-at : SecretBlock (blockAt file i) → ((m : Message) → termOf e ≡ asTerm m → Says b (KnownAtom c m))
+        → Says (not b) (SecretNotKnown c (blockAt file i))
+    unknown-at s says = says-not (KnownAtom c (secretOf (blockAt file i))) b (says (secretOf (blockAt file i)) (message-at s))
 
-    pub open-fault : kindOf (blockAt file i) ≡ secretKind → SecretBlock (blockAt file i)
-        → ((m : Message) → termOf e ≡ asTerm m → Says b (WeaklyClosed c m)) → faultIf (not b) (NotClosed i) ≡ onKind secretKind (unclosedSecret c) file i
-    unfolding unclosedSecret
-    open-fault k s says =
-        let is = says-answer b (says (secretOf (blockAt file i)) (message-at s)) (weakly-closed? c (secretOf (blockAt file i))) in
-        fault-unless b (NotClosed i) ∙ ap (λ (b : Bool). faultUnless b (NotClosed i)) is ∙ on-kind file secretKind i (unclosedSecret c) k
+    pub closed-at : SecretBlock (blockAt file i) → ((m : Message) → termOf e ≡ asTerm m → Says b (WeaklyClosed c m))
+        → Says b (SecretClosed c (blockAt file i))
+    closed-at s says = says (secretOf (blockAt file i)) (message-at s)
 
-    pub loose-fault : kindOf (blockAt file i) ≡ goodKind → Says b (KeptKey c (termOf e)) → faultIf (not b) (KeyNotKept i) ≡ onKind goodKind (unkeptKey c) file i
-    unfolding unkeptKey
-    loose-fault k says =
-        let is = says-answer b (subst (λ (t : Term Variable). Says b (KeptKey c t)) (sym pattern-at) says) (kept-key? c (patternOf (blockAt file i))) in
-        fault-unless b (KeyNotKept i) ∙ ap (λ (b : Bool). faultUnless b (KeyNotKept i)) is ∙ on-kind file goodKind i (unkeptKey c) k
+    pub kept-at : Says b (KeptKey c (termOf e)) → Says b (RootKeyKept c (blockAt file i))
+    kept-at says = subst (λ (t : Term Variable). Says b (KeptKey c t)) (sym pattern-at) says
 
   -- The root of a good pattern is an encryption.
   pub good-root : GoodBlock (blockAt file i) → IsEncryption (termOf e)
   good-root g = record { key = g .key; content = g .content; is = sym pattern-at ∙ g .same }
 
--- The loop: the first block that is judged to have a fault. None before block i has one.
-abbrev pub FaultFree : (ℕ → Option Fault) → ℕ → ℕ → Type 0
-FaultFree judged count i = (i ≤ count) × ((k : ℕ) → k < i → judged k ≡ none)
+-- What is asked, where the code has found which condition it is.
+pub meets-as : {condition is : Condition} → condition ≡ is → (c : Certificate) (block : List ℕ) (b : Bool)
+    → Says b (Meets is c block) → Says b (Meets condition c block)
+meets-as {condition} {is} given c block b says = subst (λ (x : Condition). Says b (Meets x c block)) (sym given) says
 
-module _ {judged : ℕ → Option Fault} where
-  fault-from : (i left n : ℕ) {f : Fault} → i ≤ n → n < i + left → ((k : ℕ) → k < n → judged k ≡ none) → judged n ≡ some f → some f ≡ firstFault judged i left
-  unfolding firstFault
-  fault-from i zero n low high all is = absurd (omega arith)
-  fault-from i (suc left) n low high all is = elim (ℕ-discrete i n) [
-    | yes e ↦ let here = ap judged e ∙ is in rw (here, firstFault)
-    | no off ↦ let here = all i (omega arith) in rw (here, firstFault) (fault-from (suc i) left n (omega arith) (omega arith) all is)
-  ]
+-- A block of another kind, one that meets the condition, and one that does not.
+module _ (condition : Condition) (c : Certificate) (file : List ℕ) (i : ℕ) where
+  pub not-asked : ¬ (kindOf (blockAt file i) ≡ kindAsked condition) → Fine ≡ judgedOf (onKind (kindAsked condition) (conditionAt condition c) file i)
+  unfolding judgedOf onKind
+  not-asked off = rw (ne-eqb (kindOf (blockAt file i)) (kindAsked condition) off, onKind)
 
-  no-fault-from : (i left : ℕ) → ((k : ℕ) → k < i + left → judged k ≡ none) → none ≡ firstFault judged i left
-  unfolding firstFault
-  no-fault-from i zero all = refl
-  no-fault-from i (suc left) all = let here = all i (omega arith) in rw (here, firstFault) (no-fault-from (suc i) left (λ k l. all k (omega arith)))
+  module _ (asked : kindOf (blockAt file i) ≡ kindAsked condition) (b : Bool) (says : Says b (Meets condition c (blockAt file i))) where
+    pub met : b ≡ true → Fine ≡ judgedOf (onKind (kindAsked condition) (conditionAt condition c) file i)
+    unfolding judgedOf onKind conditionAt
+    met said = rw (eq-eqb (kindOf (blockAt file i)) (kindAsked condition) asked,
+        answer-yes (meets? condition c (blockAt file i)) (says-yes b says said), onKind, conditionAt)
 
-  -- Before block i none has a fault: at first, one block on, and at the end; and the block that has one.
-  pub none-yet : {count : ℕ} → FaultFree judged count 0
-  none-yet = (omega arith, below-none _)
-
-  pub one-on : {count i : ℕ} (f : Fault) → i < count → FaultFree judged count i → (b : Bool) → faultIf b f ≡ judged i → b ≡ false
-      → FaultFree judged count (i + 1)
-  one-on f inside free b is t = (omega arith, below-more _ _ (free .1) (sym is ∙ ap (λ (b : Bool). faultIf b f) t))
-
-  pub first-fault : {count i : ℕ} {f : Fault} → i < count → FaultFree judged count i → (b : Bool) → faultIf b f ≡ judged i → b ≡ true
-      → (some f ≡ firstFault judged 0 count) × (i < count)
-  first-fault {count} {i} {f} inside free b is t =
-      (fault-from 0 count i (omega arith) (omega arith) (free .1) (sym is ∙ ap (λ (b : Bool). faultIf b f) t), inside)
-
-  pub no-fault : {count i : ℕ} → count ≤ i → FaultFree judged count i → none ≡ firstFault judged 0 count
-  no-fault {count} all-seen free = no-fault-from 0 count (λ k l. free .1 k (omega arith))
+    pub unmet : b ≡ false → Faulty (faultOn condition i) ≡ judgedOf (onKind (kindAsked condition) (conditionAt condition c) file i)
+    unfolding judgedOf onKind conditionAt
+    unmet said = rw (eq-eqb (kindOf (blockAt file i)) (kindAsked condition) asked,
+        answer-no (meets? condition c (blockAt file i)) (says-no b says said), onKind, conditionAt)

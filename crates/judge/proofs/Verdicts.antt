@@ -11,7 +11,7 @@ use Rattle.blocks.specs.Kinds.{secretKind, goodKind, ruleKind}
 use Rattle.blocks.specs.Block.{blockAt, kindOf, firstCount}
 use Rattle.terms.specs.declared.valid.Found.{Found}
 use Rattle.terms.specs.declared.valid.Found.the-variants.{At, Nothing}
-use Rattle.terms.specs.Term.{Term, Variable}
+use Rattle.terms.specs.Term.{Term, Message, Variable}
 use Rattle.terms.specs.Place.{Place, subtermAt}
 use Rattle.terms.specs.Entry.{size}
 use Rattle.terms.specs.Search.{in-spots, spots-stand}
@@ -23,17 +23,19 @@ use Rattle.terms.specs.Decisions.{says-eq}
 use Rattle.terms.specs.Solve.{Says, says-same}
 use Rattle.judge.specs.declared.verdict.Counts.{Counts}
 use Rattle.judge.specs.declared.verdict.Fault.{Fault}
-use Rattle.judge.specs.declared.verdict.Fault.the-variants.{Length, Missing, KnownSecret, NotClosed, KeyNotKept, Uncovered}
+use Rattle.judge.specs.declared.verdict.Fault.the-variants.{Length, Missing, Uncovered}
+use Rattle.judge.specs.declared.listed.Condition.{Condition}
+use Rattle.judge.specs.declared.listed.Condition.the-variants.{Unknown, Closed, Kept}
 use Rattle.judge.specs.declared.verdict.Verdict.the-variants.{Accepted, Refused}
 use Rattle.judge.specs.Certificate.{Certificate, Rule}
-use Rattle.judge.specs.File.{blockCount, patternOf, secretOf, ruleOf, certificateOf}
+use Rattle.judge.specs.File.{blockCount, ruleOf, certificateOf}
 use Rattle.judge.specs.Cover.{Risky, Covered, Dead, Passes, dead, covered}
 use Rattle.judge.specs.Conditions.{KnownAtom}
-use Rattle.judge.specs.Decisions.{known-atom?, weakly-closed?, kept-key?, risky?, dead?}
-use Rattle.judge.specs.Verdict.{missingFault, onKind, kindFault, knownSecret, unclosedSecret, unkeptKey, fine?}
+use Rattle.judge.specs.Decisions.{known-atom?, risky?, dead?}
+use Rattle.judge.specs.Verdict.{missingFault, onKind, kindFault, kindAsked, Meets, meets?, faultOn, conditionAt, conditionFault, fine?}
 use Rattle.judge.specs.Cover.{spotAt, FineAt}
 use Rattle.judge.specs.File.{kindCount}
-use Rattle.judge.specs.Verdict.{uncovered, uncoveredRule, knownFault, closedFault, keyFault, ruleFault, certificateFault}
+use Rattle.judge.specs.Verdict.{uncovered, uncoveredRule, ruleFault, certificateFault}
 use Rattle.judge.specs.Verdict.{lengthFault, formFrom, formFault, faultOf, verdictOf, blockFault}
 use Rattle.judge.specs.File.{countsOf}
 use Rattle.judge.specs.Meaning.{LengthRight, BlockRight, BlockFaulty, HasKind, Formed, Every, SecretNotKnown, SecretClosed, RootKeyKept, Passing}
@@ -146,35 +148,18 @@ module _ (certificate : Certificate) (rule : Rule) where
 -- ---- numbers 9 to 12
 
 module _ (certificate : Certificate) (file : List ℕ) where
-  abbrev KnownWrong : ℕ → Fault → Type 0
-  KnownWrong i g = (g ≡ KnownSecret i) × KnownAtom certificate (secretOf (blockAt file i))
+  abbrev Unmet : Condition → ℕ → Fault → Type 0
+  Unmet condition i g = (g ≡ faultOn condition i) × (¬ Meets condition certificate (blockAt file i))
 
-  known-judged : Exact (Every secretKind file (SecretNotKnown certificate)) (KindWrong secretKind file (SecretNotKnown certificate) KnownWrong) (knownFault certificate file)
-  unfolding knownFault knownSecret
-  known-judged = kind-judged secretKind (knownSecret certificate) file (λ i. go i (known-atom? certificate (secretOf (blockAt file i))))
-    where
-      go : (i : ℕ) (d : Dec (KnownAtom certificate (secretOf (blockAt file i))))
-          → Exact (SecretNotKnown certificate (blockAt file i)) (KnownWrong i) (elim (answer d) [ true ↦ some (KnownSecret i) | false ↦ none ])
-      go i (yes k) = found-some (KnownSecret i) (λ u. u k) (refl, k) (λ g w. w .0)
-      go i (no n) = found-none n (λ g w. n (w .1))
+  abbrev ConditionWrong : Condition → Fault → Type 0
+  ConditionWrong condition = KindWrong (kindAsked condition) file (Meets condition certificate) (Unmet condition)
 
-  abbrev ClosedWrong : ℕ → Fault → Type 0
-  ClosedWrong i g = (g ≡ NotClosed i) × (¬ SecretClosed certificate (blockAt file i))
-
-  closed-judged : Exact (Every secretKind file (SecretClosed certificate)) (KindWrong secretKind file (SecretClosed certificate) ClosedWrong) (closedFault certificate file)
-  unfolding closedFault unclosedSecret
-  closed-judged = kind-judged secretKind (unclosedSecret certificate) file
-      (λ i. tested (answer (weakly-closed? certificate (secretOf (blockAt file i)))) (NotClosed i)
-      (says-decided (weakly-closed? certificate (secretOf (blockAt file i)))))
-
-  abbrev KeyWrong : ℕ → Fault → Type 0
-  KeyWrong i g = (g ≡ KeyNotKept i) × (¬ RootKeyKept certificate (blockAt file i))
-
-  key-judged : Exact (Every goodKind file (RootKeyKept certificate)) (KindWrong goodKind file (RootKeyKept certificate) KeyWrong) (keyFault certificate file)
-  unfolding keyFault unkeptKey
-  key-judged = kind-judged goodKind (unkeptKey certificate) file
-      (λ i. tested (answer (kept-key? certificate (patternOf (blockAt file i)))) (KeyNotKept i)
-      (says-decided (kept-key? certificate (patternOf (blockAt file i)))))
+  condition-judged : (condition : Condition)
+      → Exact (Every (kindAsked condition) file (Meets condition certificate)) (ConditionWrong condition) (conditionFault condition certificate file)
+  unfolding conditionFault conditionAt
+  condition-judged condition = kind-judged (kindAsked condition) (conditionAt condition certificate) file
+      (λ i. tested (answer (meets? condition certificate (blockAt file i))) (faultOn condition i)
+      (says-decided (meets? condition certificate (blockAt file i))))
 
   abbrev RuleWrong : ℕ → Fault → Type 0
   RuleWrong i g = RuleOpen certificate (ruleOf (blockAt file i)) (λ k. Uncovered i (firstCount (blockAt file i) + k)) g
@@ -189,15 +174,16 @@ module _ (certificate : Certificate) (file : List ℕ) where
       × (Every goodKind file (RootKeyKept certificate) × Every ruleKind file (Passing certificate)))
 
   abbrev JudgedWrong : Fault → Type 0
-  JudgedWrong g = KindWrong secretKind file (SecretNotKnown certificate) KnownWrong g
-      ⊎ (Every secretKind file (SecretNotKnown certificate) × (KindWrong secretKind file (SecretClosed certificate) ClosedWrong g
-      ⊎ (Every secretKind file (SecretClosed certificate) × (KindWrong goodKind file (RootKeyKept certificate) KeyWrong g
-      ⊎ (Every goodKind file (RootKeyKept certificate) × KindWrong ruleKind file (Passing certificate) RuleWrong g)))))
+  JudgedWrong g = ConditionWrong Unknown g ⊎ (Every secretKind file (SecretNotKnown certificate)
+      × (ConditionWrong Closed g ⊎ (Every secretKind file (SecretClosed certificate)
+      × (ConditionWrong Kept g ⊎ (Every goodKind file (RootKeyKept certificate)
+      × KindWrong ruleKind file (Passing certificate) RuleWrong g)))))
 
   certificate-judged : Exact Judged JudgedWrong (certificateFault certificate file)
   unfolding certificateFault
-  certificate-judged = then (knownFault certificate file) known-judged
-      (λ k. then (closedFault certificate file) closed-judged (λ c. then (keyFault certificate file) key-judged (λ h. rule-judged)))
+  certificate-judged = then (conditionFault Unknown certificate file) (condition-judged Unknown)
+      (λ k. then (conditionFault Closed certificate file) (condition-judged Closed)
+      (λ c. then (conditionFault Kept certificate file) (condition-judged Kept) (λ h. rule-judged)))
 
 -- ---- the verdict
 
@@ -233,8 +219,11 @@ module _ (file : List ℕ) where
       back : Accepts file → Right
       back a = (a .formed .long, (a .formed .blocks, ((a .formed .secret, a .formed .rule), (a .unknown, (a .closed, (a .kept, a .passing))))))
 
+      known-atom : {m : Message} → ¬ (¬ KnownAtom (certificateOf file) m) → KnownAtom (certificateOf file) m
+      known-atom {m} n = elim (known-atom? (certificateOf file) m) [ yes k ↦ k | no off ↦ absurd (n off) ]
+
       judged-to : (g : Fault) → Formed file → JudgedWrong (certificateOf file) file g → RefusedWith file g
-      judged-to g f (inl (kind-wrong a w)) = secretKnown (w .0) f a (w .1)
+      judged-to g f (inl (kind-wrong a w)) = secretKnown (w .0) f a (known-atom (w .1))
       judged-to g f (inr (u, inl (kind-wrong a w))) = secretNotClosed (w .0) f u a
       judged-to g f (inr (u, inr (c, inl (kind-wrong a w)))) = keyNotKept (w .0) f u c a
       judged-to g f (inr (u, inr (c, inr (k, kind-wrong a w)))) = placeUncovered (w .1) f u c k a (w .2)
@@ -252,7 +241,7 @@ module _ (file : List ℕ) where
       wrong-back g (lengthFails e n) = inl (e, n)
       wrong-back g (blockFails {i} l h all w) = inr (l, inl (at-block {i = i} (omega arith) (omega arith) (λ j a p. all j p) w))
       wrong-back g (missing e l b n) = inr (l, inr (b, inl (e, n)))
-      wrong-back g (secretKnown e f a k) = later-on g f (inl (kind-wrong a (e, k)))
+      wrong-back g (secretKnown e f a k) = later-on g f (inl (kind-wrong a (e, a .fails)))
       wrong-back g (secretNotClosed e f u a) = later-on g f (inr (u, inl (kind-wrong a (e, a .fails))))
       wrong-back g (keyNotKept e f u c a) = later-on g f (inr (u, inr (c, inl (kind-wrong a (e, a .fails)))))
       wrong-back g (placeUncovered {k = n} e f u c k a w) = later-on g f (inr (u, inr (c, inr (k, kind-wrong a (n, e, w)))))

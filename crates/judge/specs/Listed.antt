@@ -3,7 +3,6 @@ use mathlib.Core.Path.{_≡_}
 use mathlib.Core.Bool.{Bool, true, false}
 use mathlib.Core.List.{List, [], map, List·Memᴰ}
 use mathlib.Core.Logic.{_⊎_, inl, inr}
-use mathlib.Core.Option.{Option, none, some}
 use Prim.Native.Nat.{ℕ, zero, suc, _+_, _*_, _%_, _<_, _≤_}
 use lib.Dec.{eqb}
 use lib.ListN.{length, getD, drop}
@@ -19,9 +18,6 @@ use Rattle.terms.specs.TermGraph.{SizesOf}
 use Rattle.terms.specs.WalkLaws.{from}
 use Rattle.terms.specs.Decisions.{dec-map}
 use Rattle.terms.specs.Search.{any?}
-use Rattle.terms.specs.declared.valid.Found.{Found}
-use Rattle.terms.specs.declared.valid.Found.the-variants.{At, Nothing}
-use Rattle.judge.specs.declared.verdict.Fault.{Fault}
 use Rattle.judge.specs.Certificate.{Certificate}
 use Rattle.judge.specs.File.{patternOf, blockCount}
 use Rattle.judge.specs.Laid.{Laid}
@@ -160,16 +156,3 @@ pub record TermPart (file : List ℕ) (i : ℕ) (e : List ℕ) : Type 0 where
   pub term : Begins e
   pub whole : 4 * size (termOf e) ≡ length e
   pub short : length e ≤ mostTermBytes
-
--- A fault, if a test tells of one.
-abbrev pub faultIf : Bool → Fault → Option Fault
-faultIf t f = elim t [ true ↦ some f | false ↦ none ]
-
--- The block that a search for a fault finds, as the fault that the verdict names; and that it is a block of the file.
-abbrev pub faultFound : (ℕ → Fault) → Found → Option Fault
-faultFound fault (At i) = some (fault i)
-faultFound fault Nothing = none
-
-abbrev pub FoundBelow : ℕ → Found → Type 0
-FoundBelow count (At i) = i < count
-FoundBelow count Nothing = Unit {0}

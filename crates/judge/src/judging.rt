@@ -18,6 +18,7 @@ use crate::flag;
 use crate::form;
 use crate::form::Judged;
 use crate::listed;
+use crate::listed::Condition;
 use crate::verdict::Fault;
 use crate::verdict::Verdict;
 use blocks::kinds;
@@ -175,14 +176,14 @@ fn certificate_fault(file: &[u8]) -> Judged
     requires { ⌜ Laid (now file) ⌝ }
     ensures { λ r. ⌜ r ≡ judgedOf (certificateFault (certificateOf (now (file .entry))) (now (file .entry))) ⌝ }
 {
-    if let Found::At(i) = listed::known_secret(file) {
-        return Judged::Faulty(Fault::KnownSecret(i as u8));
+    if let Judged::Faulty(f) = listed::condition_fault(file, Condition::Unknown) {
+        return Judged::Faulty(f);
     }
-    if let Found::At(i) = listed::not_closed(file) {
-        return Judged::Faulty(Fault::NotClosed(i as u8));
+    if let Judged::Faulty(f) = listed::condition_fault(file, Condition::Closed) {
+        return Judged::Faulty(f);
     }
-    if let Found::At(i) = listed::key_not_kept(file) {
-        return Judged::Faulty(Fault::KeyNotKept(i as u8));
+    if let Judged::Faulty(f) = listed::condition_fault(file, Condition::Kept) {
+        return Judged::Faulty(f);
     }
     rule_fault(file)
 }

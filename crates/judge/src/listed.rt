@@ -17,16 +17,27 @@ ghost use Rattle.judge.specs.Certificate.{Secret, inverse};
 ghost use Rattle.judge.specs.File.{blockCount, certificateOf};
 ghost use Rattle.judge.specs.Laid.{Laid, TermBlock};
 ghost use Rattle.judge.specs.Conditions.{KnownAtom, WeaklyClosed, KeptKey};
-ghost use Rattle.judge.specs.Verdict.{onKind, knownSecret, unclosedSecret, unkeptKey, knownFault, closedFault, keyFault};
-ghost use Rattle.judge.specs.Listed.{HoldsAt, Searching, TermPart, matches-listed?, shares-listed?, is-secret?, faultIf, faultFound, FoundBelow};
+ghost use Rattle.judge.specs.Judgement.{judgedOf};
+ghost use Rattle.judge.specs.Verdict.{onKind, kindAsked, Meets, faultOn, conditionAt, conditionFault};
+ghost use Rattle.judge.specs.Listed.{HoldsAt, Searching, TermPart, matches-listed?, shares-listed?, is-secret?};
 ghost use Rattle.judge.specs.Listed.{slotAt, FlaggedMore, RootsOf, NoRoot, SizesBelow, SizesIn, SizeOf};
-ghost use Rattle.judge.specs.declared.verdict.Fault.the-variants.{KnownSecret, NotClosed, KeyNotKept};
 use blocks::kinds;
 use blocks::limits;
+use crate::form::Judged;
+use crate::verdict::Fault;
 use terms::entry;
 use terms::matching;
 use terms::sharing;
-use terms::valid::Found;
+
+// What numbers 9, 10 and 11 ask of the blocks of one kind.
+pub enum Condition {
+    // 9: the secret is no known atom.
+    Unknown,
+    // 10: the secret is weakly closed.
+    Closed,
+    // 11: the inverse of the good pattern's root key is a listed secret.
+    Kept,
+}
 
 // The kind of block i.
 fn kind_at(file: &[u8], i: usize) -> u8
@@ -324,35 +335,6 @@ fn is_known(file: &[u8], e: &[u8]) -> bool
     known == 1
 }
 
-// Is block i a secret's, and its secret a known atom?
-fn known_at(file: &[u8], i: usize) -> bool
-    requires { ⌜ Laid (now file) × (i < blockCount (now file)) ⌝ }
-    ensures { λ r. ⌜ faultIf r (KnownSecret i) ≡ onKind secretKind (knownSecret (certificateOf (now (file .entry)))) (now (file .entry)) i ⌝ }
-{
-    if is_kind(file, i, kinds::SECRET) {
-        is_known(file, term_at(file, i))
-    } else {
-        false
-    }
-}
-
-// Number 9: the first block whose secret is a known atom.
-pub fn known_secret(file: &[u8]) -> Found
-    requires { ⌜ Laid (now file) ⌝ }
-    ensures fault { λ r. ⌜ faultFound KnownSecret r ≡ knownFault (certificateOf (now (file .entry))) (now (file .entry)) ⌝ }
-    ensures inside { λ r. ⌜ FoundBelow (blockCount (now (file .entry))) r ⌝ }
-{
-    let count = file.len() / limits::BLOCK_SIZE;
-    let mut i = 0;
-    while i < count {
-        if known_at(file, i) {
-            return Found::At(i);
-        }
-        i += 1;
-    }
-    Found::Nothing
-}
-
 // Is the term that e begins with, as a message, weakly closed? With a pair, one half is listed; with {m}k, m or k is.
 fn is_closed(file: &[u8], e: &[u8]) -> bool
     requires { ⌜ Searching (now file) secretKind (now e) ⌝ }
@@ -373,35 +355,6 @@ fn is_closed(file: &[u8], e: &[u8]) -> bool
         return is_listed_atom(file, entry::value(e));
     }
     true
-}
-
-// Is block i a secret's, and its secret not weakly closed?
-fn unclosed_at(file: &[u8], i: usize) -> bool
-    requires { ⌜ Laid (now file) × (i < blockCount (now file)) ⌝ }
-    ensures { λ r. ⌜ faultIf r (NotClosed i) ≡ onKind secretKind (unclosedSecret (certificateOf (now (file .entry)))) (now (file .entry)) i ⌝ }
-{
-    if is_kind(file, i, kinds::SECRET) {
-        !is_closed(file, term_at(file, i))
-    } else {
-        false
-    }
-}
-
-// Number 10: the first block whose secret is not weakly closed.
-pub fn not_closed(file: &[u8]) -> Found
-    requires { ⌜ Laid (now file) ⌝ }
-    ensures fault { λ r. ⌜ faultFound NotClosed r ≡ closedFault (certificateOf (now (file .entry))) (now (file .entry)) ⌝ }
-    ensures inside { λ r. ⌜ FoundBelow (blockCount (now (file .entry))) r ⌝ }
-{
-    let count = file.len() / limits::BLOCK_SIZE;
-    let mut i = 0;
-    while i < count {
-        if unclosed_at(file, i) {
-            return Found::At(i);
-        }
-        i += 1;
-    }
-    Found::Nothing
 }
 
 // The inverse of a key: the partner field of its entry.
@@ -425,31 +378,67 @@ fn is_kept(file: &[u8], e: &[u8]) -> bool
     is_listed_atom(file, inverse_of(file, entry::value(e)))
 }
 
-// Is block i a good pattern's, and the inverse of its root key no listed secret?
-fn unkept_at(file: &[u8], i: usize) -> bool
-    requires { ⌜ Laid (now file) × (i < blockCount (now file)) ⌝ }
-    ensures { λ r. ⌜ faultIf r (KeyNotKept i) ≡ onKind goodKind (unkeptKey (certificateOf (now (file .entry)))) (now (file .entry)) i ⌝ }
+// The kind of block that a condition asks.
+fn kind_asked(condition: Condition) -> u8
+    ensures { λ r. ⌜ r ≡ kindAsked condition ⌝ }
 {
-    if is_kind(file, i, kinds::GOOD) {
-        !is_kept(file, term_at(file, i))
-    } else {
-        false
+    match condition {
+        Condition::Unknown => kinds::SECRET,
+        Condition::Closed => kinds::SECRET,
+        Condition::Kept => kinds::GOOD,
     }
 }
 
-// Number 11: the first block whose good pattern has a root key whose inverse is not a listed secret.
-pub fn key_not_kept(file: &[u8]) -> Found
+// The fault of a block that does not meet it.
+fn fault_on(condition: Condition, block: u8) -> Fault
+    ensures { λ r. ⌜ r ≡ faultOn condition block ⌝ }
+{
+    match condition {
+        Condition::Unknown => Fault::KnownSecret(block),
+        Condition::Closed => Fault::NotClosed(block),
+        Condition::Kept => Fault::KeyNotKept(block),
+    }
+}
+
+// Does block i, which is of the kind asked, meet the condition?
+fn is_met(file: &[u8], condition: Condition, i: usize) -> bool
+    requires { ⌜ Laid (now file) × (i < blockCount (now file)) × (kindOf (blockAt (now file) i) ≡ kindAsked condition) ⌝ }
+    ensures { λ r. ⌜ Says r (Meets condition (certificateOf (now (file .entry))) (blockAt (now (file .entry)) i)) ⌝ }
+{
+    match condition {
+        Condition::Unknown => !is_known(file, term_at(file, i)),
+        Condition::Closed => is_closed(file, term_at(file, i)),
+        Condition::Kept => is_kept(file, term_at(file, i)),
+    }
+}
+
+// What the condition says of block i.
+fn condition_at(file: &[u8], condition: Condition, i: usize) -> Judged
+    requires { ⌜ Laid (now file) × (i < blockCount (now file)) ⌝ }
+    ensures { λ r. ⌜ r ≡ judgedOf (onKind (kindAsked condition) (conditionAt condition (certificateOf (now (file .entry)))) (now (file .entry)) i) ⌝ }
+{
+    if !is_kind(file, i, kind_asked(condition)) {
+        return Judged::Fine;
+    }
+    if is_met(file, condition, i) {
+        Judged::Fine
+    } else {
+        Judged::Faulty(fault_on(condition, i as u8))
+    }
+}
+
+// Number 9, 10 or 11: the first block that does not meet the condition.
+pub fn condition_fault(file: &[u8], condition: Condition) -> Judged
     requires { ⌜ Laid (now file) ⌝ }
-    ensures fault { λ r. ⌜ faultFound KeyNotKept r ≡ keyFault (certificateOf (now (file .entry))) (now (file .entry)) ⌝ }
-    ensures inside { λ r. ⌜ FoundBelow (blockCount (now (file .entry))) r ⌝ }
+    ensures { λ r. ⌜ r ≡ judgedOf (conditionFault condition (certificateOf (now (file .entry))) (now (file .entry))) ⌝ }
 {
     let count = file.len() / limits::BLOCK_SIZE;
     let mut i = 0;
     while i < count {
-        if unkept_at(file, i) {
-            return Found::At(i);
+        match condition_at(file, condition, i) {
+            Judged::Faulty(f) => return Judged::Faulty(f),
+            Judged::Fine => i += 1,
         }
-        i += 1;
     }
-    Found::Nothing
+    Judged::Fine
 }
