@@ -30,8 +30,7 @@ use Rattle.judge.specs.File.{certificateOf, ruleOf}
 use Rattle.judge.specs.Laid.{Laid, RuleBlock}
 use Rattle.judge.specs.Cover.{Risky, Covered, sureHat, inPremise, AtOpenPlace, Dead}
 use Rattle.judge.specs.Decisions.{dead?}
-use Rattle.judge.specs.Verdict.{fine?, uncovered}
-use Rattle.judge.specs.Cover.{spotAt, FineAt}
+use Rattle.judge.specs.Verdict.{spotAt, FineSpot, fine?, uncovered}
 use Rattle.judge.specs.Listed.{SharesListed, IsSecret}
 use Rattle.judge.specs.CoverEntries.{subAt, On, Cleared, Flags, Standing, HatBelow, Entries, OpenEntry, OpenFlags, OpenHolds, Flagged, FlaggedWith, SomeFlagged}
 use Rattle.judge.specs.CoverEntries.{RiskyEntry, Wanted, isSecret, isRisky, WantedEntry, FineEntry, Concluded}
@@ -246,7 +245,7 @@ module _ {file : List ℕ} (laid : Laid file) (rule : Rule) {e : List ℕ} (is :
             back (sureHat h) = inl (hat-place laid (concluded .term) here .1 (rw term at h))
             back (inPremise h) = inr (rw subterm-is (at-open s .0 h))
 
-      fine-at : (k : ℕ) → k < size (rule .conclusion) → FineEntry (certificateOf file) e conclusion k ↔ FineAt (certificateOf file) rule k
+      fine-at : (k : ℕ) → k < size (rule .conclusion) → FineEntry (certificateOf file) e conclusion k ↔ FineSpot (certificateOf file) rule k
       unfolding spotAt
       fine-at k inside = fine-entry k (spot-placed (rule .conclusion) k ([], rule .conclusion) inside)
 
@@ -283,7 +282,7 @@ module _ {file : List ℕ} (laid : Laid file) (rule : Rule) {e : List ℕ} (is :
             go on (no gone) = inr (stands-open k on .0 (b .gone k on gone))
 
         first-fine : {r : Found} → FirstNot (λ k. ¬ On left k) (size (termOf conclusion)) r
-            → FirstNot (FineAt (certificateOf file) rule) (size (rule .conclusion)) r
+            → FirstNot (FineSpot (certificateOf file) rule) (size (rule .conclusion)) r
         first-fine (fails {n} is inside off all) =
             let small : n < size (rule .conclusion) = rw term inside in
             fails is small (λ h. off (λ on. not-fine n on (fine-at n small .1 h))) (λ k low. fine-at k (omega arith) .0 (fine k (omega arith) (all k low)))

@@ -24,8 +24,7 @@ use Rattle.judge.specs.File.{blockCount, blocksOf, ofKind, patternOf, se
 use Rattle.judge.specs.Laid.{Laid}
 use Rattle.judge.specs.Cover.{SureHat, NoHat, sharesNoGood, isBad, AtOpenPlace, Risky, isVariable, sharesSecret, Covered, sureHat, inPremise, Dead}
 use Rattle.judge.specs.Decisions.{dead?}
-use Rattle.judge.specs.Verdict.{fine?, uncovered}
-use Rattle.judge.specs.Cover.{FineAt}
+use Rattle.judge.specs.Verdict.{FineSpot, fine?, uncovered}
 use Rattle.judge.specs.Judgement.{OnlyRulesFrom, Heads}
 use Rattle.judge.proofs.Members.{block-listed, listed-block}
 
@@ -75,7 +74,7 @@ module _ {c d : Certificate} (out : Sublists c d) (back : Sublists d c) where
   covered (sureHat h) = sureHat (sure-hat h)
   covered (inPremise o) = inPremise (at-open o)
 
-fine : {c d : Certificate} → Sublists c d → Sublists d c → (rule : Rule) (k : ℕ) → FineAt c rule k → FineAt d rule k
+fine : {c d : Certificate} → Sublists c d → Sublists d c → (rule : Rule) (k : ℕ) → FineSpot c rule k → FineSpot d rule k
 fine out back rule k f r = covered out back (f (risky back out r))
 
 first : {P Q : ℕ → Type 0} → ((k : ℕ) → P k → Q k) → ((k : ℕ) → Q k → P k) → {count : ℕ} {f : Found} → FirstNot P count f → FirstNot Q count f

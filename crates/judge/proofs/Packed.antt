@@ -10,6 +10,7 @@ use Rattle.blocks.specs.Block.{blockAt, kindOf, firstCount}
 use Rattle.blocks.proofs.Layouts.{counts-room}
 use Rattle.blocks.proofs.Parts.{second-length}
 use Rattle.terms.specs.Entry.{size}
+use Rattle.terms.specs.PlaceLaws.{placed-within}
 use Rattle.judge.specs.declared.verdict.Counts.{Counts}
 use Rattle.judge.specs.declared.verdict.Fault.{Fault}
 use Rattle.judge.specs.declared.verdict.Verdict.{Verdict}
@@ -64,7 +65,7 @@ fault-small file f e = go (refused-iff file f .0 e)
     go (keyNotKept e w u c i) = rw e (record { block = omega (arith, i .inside, few-blocks (w .long)); place = omega arith })
     go (placeUncovered e w u c k i n) = rw e (record {
       block = omega (arith, i .inside, few-blocks (w .long));
-      place = rule-place w (i .inside) (i .is) (n .inside);
+      place = rule-place w (i .inside) (i .is) (placed-within (n .stands));
     })
 
 -- ---- the answer is read back

@@ -14,9 +14,7 @@ use Rattle.terms.specs.declared.valid.Found.the-variants.{At, Nothing}
 use Rattle.terms.specs.Term.{Term, Message, Variable}
 use Rattle.terms.specs.Place.{Place, subtermAt}
 use Rattle.terms.specs.Entry.{size}
-use Rattle.terms.specs.Search.{in-spots, spots-stand}
-use Rattle.terms.specs.Place.{Spot, spots}
-use Rattle.terms.specs.PlaceLaws.{spots-length}
+use Rattle.terms.specs.PlaceLaws.{placed-within}
 use Rattle.terms.specs.First.{firstNot}
 use Rattle.terms.specs.Decide.{answer}
 use Rattle.terms.specs.Decisions.{says-eq}
@@ -32,8 +30,8 @@ use Rattle.judge.specs.File.{blockCount, ruleOf, certificateOf}
 use Rattle.judge.specs.Cover.{Risky, Covered, Dead, Passes, dead, covered}
 use Rattle.judge.specs.Conditions.{KnownAtom}
 use Rattle.judge.specs.Decisions.{known-atom?, risky?, dead?}
-use Rattle.judge.specs.Verdict.{missingFault, onKind, kindFault, kindAsked, Meets, meets?, faultOn, conditionAt, conditionFault, fine?}
-use Rattle.judge.specs.Cover.{spotAt, FineAt}
+use Rattle.judge.specs.Verdict.{missingFault, onKind, kindFault, kindAsked, Meets, meets?, faultOn, conditionAt, conditionFault, spotAt, FineSpot, fine?}
+use Rattle.judge.proofs.Spots.{spot-stands, fine-spot, all-places, each-entry}
 use Rattle.judge.specs.File.{kindCount}
 use Rattle.judge.specs.Verdict.{uncovered, uncoveredRule, ruleFault, certificateFault}
 use Rattle.judge.specs.Verdict.{lengthFault, formFrom, formFault, faultOf, verdictOf, blockFault}
@@ -44,7 +42,7 @@ use Rattle.judge.specs.Meaning.{secretNotClosed, keyNotKept, placeUncove
 use Rattle.judge.proofs.Exact.{Exact, found-none, found-some, reworded, tested, either, then, FirstPlace, at, first-place}
 use Rattle.judge.proofs.Exact.{FirstBlock, at-block, first-block, says-decided, says-le, says-both}
 use Rattle.judge.proofs.Judged.{length-judged, block-judged}
-use Rattle.judge.proofs.Members.{count-has, has-count, member-number, number-member}
+use Rattle.judge.proofs.Members.{count-has, has-count}
 
 -- ---- number 4
 
@@ -99,22 +97,6 @@ kind-judged {P} {W} kind judged file each = reworded (λ all i h. all i h) (λ a
 -- ---- number 12 of a rule
 
 module _ (certificate : Certificate) (rule : Rule) where
-  -- Each place by its number, and each place.
-  all-fine : ((k : ℕ) → k < size (rule .conclusion) → FineAt certificate rule k) → (p : Place) (t : Term Variable)
-      → subtermAt p (rule .conclusion) ≡ some t → Risky certificate t → Covered certificate rule p t
-  unfolding spotAt
-  all-fine all p t e =
-      let w = member-number (spots (rule .conclusion)) ([], rule .conclusion) (in-spots p (rule .conclusion) e) in
-      subst (λ (s : Spot Variable). Risky certificate (s .1) → Covered certificate rule (s .0) (s .1)) (w .2)
-      (all (w .0) (omega (arith, w .1, spots-length (rule .conclusion))))
-
-  fine-all : ¬ Dead certificate rule → Passes certificate rule → (k : ℕ) → k < size (rule .conclusion) → FineAt certificate rule k
-  unfolding spotAt
-  fine-all alive (dead d) k h = absurd (alive d)
-  fine-all alive (covered every) k h =
-      every _ _ (spots-stand (rule .conclusion) (spotAt (rule .conclusion) k)
-      (number-member (spots (rule .conclusion)) ([], rule .conclusion) k (omega (arith, spots-length (rule .conclusion)))))
-
   abbrev RuleOpen : (ℕ → Fault) → Fault → Type 0
   RuleOpen F g = (k : ℕ) × (g ≡ F k) × FirstUncovered certificate rule k
 
@@ -122,27 +104,36 @@ module _ (certificate : Certificate) (rule : Rule) where
   unfolding uncovered
   passes-judged F = go (dead? certificate rule)
     where
-      wrong-to : ¬ Dead certificate rule → (g : Fault) → FirstPlace (FineAt certificate rule) (size (rule .conclusion)) F g → RuleOpen F g
+      each-fine : ¬ Dead certificate rule → Passes certificate rule → (k : ℕ) → k < size (rule .conclusion) → FineSpot certificate rule k
+      each-fine alive (dead d) = absurd (alive d)
+      each-fine alive (covered every) = each-entry certificate rule every
+
+      wrong-to : ¬ Dead certificate rule → (g : Fault) → FirstPlace (FineSpot certificate rule) (size (rule .conclusion)) F g → RuleOpen F g
       wrong-to alive g (at {n} e l off all) = (
         n,
         e,
         record {
           alive = alive;
-          inside = l;
+          place = spotAt (rule .conclusion) n .0;
+          subterm = spotAt (rule .conclusion) n .1;
+          stands = spot-stands certificate rule n l;
           risky = elim (risky? certificate (spotAt (rule .conclusion) n .1)) [ yes r ↦ r | no m ↦ absurd (off (λ r. absurd (m r))) ];
           bare = λ c. off (λ r. c);
-          before = all;
+          before = λ m h. fine-spot certificate rule m (omega arith) .0 (all m h);
         },
       )
 
-      wrong-back : (g : Fault) → RuleOpen F g → FirstPlace (FineAt certificate rule) (size (rule .conclusion)) F g
-      wrong-back g (k, e, u) = at e (u .inside) (λ fine. u .bare (fine (u .risky))) (u .before)
+      wrong-back : (g : Fault) → RuleOpen F g → FirstPlace (FineSpot certificate rule) (size (rule .conclusion)) F g
+      wrong-back g (k, e, u) =
+          let inside = placed-within (u .stands) in
+          at e inside (λ fine. u .bare (fine-spot certificate rule k inside .0 fine _ _ (u .stands) (u .risky)))
+          (λ m h. fine-spot certificate rule m (omega arith) .1 (u .before m h))
 
       go : (d : Dec (Dead certificate rule)) → Exact (Passes certificate rule) (RuleOpen F)
           (elim (elim (answer d) as (λ t. Found) [ true ↦ Nothing | false ↦ firstNot (fine? certificate rule) (size (rule .conclusion)) ])
           [ At k ↦ some (F k) | Nothing ↦ none ])
       go (yes d) = found-none (dead d) (λ g w. w .2 .alive d)
-      go (no n) = reworded (λ all. covered (all-fine all)) (fine-all n) (wrong-to n) wrong-back
+      go (no n) = reworded (λ all. covered (all-places certificate rule all)) (each-fine n) (wrong-to n) wrong-back
           (first-place (fine? certificate rule) (size (rule .conclusion)) F)
 
 -- ---- numbers 9 to 12

@@ -2,11 +2,11 @@
 -- rising, premise before conclusion); then 4; then 9, 10, 11, 12, each over all blocks in file order". `none` is: no
 -- fault here.
 use mathlib.Core.Bool.{Bool, true, false, _&&_}
-use mathlib.Core.List.{List}
+use mathlib.Core.List.{List, []}
 use mathlib.Core.Option.{Option, none, some}
 use Prim.Native.Nat.{ℕ, zero, suc, _+_, _%_}
 use lib.Dec.{eqb, leb}
-use lib.ListN.{length}
+use lib.ListN.{length, getD}
 use Rattle.blocks.specs.Kinds.{atomsKind, secretKind, goodKind, badKind, ruleKind}
 use Rattle.blocks.specs.Limits.{blockSize, mostBytes}
 use Rattle.blocks.specs.Block.{blockAt, kindOf, firstCount, entriesOf, firstEntries, secondEntries}
@@ -20,7 +20,8 @@ use Rattle.terms.specs.TermEntry.{wrongEntry}
 use Rattle.terms.specs.OneTerm.{oneTerm?, encryption?}
 use Rattle.terms.specs.First.{firstNot}
 use Rattle.terms.specs.Decisions.{dec-implies, dec-not}
-use Rattle.terms.specs.Place.{spots}
+use Rattle.terms.specs.Term.{Term, Variable}
+use Rattle.terms.specs.Place.{Spot, spots}
 use Rattle.terms.specs.Decide.{answer}
 use Rattle.judge.specs.declared.verdict.Fault.{Fault}
 use Rattle.judge.specs.declared.verdict.Fault.the-variants.{Length, Check, Kind, Missing, Layout, AtomEntry, TermEntry}
@@ -32,7 +33,7 @@ use Rattle.judge.specs.declared.verdict.Verdict.the-variants.{Accepted, 
 use Rattle.judge.specs.Certificate.{Certificate, Rule}
 use Rattle.judge.specs.File.{blockCount, blocksFrom, blocksOf, ofKind, patternOf, secretOf, ruleOf, certificateOf}
 use Rattle.judge.specs.File.{fileAtoms, usedEntries, kindCount, countsOf}
-use Rattle.judge.specs.Cover.{spotAt, FineAt}
+use Rattle.judge.specs.Cover.{Risky, Covered}
 use Rattle.judge.specs.Meaning.{SecretNotKnown, SecretClosed, RootKeyKept}
 use Rattle.judge.specs.Decisions.{known-atom?, weakly-closed?, kept-key?, risky?, covered?, dead?}
 
@@ -163,7 +164,18 @@ conditionAt condition certificate i b = elim (answer (meets? condition certifica
 unfoldable pub conditionFault : Condition → Certificate → List ℕ → Option Fault
 conditionFault condition certificate file = kindFault (kindAsked condition) (conditionAt condition certificate) file
 
-unfoldable pub fine? : (certificate : Certificate) (rule : Rule) (k : ℕ) → Dec (FineAt certificate rule k)
+-- A place of a term, with the subterm there, by its number: the places in the order of the entries.
+unfoldable pub spotAt : Term Variable → ℕ → Spot Variable
+spotAt t k = getD (spots t) k ([], t)
+
+-- The place of this number in the conclusion is covered if it is risky. (That is `FineAt`: `fine-spot` of
+-- proofs/Spots.antt.)
+abbrev pub FineSpot : Certificate → Rule → ℕ → Type 0
+FineSpot certificate rule k =
+    Risky certificate (spotAt (rule .conclusion) k .1)
+    → Covered certificate rule (spotAt (rule .conclusion) k .0) (spotAt (rule .conclusion) k .1)
+
+unfoldable pub fine? : (certificate : Certificate) (rule : Rule) (k : ℕ) → Dec (FineSpot certificate rule k)
 fine? certificate rule k =
     dec-implies (risky? certificate (spotAt (rule .conclusion) k .1))
     (λ r. covered? certificate rule (spotAt (rule .conclusion) k .0) (spotAt (rule .conclusion) k .1))

@@ -102,6 +102,10 @@ place-of-entry {X} p t e =
     (λ p t u s h. (omega arith, place-right t u (entryAt p u) ∙ ap (λ (r : Place). right ∷ r) (h .1)))
     (λ p k t s h. (omega arith, ap (λ (r : Place). inside ∷ r) (h .1))) p t e
 
+-- It is one of the term's entries.
+pub placed-within : {X : Type 0} {t s : Term X} {k : ℕ} {p : Place} → Placed t k p s → k < size t
+placed-within {t = t} {p = p} w = let n = w .number in omega (arith, place-of-entry p t (w .stands) .0)
+
 -- An entry stands at one place only.
 pub one-place : {X : Type 0} {t s u : Term X} {k : ℕ} {p q : Place} → Placed t k p s → Placed t k q u → p ≡ q
 one-place {t = t} {p = p} {q = q} a b =
