@@ -32,6 +32,7 @@ use Rattle.judge.specs.Laid.{Laid, SecretBlock}
 use Rattle.terms.specs.Solve.{Says, says-same}
 use Rattle.terms.specs.Decide.{answer}
 use Rattle.judge.proofs.ListedLaws.{answer-says}
+use Rattle.judge.specs.Listed.{pairRoots, encryptionRoots, variableRoots, rootSlots}
 use Rattle.judge.specs.Listed.{HoldsAt, TermPart, SharesListed, IsSecret, slotFor, slotBy, slotAt, FlaggedAt, FlaggedMore, SecretSlot, RootsOf, NoRoot}
 use Rattle.judge.proofs.Listing.{none-found}
 use Rattle.judge.proofs.Numbers.{pair-message}
@@ -52,11 +53,11 @@ slot-leaf tag n l m off = go (tagged tag)
     go (isNone (inr high)) = refl
 
 -- A root that is neither a pair's nor an encryption's: an atom's, or a variable's.
-slot-low : (tag n l : ℕ) → SymbolTag tag → (tag ≡ pairTag → ⊥) → (tag ≡ encryptionTag → ⊥) → n % 128 ≡ slotBy tag n l
+slot-low : (tag n l : ℕ) → SymbolTag tag → (tag ≡ pairTag → ⊥) → (tag ≡ encryptionTag → ⊥) → n % pairRoots ≡ slotBy tag n l
 unfolding slotBy
 slot-low tag n l low no-pair no-key = go (tagged tag)
   where
-    go : (w : Tagged tag) → n % 128 ≡ slotFor w n l
+    go : (w : Tagged tag) → n % pairRoots ≡ slotFor w n l
     go (isAtom e) = refl
     go (isPair e) = absurd (no-pair e)
     go (isEncryption e) = absurd (no-key e)
@@ -64,11 +65,11 @@ slot-low tag n l low no-pair no-key = go (tagged tag)
     go (isNone (inl none)) = refl
     go (isNone (inr high)) = absurd (omega arith)
 
-slot-high : (tag n l : ℕ) → VariableTag tag → 384 + n % slotCount ≡ slotBy tag n l
+slot-high : (tag n l : ℕ) → VariableTag tag → variableRoots + n % slotCount ≡ slotBy tag n l
 unfolding slotBy
 slot-high tag n l high = go (tagged tag)
   where
-    go : (w : Tagged tag) → 384 + n % slotCount ≡ slotFor w n l
+    go : (w : Tagged tag) → variableRoots + n % slotCount ≡ slotFor w n l
     go (isAtom e) = absurd (omega arith)
     go (isPair e) = absurd (omega arith)
     go (isEncryption e) = absurd (omega arith)
@@ -77,28 +78,28 @@ slot-high tag n l high = go (tagged tag)
     go (isNone (inr high)) = refl
 
 -- A variable of any sort.
-slot-sort : (s : Sort) (n l : ℕ) → slotBy (sortTag s) n l ≡ 384 + n % slotCount
+slot-sort : (s : Sort) (n l : ℕ) → slotBy (sortTag s) n l ≡ variableRoots + n % slotCount
 unfolding slotBy
 slot-sort s n l = rw (sort-tagged s) refl
 
 -- The slot, as the code finds it by the tag.
 module _ (e : List ℕ) {n : ℕ} where
-  pub slot-pair : tagAt e ≡ pairTag → n ≡ valueAt (from 4 e) → 128 + n % 128 ≡ slotAt e
+  pub slot-pair : tagAt e ≡ pairTag → n ≡ valueAt (from 4 e) → pairRoots + n % pairRoots ≡ slotAt e
   unfolding slotBy
   slot-pair two is =
       let left : n ≡ valueAt (drop 4 e) = is ∙ ap valueAt (part-to-end e 4) in
-      ap (λ (m : ℕ). 128 + m % 128) left ∙ ap (λ (tag : ℕ). slotBy tag (valueAt e) (valueAt (drop 4 e))) (sym two)
+      ap (λ (m : ℕ). pairRoots + m % pairRoots) left ∙ ap (λ (tag : ℕ). slotBy tag (valueAt e) (valueAt (drop 4 e))) (sym two)
 
-  pub slot-encryption : tagAt e ≡ encryptionTag → n ≡ valueAt e → 256 + n % 128 ≡ slotAt e
+  pub slot-encryption : tagAt e ≡ encryptionTag → n ≡ valueAt e → encryptionRoots + n % pairRoots ≡ slotAt e
   unfolding slotBy
   slot-encryption three is =
-      ap (λ (m : ℕ). 256 + m % 128) is ∙ ap (λ (tag : ℕ). slotBy tag (valueAt e) (valueAt (drop 4 e))) (sym three)
+      ap (λ (m : ℕ). encryptionRoots + m % pairRoots) is ∙ ap (λ (tag : ℕ). slotBy tag (valueAt e) (valueAt (drop 4 e))) (sym three)
 
-  pub slot-atom : SymbolTag (tagAt e) → (tagAt e ≡ pairTag → ⊥) → (tagAt e ≡ encryptionTag → ⊥) → n ≡ valueAt e → n % 128 ≡ slotAt e
-  slot-atom low no-pair no-key is = ap (λ (m : ℕ). m % 128) is ∙ slot-low (tagAt e) (valueAt e) (valueAt (drop 4 e)) low no-pair no-key
+  pub slot-atom : SymbolTag (tagAt e) → (tagAt e ≡ pairTag → ⊥) → (tagAt e ≡ encryptionTag → ⊥) → n ≡ valueAt e → n % pairRoots ≡ slotAt e
+  slot-atom low no-pair no-key is = ap (λ (m : ℕ). m % pairRoots) is ∙ slot-low (tagAt e) (valueAt e) (valueAt (drop 4 e)) low no-pair no-key
 
-  pub slot-variable : VariableTag (tagAt e) → n ≡ valueAt e → 384 + n % slotCount ≡ slotAt e
-  slot-variable high is = ap (λ (m : ℕ). 384 + m % slotCount) is ∙ slot-high (tagAt e) (valueAt e) (valueAt (drop 4 e)) high
+  pub slot-variable : VariableTag (tagAt e) → n ≡ valueAt e → variableRoots + n % slotCount ≡ slotAt e
+  slot-variable high is = ap (λ (m : ℕ). variableRoots + m % slotCount) is ∙ slot-high (tagAt e) (valueAt e) (valueAt (drop 4 e)) high
 
 -- The value of a term's root, and its slot by the term alone: the same terms have the same slot.
 rootValue : Term Variable → ℕ
@@ -108,10 +109,10 @@ rootValue (pair t u) = 0
 rootValue (encrypted k t) = k
 
 termSlot : Term Variable → ℕ
-termSlot (variable (named s x)) = 384 + x % slotCount
-termSlot (atom a) = a % 128
-termSlot (pair t u) = 128 + rootValue t % 128
-termSlot (encrypted k t) = 256 + k % 128
+termSlot (variable (named s x)) = variableRoots + x % slotCount
+termSlot (atom a) = a % pairRoots
+termSlot (pair t u) = pairRoots + rootValue t % pairRoots
+termSlot (encrypted k t) = encryptionRoots + k % pairRoots
 
 value-term : {e : List ℕ} → Begins e → valueAt e ≡ rootValue (termOf e)
 unfolding rootValue
@@ -135,7 +136,7 @@ slot-term {e} b = go (first (b .reads)) (termOf-reads (b .reads))
     go (first-pair {t} {u} g n q k) is =
         let w : termOf e ≡ pair t u = cc in
         let left : valueAt (drop 4 e) ≡ rootValue t = value-term (begins k) ∙ ap rootValue (termOf-reads k) in
-        rw w (by-tag pairTag g ∙ ap (λ (n : ℕ). 128 + n % 128) left)
+        rw w (by-tag pairTag g ∙ ap (λ (n : ℕ). pairRoots + n % pairRoots) left)
     go (first-encrypted {t} g q k) is = let w : termOf e ≡ encrypted (valueAt e) t = cc in rw w (by-tag encryptionTag g)
     go (first-variable {s = s} g v l q k) is =
         let w : termOf e ≡ variable (named s (valueAt e)) = cc in rw w (by-tag (sortTag s) g ∙ slot-sort s (valueAt e) (valueAt (drop 4 e)))

@@ -90,16 +90,28 @@ pub record SizeOf (e : List ℕ) (n : ℕ) : Type 0 where
   pub is : n ≡ size (termOf e)
   pub fits : 4 * n ≤ length e
 
--- The slot of a root, by its tag, its value and the value of the entry after it. Atoms, pairs and encryptions have 128
--- slots each, by the root's value; for a pair by that of its left half's root, which is the entry after it. Variables have
--- 16.
+-- Slots of roots: for atoms, pairs and encryptions 128 each, for variables 16.
+abbrev pub pairRoots : ℕ
+pairRoots = 128
+
+abbrev pub encryptionRoots : ℕ
+encryptionRoots = 256
+
+abbrev pub variableRoots : ℕ
+variableRoots = 384
+
+abbrev pub rootSlots : ℕ
+rootSlots = variableRoots + slotCount
+
+-- The slot of a root, by its tag, its value and the value of the entry after it: by the root's value; for a pair by that of
+-- its left half's root, which is the entry after it.
 abbrev pub slotFor : {tag : ℕ} → Tagged tag → ℕ → ℕ → ℕ
-slotFor (isAtom e) n left = n % 128
-slotFor (isPair e) n left = 128 + left % 128
-slotFor (isEncryption e) n left = 256 + n % 128
-slotFor (isVariable s e) n left = 384 + n % slotCount
-slotFor (isNone (inl low)) n left = n % 128
-slotFor (isNone (inr high)) n left = 384 + n % slotCount
+slotFor (isAtom e) n left = n % pairRoots
+slotFor (isPair e) n left = pairRoots + left % pairRoots
+slotFor (isEncryption e) n left = encryptionRoots + n % pairRoots
+slotFor (isVariable s e) n left = variableRoots + n % slotCount
+slotFor (isNone (inl low)) n left = n % pairRoots
+slotFor (isNone (inr high)) n left = variableRoots + n % slotCount
 
 unfoldable pub slotBy : ℕ → ℕ → ℕ → ℕ
 unfolding tagged
@@ -114,7 +126,7 @@ FlaggedAt roots e = getD roots (slotAt e) 0 ≡ 1
 
 -- Flags stay, and the root of block i's term is flagged if it is a secret's.
 pub record FlaggedMore (file : List ℕ) (i : ℕ) (old new : List ℕ) : Type 0 where
-  pub long : length new ≡ 400
+  pub long : length new ≡ rootSlots
   pub kept : (k : ℕ) → getD old k 0 ≡ 1 → getD new k 0 ≡ 1
   pub here : kindOf (blockAt file i) ≡ secretKind → FlaggedAt new (firstEntries (blockAt file i))
   pub bits : ((k : ℕ) → getD old k 0 ≤ 1) → (k : ℕ) → getD new k 0 ≤ 1
@@ -130,7 +142,7 @@ pub record SecretSlot (file : List ℕ) (n slot : ℕ) : Type 0 where
 
 -- The root of every secret is flagged, and nothing else; a flag is 0 or 1.
 pub record RootsOf (file roots : List ℕ) : Type 0 where
-  pub long : length roots ≡ 400
+  pub long : length roots ≡ rootSlots
   pub flagged : (i : ℕ) → i < blockCount file → kindOf (blockAt file i) ≡ secretKind → FlaggedAt roots (firstEntries (blockAt file i))
   pub bits : (k : ℕ) → getD roots k 0 ≤ 1
   pub only : (k : ℕ) → getD roots k 0 ≡ 1 → SecretSlot file (blockCount file) k

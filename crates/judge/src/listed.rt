@@ -20,14 +20,18 @@ ghost use Rattle.judge.specs.Conditions.{KnownAtom, WeaklyClosed, KeptKe
 ghost use Rattle.judge.specs.Judgement.{judgedOf};
 ghost use Rattle.judge.specs.Verdict.{onKind, kindAsked, Meets, faultOn, conditionAt, conditionFault};
 ghost use Rattle.judge.specs.Listed.{HoldsAt, Searching, TermPart, matches-listed?, shares-listed?, is-secret?};
-ghost use Rattle.judge.specs.Listed.{slotAt, FlaggedMore, RootsOf, NoRoot, SizesBelow, SizesIn, SizeOf};
-use blocks::kinds;
-use blocks::limits;
+ghost use Rattle.judge.specs.Listed.{rootSlots, slotAt, FlaggedMore, RootsOf, NoRoot, SizesBelow, SizesIn, SizeOf};
 use crate::form::Judged;
 use crate::verdict::Fault;
+use blocks::kinds;
+use blocks::limits;
 use terms::entry;
 use terms::matching;
 use terms::sharing;
+use terms::tag::ENCRYPTION;
+use terms::tag::PAIR;
+use terms::tag::SLOTS;
+use terms::tag::is_variable;
 
 // What numbers 9, 10 and 11 ask of the blocks of one kind.
 pub enum Condition {
@@ -237,27 +241,36 @@ pub fn listed_sizes(file: &[u8]) -> [u8; 4096]
     sizes
 }
 
+// The slots of roots: those of atoms from 0, then those of pairs, of encryptions and of variables.
+const PAIR_ROOTS: usize = 128;
+
+const ENCRYPTION_ROOTS: usize = 256;
+
+const VARIABLE_ROOTS: usize = 384;
+
+pub const ROOT_SLOTS: usize = VARIABLE_ROOTS + SLOTS;
+
 // The slot of the root of the term that e begins with. Atoms, pairs and encryptions have 128 slots each, by the root's
 // value; a pair's value is always 0, so its left half's root is asked instead. Variables have 16.
 pub fn root_slot(e: &[u8]) -> usize
     requires { ⌜ Begins (now e) ⌝ }
-    ensures { λ r. ⌜ (r ≡ slotAt (now (e .entry))) × (r < 400) ⌝ }
+    ensures { λ r. ⌜ (r ≡ slotAt (now (e .entry))) × (r < rootSlots) ⌝ }
 {
     let tag = e[0];
-    if tag == 2 {
-        128 + entry::value(&e[4..]) % 128
-    } else if tag == 3 {
-        256 + entry::value(e) % 128
-    } else if 3 < tag {
-        384 + entry::value(e) % 16
+    if tag == PAIR {
+        PAIR_ROOTS + entry::value(&e[4..]) % PAIR_ROOTS
+    } else if tag == ENCRYPTION {
+        ENCRYPTION_ROOTS + entry::value(e) % PAIR_ROOTS
+    } else if is_variable(tag) {
+        VARIABLE_ROOTS + entry::value(e) % SLOTS
     } else {
-        entry::value(e) % 128
+        entry::value(e) % PAIR_ROOTS
     }
 }
 
 // Flags the root of block i's term, if it is a secret's.
-fn flag_root(file: &[u8], i: usize, roots: &mut [u8; 400])
-    requires { ⌜ Laid (now file) × (i < blockCount (now file)) × (length (now roots) ≡ 400) ⌝ }
+fn flag_root(file: &[u8], i: usize, roots: &mut [u8; ROOT_SLOTS])
+    requires { ⌜ Laid (now file) × (i < blockCount (now file)) × (length (now roots) ≡ rootSlots) ⌝ }
     ensures { λ _. ⌜ FlaggedMore (now (file .entry)) i (now (roots .entry)) (now (roots .exit)) ⌝ }
 {
     if is_kind(file, i, kinds::SECRET) {
@@ -267,11 +280,11 @@ fn flag_root(file: &[u8], i: usize, roots: &mut [u8; 400])
 }
 
 // The roots of all secrets, flagged, and no others.
-pub fn secret_roots(file: &[u8]) -> [u8; 400]
+pub fn secret_roots(file: &[u8]) -> [u8; ROOT_SLOTS]
     requires { ⌜ Laid (now file) ⌝ }
     ensures { λ r. ⌜ RootsOf (now (file .entry)) r ⌝ }
 {
-    let mut roots = [0u8; 400];
+    let mut roots = [0u8; ROOT_SLOTS];
     let count = file.len() / limits::BLOCK_SIZE;
     let mut i = 0;
     while i < count {
@@ -283,16 +296,16 @@ pub fn secret_roots(file: &[u8]) -> [u8; 400]
 
 // Might the term that e begins with be a secret or share an instance with one? A variable might, and a pair whose left
 // half is one; any other term if a secret's root has its slot.
-pub fn may_be_secret(roots: &[u8; 400], e: &[u8]) -> bool
-    requires { ⌜ (length (now roots) ≡ 400) × Begins (now e) ⌝ }
+pub fn may_be_secret(roots: &[u8; ROOT_SLOTS], e: &[u8]) -> bool
+    requires { ⌜ (length (now roots) ≡ rootSlots) × Begins (now e) ⌝ }
     ensures { λ r. ⌜ (r ≡ false) ↔ NoRoot (now (roots .entry)) (now (e .entry)) ⌝ }
 {
     let tag = e[0];
-    if 3 < tag {
+    if is_variable(tag) {
         return true;
     }
-    if tag == 2 {
-        if 3 < e[4] {
+    if tag == PAIR {
+        if is_variable(e[4]) {
             return true;
         }
     }
@@ -341,14 +354,14 @@ fn is_closed(file: &[u8], e: &[u8]) -> bool
     ensures { λ r. ⌜ ((m : Message) → termOf (now (e .entry)) ≡ asTerm m → Says r (WeaklyClosed (certificateOf (now (file .entry))) m)) ⌝ }
 {
     let tag = e[0];
-    if tag == 2 {
+    if tag == PAIR {
         if is_listed_secret(file, &e[4..]) {
             return true;
         }
         let right = 1 + entry::term_size(&e[4..]);
         return is_listed_secret(file, &e[4 * right..]);
     }
-    if tag == 3 {
+    if tag == ENCRYPTION {
         if is_listed_secret(file, &e[4..]) {
             return true;
         }
