@@ -1,5 +1,4 @@
--- Accepted bytes: their blocks are laid out, their certificate meets the conditions, and the intruder derives no listed
--- secret (demand 3).
+-- Accepted bytes: their certificate meets the conditions, and the intruder derives no listed secret (demand 3).
 use mathlib.Core.Path.{_≡_}
 use mathlib.Core.List.{List}
 use Prim.Native.Nat.{ℕ, _<_}
@@ -12,23 +11,16 @@ use Rattle.judge.specs.declared.verdict.Verdict.the-variants.{Accepted}
 use Rattle.judge.specs.Answer.{packedOf}
 use Rattle.judge.specs.Certificate.{Secret}
 use Rattle.judge.specs.File.{patternOf, secretOf, ruleOf, certificateOf}
-use Rattle.judge.specs.Laid.{Laid}
 use Rattle.judge.specs.Run.{Derives, Step, after}
 use Rattle.judge.specs.Cover.{Passes}
 use Rattle.judge.specs.Conditions.{KnownAtom, WeaklyClosed, KeptKey, MeetsAll}
 use Rattle.judge.specs.Verdict.{verdictOf}
-use Rattle.judge.specs.Meaning.{Formed, Accepts}
-use Rattle.judge.proofs.LaidLaws.{laid}
+use Rattle.judge.specs.Meaning.{Accepts}
 use Rattle.judge.proofs.Members.{listed}
 use Rattle.judge.proofs.ForeignLaws.{no-foreign}
 use Rattle.judge.proofs.Verdicts.{accepted-iff}
 use Rattle.judge.proofs.Packed.{zero-accepted}
 use Rattle.judge.proofs.Secrecy.{secrecy}
-
--- ---- accepted bytes
-
-pub formed-laid : (file : List ℕ) → Formed file → Laid file
-formed-laid file f = laid file (f .long) (f .blocks)
 
 pub accepts-meets : (file : List ℕ) → Accepts file → MeetsAll (certificateOf file)
 unfolding certificateOf Built
@@ -39,10 +31,6 @@ accepts-meets file w = record {
   keptKeys = listed file goodKind patternOf (KeptKey (certificateOf file)) (w .kept);
   passes = listed file ruleKind ruleOf (Passes (certificateOf file)) (w .passing);
 }
-
--- Accepted bytes are laid out, and their certificate meets the conditions.
-pub accepted-laid : (file : List ℕ) (counts : Counts) → verdictOf file ≡ Accepted counts → Laid file
-accepted-laid file counts e = formed-laid file (accepted-iff file counts .0 e .0 .formed)
 
 pub accepted-meets : (file : List ℕ) (counts : Counts) → verdictOf file ≡ Accepted counts → MeetsAll (certificateOf file)
 accepted-meets file counts e = accepts-meets file (accepted-iff file counts .0 e .0)

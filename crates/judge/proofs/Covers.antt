@@ -17,7 +17,7 @@ use Rattle.terms.specs.declared.valid.Found.the-variants.{Nothing}
 use Rattle.terms.specs.Term.{Term, Variable, variable, plain, marked}
 use Rattle.terms.specs.Place.{Place}
 use Rattle.terms.specs.Entry.{size, termOf, tagAt, valueAt, Reads, Begins}
-use Rattle.terms.specs.EntryLaws.{First, first-atom, first-pair, first-encrypted, first-plain, first-marked, first, termOf-reads, fits, suffix}
+use Rattle.terms.specs.EntryLaws.{First, first-atom, first-pair, first-encrypted, first-plain, first-marked, first, termOf-reads, suffix}
 use Rattle.terms.specs.EntryLaws.{reads-plain, reads-marked}
 use Rattle.terms.specs.WalkLaws.{from}
 use Rattle.terms.specs.Solve.{Says, says-same}

@@ -248,10 +248,18 @@ module _ (condition : Condition) (c : Certificate) (file : List ℕ) (i : ℕ) w
   module _ (asked : kindOf (blockAt file i) ≡ kindAsked condition) (b : Bool) (says : Says b (Meets condition c (blockAt file i))) where
     pub met : b ≡ true → Fine ≡ judgedOf (onKind (kindAsked condition) (conditionAt condition c) file i)
     unfolding judgedOf onKind conditionAt
-    met said = rw (eq-eqb (kindOf (blockAt file i)) (kindAsked condition) asked,
-        answer-yes (meets? condition c (blockAt file i)) (says-yes b says said), onKind, conditionAt)
+    met said = rw (
+      eq-eqb (kindOf (blockAt file i)) (kindAsked condition) asked,
+      answer-yes (meets? condition c (blockAt file i)) (says-yes b says said),
+      onKind,
+      conditionAt,
+    )
 
     pub unmet : b ≡ false → Faulty (faultOn condition i) ≡ judgedOf (onKind (kindAsked condition) (conditionAt condition c) file i)
     unfolding judgedOf onKind conditionAt
-    unmet said = rw (eq-eqb (kindOf (blockAt file i)) (kindAsked condition) asked,
-        answer-no (meets? condition c (blockAt file i)) (says-no b says said), onKind, conditionAt)
+    unmet said = rw (
+      eq-eqb (kindOf (blockAt file i)) (kindAsked condition) asked,
+      answer-no (meets? condition c (blockAt file i)) (says-no b says said),
+      onKind,
+      conditionAt,
+    )
