@@ -1,7 +1,7 @@
--- Accepted bytes: their blocks are laid out, their certificate meets the conditions, and the intruder derives no listed
--- secret (demand 3).
-use mathlib.Core.Path.{_≡_}
-use mathlib.Core.List.{List}
+-- Accepted bytes: their certificate meets the conditions, and the intruder derives no listed secret (demand 3).
+use mathlib.Core.Path.{_≡_, sym, subst}
+use mathlib.Core.Logic.{_↔_}
+use mathlib.Core.List.{List, Memᴰ·map}
 use Prim.Native.Nat.{ℕ, _<_}
 use native.Mathlib.Omega.{arith}
 use Rattle.blocks.specs.Kinds.{secretKind, goodKind, ruleKind}
@@ -12,23 +12,16 @@ use Rattle.judge.specs.declared.verdict.Verdict.the-variants.{Accepted}
 use Rattle.judge.specs.Answer.{packedOf}
 use Rattle.judge.specs.Certificate.{Secret}
 use Rattle.judge.specs.File.{patternOf, secretOf, ruleOf, certificateOf}
-use Rattle.judge.specs.Laid.{Laid}
 use Rattle.judge.specs.Run.{Derives, Step, after}
 use Rattle.judge.specs.Cover.{Passes}
 use Rattle.judge.specs.Conditions.{KnownAtom, WeaklyClosed, KeptKey, MeetsAll}
 use Rattle.judge.specs.Verdict.{verdictOf}
 use Rattle.judge.specs.Meaning.{Formed, Accepts}
-use Rattle.judge.proofs.LaidLaws.{laid}
-use Rattle.judge.proofs.Members.{listed}
+use Rattle.judge.proofs.Members.{listed, block-listed}
 use Rattle.judge.proofs.ForeignLaws.{no-foreign}
 use Rattle.judge.proofs.Verdicts.{accepted-iff}
 use Rattle.judge.proofs.Packed.{zero-accepted}
 use Rattle.judge.proofs.Secrecy.{secrecy}
-
--- ---- accepted bytes
-
-pub formed-laid : (file : List ℕ) → Formed file → Laid file
-formed-laid file f = laid file (f .long) (f .blocks)
 
 pub accepts-meets : (file : List ℕ) → Accepts file → MeetsAll (certificateOf file)
 unfolding certificateOf Built
@@ -40,9 +33,24 @@ accepts-meets file w = record {
   passes = listed file ruleKind ruleOf (Passes (certificateOf file)) (w .passing);
 }
 
--- Accepted bytes are laid out, and their certificate meets the conditions.
-pub accepted-laid : (file : List ℕ) (counts : Counts) → verdictOf file ≡ Accepted counts → Laid file
-accepted-laid file counts e = formed-laid file (accepted-iff file counts .0 e .0 .formed)
+-- And a file that has passed numbers 1 to 8 is accepted if its certificate does.
+pub meets-accepts : (file : List ℕ) → Formed file → MeetsAll (certificateOf file) → Accepts file
+unfolding certificateOf
+meets-accepts file formed meets = record {
+  formed = formed;
+  unknown = λ i inside kind. meets .notKnown _ (Memᴰ·map secretOf (block-listed file inside kind));
+  closed = λ i inside kind. meets .weaklyClosed _ (Memᴰ·map secretOf (block-listed file inside kind));
+  kept = λ i inside kind. meets .keptKeys _ (Memᴰ·map patternOf (block-listed file inside kind));
+  passing = λ i inside kind. meets .passes _ (Memᴰ·map ruleOf (block-listed file inside kind));
+}
+
+-- Same lists, same judgement: of two files that have passed numbers 1 to 8 and have the same certificate, both are accepted
+-- or neither is.
+pub same-judgement : (f g : List ℕ) → Formed f → Formed g → certificateOf f ≡ certificateOf g → Accepts f ↔ Accepts g
+same-judgement f g formed-f formed-g same = (
+  λ a. meets-accepts g formed-g (subst MeetsAll same (accepts-meets f a)),
+  λ a. meets-accepts f formed-f (subst MeetsAll (sym same) (accepts-meets g a)),
+)
 
 pub accepted-meets : (file : List ℕ) (counts : Counts) → verdictOf file ≡ Accepted counts → MeetsAll (certificateOf file)
 accepted-meets file counts e = accepts-meets file (accepted-iff file counts .0 e .0)

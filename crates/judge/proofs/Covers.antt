@@ -18,7 +18,7 @@ use Rattle.terms.specs.Term.{Term, Variable, variable, named}
 use Rattle.terms.specs.Tag.{VariableTag, SymbolTag, sort-tag}
 use Rattle.terms.specs.Place.{Place}
 use Rattle.terms.specs.Entry.{size, termOf, tagAt, valueAt, Reads, Begins}
-use Rattle.terms.specs.EntryLaws.{First, first-atom, first-pair, first-encrypted, first-variable, first, termOf-reads, fits, suffix}
+use Rattle.terms.specs.EntryLaws.{First, first-atom, first-pair, first-encrypted, first-variable, first, termOf-reads, suffix}
 use Rattle.terms.specs.EntryLaws.{reads-variable}
 use Rattle.terms.specs.WalkLaws.{from}
 use Rattle.terms.specs.Solve.{Says, says-same}

@@ -8,14 +8,13 @@ use native.Mathlib.Decide.{ℕ-discrete}
 use borrow.Rule.Slice.PartAt.{part-to-end}
 use lib.ListN.{length, getD, replicate}
 use Rattle.blocks.specs.Kinds.{goodKind, badKind, ListsTerm}
-use Rattle.blocks.specs.Limits.{mostTermBytes}
 use Rattle.blocks.specs.Block.{blockAt, kindOf, firstEntries}
 use Rattle.blocks.proofs.KindLaws.{good-lists}
 use Rattle.terms.specs.Term.{Term, Variable, replace}
 use Rattle.terms.specs.Place.{Place}
 use Rattle.terms.specs.Instance.{Matches}
 use Rattle.terms.specs.Entry.{size, termOf, tagAt, Begins}
-use Rattle.terms.specs.EntryLaws.{reads-encrypted, termOf-reads, size-positive, fits, suffix}
+use Rattle.terms.specs.EntryLaws.{reads-encrypted, termOf-reads, size-positive, fits}
 use Rattle.terms.specs.OneTerm.{IsEncryption, encryption?}
 use Rattle.terms.specs.TermGraphLaws.{tag-in}
 use Rattle.terms.specs.WalkLaws.{from, encryption-first}
@@ -36,12 +35,6 @@ use Rattle.judge.proofs.ListedLaws.{not-bad-is}
 pub searching-at : {file e : List ℕ} {h kind : ℕ} → Standing file e h → ListsTerm kind → Searching file kind (from (4 * h) e)
 searching-at {e = e} {h = h} s lists =
     record { laid = s .laid; lists = lists; term = s .term; short = let short = s .short in omega (arith, from-length (4 * h) e) }
-
--- A term stands at each of a term's entries, and ends before the entries do.
-pub standing-at : {file e : List ℕ} {h : ℕ} → Laid file → Begins e → length e ≤ mostTermBytes → h < size (termOf e) → Standing file e h
-standing-at {e = e} {h = h} laid b short inside =
-    let room = fits (termOf e) (term-reads b refl) in
-    record { laid = laid; term = rw part-to-end (suffix h b (omega arith)); inside = omega arith; short = short }
 
 pub standing-end : {file e : List ℕ} {h end : ℕ} → Standing file e h → end ≡ h + size (subAt e h) → (h + 1 ≤ end) × (end ≤ 64)
 standing-end {e = e} {h = h} s is =

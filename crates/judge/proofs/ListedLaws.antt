@@ -1,6 +1,6 @@
 -- Laws of specs/Listed.antt: what a listed term says of hats and cover, for any certificate. Assumes nothing.
 use mathlib.Core.Path.{_≡_, refl, sym, ap, subst, _∙_}
-use mathlib.Core.Bool.{Bool, true, false, not, _||_}
+use mathlib.Core.Bool.{Bool, true, false}
 use mathlib.Core.Logic.{_⊎_, inl, inr, _↔_}
 use mathlib.Core.List.{Memᴰ·cast, Memᴰ·map, Memᴰ·of-map}
 use Prim.Native.Nat.{ℕ}
@@ -10,11 +10,11 @@ use Rattle.terms.specs.Term.{Term, Message, Variable, variable, atom, replace, 
 use Rattle.terms.specs.Instance.{Matches, Share}
 use Rattle.terms.specs.Laws.{replace-message, replace-asTerm}
 use Rattle.terms.specs.Solve.{Says}
-use Rattle.terms.specs.Decide.{answer, answer-yes, answer-no}
+use Rattle.terms.specs.Decide.{answer}
 use Rattle.judge.specs.Certificate.{Certificate, Rule, Secret}
 use Rattle.judge.specs.Cover.{NoHat, sharesNoGood, isBad, Risky, isVariable, sharesSecret, Dead, AtOpenPlace}
-use Rattle.judge.specs.Decisions.{NotBad, not-bad?, no-hat?, risky?, is-variable?}
-use Rattle.judge.specs.Listed.{listedOf, MatchesListed, SharesListed, IsSecret, matches-listed?, shares-listed?}
+use Rattle.judge.specs.Decisions.{NotBad}
+use Rattle.judge.specs.Listed.{listedOf, MatchesListed, SharesListed, IsSecret}
 
 -- What an answer says.
 pub answer-says : {P : Type 0} (b : Bool) (d : Dec P) → b ≡ answer d → Says b P
@@ -46,29 +46,6 @@ share-message = (
 pub asTerm-only : {m n : Message} → asTerm {X = Variable} m ≡ asTerm n → m ≡ n
 asTerm-only {m} {n} e = sym (replace-asTerm (λ x. atom 0) m) ∙ ap (replace (λ x. atom 0)) e ∙ replace-asTerm (λ x. atom 0) n
 
--- Claims that follow from each other, and the answers of their decisions.
-said-not : {P Q : Type 0} → P ↔ (Q → ⊥) → (d : Dec P) (e : Dec Q) → answer d ≡ not (answer e)
-said-not w d (yes q) = answer-no d (λ p. w .0 p q)
-said-not w d (no n) = answer-yes d (w .1 n)
-
-said-or : {P Q R : Type 0} → P ↔ (Q ⊎ R) → (d : Dec P) (e : Dec Q) (f : Dec R) → answer d ≡ (answer e || answer f)
-said-or w d (yes q) f = answer-yes d (w .1 (inl q))
-said-or w d (no n) (yes r) = answer-yes d (w .1 (inr r))
-said-or {P} {Q} {R} w d (no n) (no m) = answer-no d (λ p. neither (w .0 p))
-  where
-    neither : Q ⊎ R → ⊥
-    neither (inl q) = n q
-    neither (inr r) = m r
-
-said-imp : {P Q R : Type 0} → P ↔ ((Q → ⊥) ⊎ R) → (d : Dec P) (e : Dec Q) (f : Dec R) → answer d ≡ (not (answer e) || answer f)
-said-imp w d (yes q) (yes r) = answer-yes d (w .1 (inr r))
-said-imp {P} {Q} {R} w d (yes q) (no m) = answer-no d (λ p. neither (w .0 p))
-  where
-    neither : (Q → ⊥) ⊎ R → ⊥
-    neither (inl n) = n q
-    neither (inr r) = m r
-said-imp w d (no n) f = answer-yes d (w .1 (inl n))
-
 module _ (c : Certificate) where
   -- The term of a message is a listed secret if the message is.
   pub secret-is : (m : Message) → IsSecret c (asTerm m) ↔ Secret c m
@@ -96,9 +73,6 @@ module _ (c : Certificate) where
     unfolding listedOf
     not-bad-is = (λ n h. n (h .term) (h .listed) (h .holds), λ n bad l s. n (record { term = bad; listed = l; holds = s }))
 
-    pub not-bad-answer : answer (not-bad? c t) ≡ not (answer (shares-listed? c badKind t))
-    not-bad-answer = said-not not-bad-is (not-bad? c t) (shares-listed? c badKind t)
-
     -- No good pattern does, or the term is a bad one with its variables replaced.
     pub no-hat-is : NoHat c t ↔ ((SharesListed c goodKind t → ⊥) ⊎ MatchesListed c badKind t)
     unfolding listedOf
@@ -111,9 +85,6 @@ module _ (c : Certificate) where
         back : (SharesListed c goodKind t → ⊥) ⊎ MatchesListed c badKind t → NoHat c t
         back (inl n) = sharesNoGood (λ good l s. n (record { term = good; listed = l; holds = s }))
         back (inr h) = isBad (h .listed) (h .holds)
-
-    pub no-hat-answer : answer (no-hat? c t) ≡ (not (answer (shares-listed? c goodKind t)) || answer (matches-listed? c badKind t))
-    no-hat-answer = said-imp no-hat-is (no-hat? c t) (shares-listed? c goodKind t) (matches-listed? c badKind t)
 
     -- A variable, or a term that shares an instance with a listed secret.
     pub risky-is : Risky c t ↔ (((x : Variable) × (t ≡ variable x)) ⊎ SharesListed c secretKind t)
@@ -129,6 +100,3 @@ module _ (c : Certificate) where
         back (inr h) =
             let o = Memᴰ·of-map asTerm (c .secrets) (h .listed) in
             sharesSecret (o .1) (share-message .0 (share-sym (subst (λ (p : Term Variable). Share p t) (sym (o .2)) (h .holds))))
-
-    pub risky-answer : answer (risky? c t) ≡ (answer (is-variable? t) || answer (shares-listed? c secretKind t))
-    risky-answer = said-or risky-is (risky? c t) (is-variable? t) (shares-listed? c secretKind t)

@@ -4,7 +4,7 @@ use mathlib.Core.Bool.{Bool, true, false}
 use mathlib.Core.Logic.{_⊎_, inl, inr}
 use mathlib.Core.List.{List, map, List·Memᴰ, List·Memᴰ·not-nil}
 use mathlib.Core.List.{Memᴰ·cast, Memᴰ·map, Memᴰ·of-map}
-use Prim.Native.Nat.{ℕ, zero, suc, _-_, _*_, _<_, _≤_}
+use Prim.Native.Nat.{ℕ, _-_, _*_, _<_}
 use lib.ListN.{length}
 use borrow.Author.Tests.{ne-eqb}
 use native.Mathlib.Omega.{arith}
@@ -146,7 +146,3 @@ module _ {file : List ℕ} {kind : ℕ} {e : List ℕ} (asked : Searching file k
     | yes before ↦ below k before held
     | no past ↦ omega (arith, asked .laid .ordered i k (omega arith) there, held .of-kind)
   ])
-
--- What holds from n on, and of the number before n, holds from there on.
-pub above-more : (P : ℕ → Type 0) {count : ℕ} (n : ℕ) → ((k : ℕ) → n ≤ k → k < count → P k) → P (n - 1) → (k : ℕ) → n - 1 ≤ k → k < count → P k
-above-more P n all here k low high = elim (ℕ-discrete (n - 1) k) [ yes e ↦ subst P e here | no off ↦ all k (omega arith) high ]

@@ -108,10 +108,6 @@ module _ {b : List ℕ} {at : ℕ} where
       end = rw length-append (omega (arith, p .end, q .end));
     }
 
-  -- The buffer keeps its length.
-  pub put-length : {t after : List ℕ} {end : ℕ} → Room b at t → Put b at t after end → length after ≡ length b
-  put-length {t} r p = ap length (p .bytes) ∙ length-pasted b at t (r .fits)
-
   -- ---- a number: one digit, or a last digit behind those of a tenth
 
   module _ {n : ℕ} (r : Room b at (digitsOf n)) where

@@ -33,49 +33,49 @@ fn wide(x: u8) -> usize
     x as usize
 }
 
-// Lays the pattern p on the term at entry h: every entry at or below one of its marks is covered.
-fn mark_cover(p: &[u8], e: &[u8], h: usize, cover: &mut [u8; 64])
-    requires { ⌜ Laying (now p) (now e) h × (length (now cover) ≡ 64) ⌝ }
-    ensures { λ _. ⌜ Raised (now (cover .entry)) (now (cover .exit)) (MarkOver (termOf (now (p .entry))) (subAt (now (e .entry)) h) h) ⌝ }
+// Lays the pattern p on the term at entry h: every entry at or below one of its marks is flagged.
+fn mark_cover(p: &[u8], e: &[u8], h: usize, marked: &mut [u8; 64])
+    requires { ⌜ Laying (now p) (now e) h × (length (now marked) ≡ 64) ⌝ }
+    ensures { λ _. ⌜ Raised (now (marked .entry)) (now (marked .exit)) (MarkOver (termOf (now (p .entry))) (subAt (now (e .entry)) h) h) ⌝ }
 {
     let tag = p[0];
     if tag == 2 {
-        mark_cover(&p[4..], e, h + 1, cover);
+        mark_cover(&p[4..], e, h + 1, marked);
         let past = 1 + entry::term_size(&p[4..]);
         let right = h + 1 + entry::term_size(&e[4 * (h + 1)..]);
-        mark_cover(&p[4 * past..], e, right, cover);
+        mark_cover(&p[4 * past..], e, right, marked);
     } else if tag == 3 {
-        mark_cover(&p[4..], e, h + 1, cover);
+        mark_cover(&p[4..], e, h + 1, marked);
     } else if tag == 5 {
-        flag::paint(cover, h, h + entry::term_size(&e[4 * h..]), 1);
+        flag::paint(marked, h, h + entry::term_size(&e[4 * h..]), 1);
     }
 }
 
 // Lays the pattern of block i, if it is a good one and matches the term at entry h.
-fn lay_good(file: &[u8], i: usize, e: &[u8], h: usize, cover: &mut [u8; 64])
-    requires { ⌜ Standing (now file) (now e) h × (i < blockCount (now file)) × (length (now cover) ≡ 64) ⌝ }
-    ensures { λ _. ⌜ Raised (now (cover .entry)) (now (cover .exit))
+fn lay_good(file: &[u8], i: usize, e: &[u8], h: usize, marked: &mut [u8; 64])
+    requires { ⌜ Standing (now file) (now e) h × (i < blockCount (now file)) × (length (now marked) ≡ 64) ⌝ }
+    ensures { λ _. ⌜ Raised (now (marked .entry)) (now (marked .exit))
         (λ k. HoldsAt (now (file .entry)) goodKind (λ p. Matches p (subAt (now (e .entry)) h) × MarkOver p (subAt (now (e .entry)) h) h k) i) ⌝ }
 {
     let block = blocks::block(file, i);
     if blocks::kind(block) == kinds::GOOD {
         let p = blocks::first_entries(block);
         if matching::matches(p, &e[4 * h..]) {
-            mark_cover(p, e, h, cover);
+            mark_cover(p, e, h, marked);
         }
     }
 }
 
 // Lays every good pattern that matches the term at entry h.
-fn lay_goods(file: &[u8], e: &[u8], h: usize, cover: &mut [u8; 64])
-    requires { ⌜ Standing (now file) (now e) h × (length (now cover) ≡ 64) ⌝ }
-    ensures { λ _. ⌜ Raised (now (cover .entry)) (now (cover .exit))
+fn lay_goods(file: &[u8], e: &[u8], h: usize, marked: &mut [u8; 64])
+    requires { ⌜ Standing (now file) (now e) h × (length (now marked) ≡ 64) ⌝ }
+    ensures { λ _. ⌜ Raised (now (marked .entry)) (now (marked .exit))
         (λ k. AnyListed (certificateOf (now (file .entry))) goodKind (λ p. Matches p (subAt (now (e .entry)) h) × MarkOver p (subAt (now (e .entry)) h) h k)) ⌝ }
 {
     let count = file.len() / limits::BLOCK_SIZE;
     let mut i = 0;
     while i < count {
-        lay_good(file, i, e, h, cover);
+        lay_good(file, i, e, h, marked);
         i += 1;
     }
 }

@@ -1,6 +1,5 @@
 -- `judge::cover::index_of` meets its contract: the flagged entries before entry k are noted. Assumes nothing.
 use borrow.Author.Needs.{needs}
-use native.Mathlib.Omega.{arith}
 use Prim.Native.Nat.{_≤_, _-_, _*_}
 use lib.ListN.{length}
 use Rattle.judge.specs.CoverEntries.{IndexedBelow}

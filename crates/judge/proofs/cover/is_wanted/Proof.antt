@@ -1,7 +1,6 @@
 -- `judge::cover::is_wanted` meets its contract. Assumes nothing.
 use borrow.Author.Needs.{needs}
-use native.Mathlib.Omega.{arith}
-use mathlib.Core.Path.{sym, refl}
+use mathlib.Core.Path.{refl}
 use Rattle.blocks.proofs.KindLaws.{secret-lists}
 use Rattle.terms.specs.Decisions.{says-yes, says-no}
 use Rattle.judge.specs.CoverEntries.{isSecret}

@@ -1,5 +1,4 @@
 -- `judge::cover::no_hat` meets its contract. Assumes nothing.
-use borrow.Author.Needs.{needs}
 use mathlib.Core.Path.{refl, sym, _∙_}
 use Rattle.blocks.proofs.KindLaws.{bad-lists}
 use Rattle.terms.specs.Decide.{yes-of, no-of}

@@ -1,7 +1,6 @@
 -- `judge::cover::risky_places` meets its contract: the flags before entry k are on where it is risky. Assumes nothing.
 use mathlib.Core.Path.{refl}
 use borrow.Author.Needs.{needs}
-use native.Mathlib.Omega.{arith}
 use Prim.Native.Nat.{_≤_, _-_}
 use Rattle.blocks.proofs.KindLaws.{secret-lists}
 use Rattle.terms.specs.Entry.{termOf, size}

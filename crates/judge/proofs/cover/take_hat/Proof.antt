@@ -1,5 +1,4 @@
 -- `judge::cover::take_hat` meets its contract. Assumes nothing.
-use borrow.Author.Needs.{needs}
 use borrow.Author.Tests.{not-true, not-false}
 use Rattle.terms.specs.Decisions.{says-yes, says-no}
 use Rattle.judge.proofs.Hats.{hat-taken, hat-shares}

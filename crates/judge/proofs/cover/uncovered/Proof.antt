@@ -1,7 +1,6 @@
 -- `judge::cover::uncovered` meets its contract. Assumes nothing.
 use borrow.Author.Needs.{needs}
 use mathlib.Core.Path.{sym}
-use native.Mathlib.Omega.{arith}
 use Rattle.terms.specs.Decisions.{says-yes, says-no}
 use Rattle.judge.specs.File.{ruleOf}
 use Rattle.judge.proofs.Opens.{opened-within}

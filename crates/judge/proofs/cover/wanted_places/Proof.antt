@@ -1,6 +1,5 @@
 -- `judge::cover::wanted_places` meets its contract: the flags before entry k are on where it is wanted. Assumes nothing.
 use borrow.Author.Needs.{needs}
-use native.Mathlib.Omega.{arith}
 use Prim.Native.Nat.{_≤_, _-_, _/_}
 use lib.ListN.{length}
 use Rattle.judge.specs.File.{certificateOf}

@@ -1,6 +1,5 @@
 -- `judge::flag::renew` meets its contract. Assumes nothing.
 use borrow.Author.Needs.{needs}
-use mathlib.Core.Path.{refl}
 use borrow.Author.Tests.{not-true, not-false}
 use Rattle.judge.proofs.Repeats.{forgotten, renewed-gone, renewed-kept}
 use Rattle.judge.proofs.flag.renew.Statement.{statement}

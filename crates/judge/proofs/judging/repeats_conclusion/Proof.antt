@@ -1,6 +1,5 @@
 -- `judge::judging::repeats_conclusion` meets its contract. Assumes nothing.
 use borrow.Author.Needs.{needs}
-use native.Mathlib.Omega.{arith}
 use Rattle.blocks.specs.Block.{secondEntries}
 use Rattle.terms.specs.Decisions.{says-yes, says-no}
 use Rattle.judge.proofs.Repeats.{fitting-before, fitting-here, repeats-told}

@@ -1,6 +1,4 @@
 -- `judge::listed::instance_at` meets its contract. Assumes nothing.
-use mathlib.Core.Path.{ap}
-use Rattle.terms.specs.Entry.{termOf}
 use Rattle.terms.specs.Decide.{match?, variable?}
 use Rattle.terms.specs.Decisions.{says-yes, says-no}
 use Rattle.judge.proofs.Listing.{block-there, other-kind}

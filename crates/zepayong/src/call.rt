@@ -1,8 +1,8 @@
 // What one call of read or write did, as its answer says.
 ghost use mathlib.Core.Path.{_≡_};
-ghost use Rattle.zepayong.specs.Transfer.{stepOf, CallWithin};
+ghost use Rattle.zepayong.specs.Transfer.{calledOf, CallWithin};
 
-pub enum Step {
+pub enum Called {
     // It moved so many bytes.
     Bytes(usize),
     // It moved none: for a read, the input's end.
@@ -13,19 +13,19 @@ pub enum Step {
 }
 
 // What a call's answer says, by its sign, the bytes it counts, and whether the error that it left is an interruption.
-pub fn said(negative: bool, count: usize, interrupted: bool) -> Step
-    ensures { λ r. ⌜ r ≡ stepOf negative count interrupted ⌝ }
+pub fn said(negative: bool, count: usize, interrupted: bool) -> Called
+    ensures { λ r. ⌜ r ≡ calledOf negative count interrupted ⌝ }
     ensures { λ r. ⌜ CallWithin r count ⌝ }
 {
     if negative {
         if interrupted {
-            Step::Interrupted
+            Called::Interrupted
         } else {
-            Step::Failed
+            Called::Failed
         }
     } else if count == 0 {
-        Step::Nothing
+        Called::Nothing
     } else {
-        Step::Bytes(count)
+        Called::Bytes(count)
     }
 }
