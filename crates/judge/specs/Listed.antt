@@ -153,9 +153,13 @@ pub record NoRoot (roots e : List ℕ) : Type 0 where
   pub left-symbol : tagAt e ≡ pairTag → SymbolTag (tagAt (drop 4 e))
   pub absent : getD roots (slotAt e) 0 ≡ 0
 
+-- Room for the sizes of the terms of all blocks: 64 for each.
+abbrev pub listedSizes : ℕ
+listedSizes = 4096
+
 -- The table has the sizes of the terms that the first n blocks list, those of block i from 64 * i on.
 pub record SizesBelow (file : List ℕ) (n : ℕ) (sizes : List ℕ) : Type 0 where
-  pub long : length sizes ≡ 4096
+  pub long : length sizes ≡ listedSizes
   pub at : (i : ℕ) → i < n → ListsTerm (kindOf (blockAt file i)) → SizesOf (firstEntries (blockAt file i)) (from (64 * i) sizes)
 
 -- It has those of all blocks.

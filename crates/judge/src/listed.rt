@@ -101,7 +101,14 @@ pub fn is_listed_match(file: &[u8], kind: u8, e: &[u8]) -> bool
 }
 
 // Does block i, if it is of this kind, hold a term that shares an instance with e's term?
-fn shares_at(file: &[u8], sizes: &[u8; 4096], i: usize, kind: u8, e: &[u8], z: &[u8]) -> bool
+fn shares_at(
+    file: &[u8],
+    sizes: &[u8; LISTED_SIZES],
+    i: usize,
+    kind: u8,
+    e: &[u8],
+    z: &[u8],
+) -> bool
     requires { ⌜ Searching (now file) kind (now e) × (i < blockCount (now file)) × SizesIn (now file) (now sizes) × SizesOf (now e) (now z) ⌝ }
     ensures { λ r. ⌜ Says r (HoldsAt (now (file .entry)) kind (λ p. Share p (termOf (now (e .entry)))) i) ⌝ }
 {
@@ -115,7 +122,7 @@ fn shares_at(file: &[u8], sizes: &[u8; 4096], i: usize, kind: u8, e: &[u8], z: &
 
 // Does some listed term of this kind share an instance with the term that e begins with? Asked from the last block back to
 // the first of a lower kind. `sizes` has the sizes of the listed terms, and z those of e's.
-pub fn shares_listed(file: &[u8], sizes: &[u8; 4096], kind: u8, e: &[u8], z: &[u8]) -> bool
+pub fn shares_listed(file: &[u8], sizes: &[u8; LISTED_SIZES], kind: u8, e: &[u8], z: &[u8]) -> bool
     requires { ⌜ Searching (now file) kind (now e) × SizesIn (now file) (now sizes) × SizesOf (now e) (now z) ⌝ }
     ensures { λ r. ⌜ r ≡ answer (shares-listed? (certificateOf (now (file .entry))) kind (termOf (now (e .entry)))) ⌝ }
 {
@@ -217,7 +224,7 @@ fn lists_term(file: &[u8], i: usize) -> bool
 }
 
 // Fills in the sizes of block i's terms, if it lists one.
-fn size_block(file: &[u8], i: usize, sizes: &mut [u8; 4096])
+fn size_block(file: &[u8], i: usize, sizes: &mut [u8; LISTED_SIZES])
     requires { ⌜ Laid (now file) × (i < blockCount (now file)) × SizesBelow (now file) i (now sizes) ⌝ }
     ensures { λ _. ⌜ SizesBelow (now (file .entry)) (i + 1) (now (sizes .exit)) ⌝ }
 {
@@ -227,11 +234,11 @@ fn size_block(file: &[u8], i: usize, sizes: &mut [u8; 4096])
 }
 
 // The sizes of all listed terms, those of block i from 64 * i on.
-pub fn listed_sizes(file: &[u8]) -> [u8; 4096]
+pub fn listed_sizes(file: &[u8]) -> [u8; LISTED_SIZES]
     requires { ⌜ Laid (now file) ⌝ }
     ensures { λ r. ⌜ SizesIn (now (file .entry)) r ⌝ }
 {
-    let mut sizes = [0u8; 4096];
+    let mut sizes = [0u8; LISTED_SIZES];
     let count = file.len() / limits::BLOCK_SIZE;
     let mut i = 0;
     while i < count {
@@ -240,6 +247,9 @@ pub fn listed_sizes(file: &[u8]) -> [u8; 4096]
     }
     sizes
 }
+
+// Room for the sizes of the terms of all blocks: 64 for each.
+pub const LISTED_SIZES: usize = 4096;
 
 // The slots of roots: those of atoms from 0, then those of pairs, of encryptions and of variables.
 const PAIR_ROOTS: usize = 128;
