@@ -41,10 +41,10 @@ use Rattle.judge.specs.File.{countsOf}
 use Rattle.judge.specs.Meaning.{LengthRight, BlockRight, BlockFaulty, HasKind, Formed, Every, SecretNotKnown, SecretClosed, RootKeyKept, Passing}
 use Rattle.judge.specs.Meaning.{FirstUncovered, Accepts, FirstAt, RefusedWith, lengthFails, blockFails, missing, secretKnown}
 use Rattle.judge.specs.Meaning.{secretNotClosed, keyNotKept, placeUncovered}
-use Rattle.judge.proofs.Exact.{Exact, found-none, reworded, tested, either, then, FirstPlace, at, first-place}
-use Rattle.judge.proofs.Exact.{FirstBlock, at-block, first-block, says-decided, says-le, says-both}
-use Rattle.judge.proofs.Judged.{length-judged, block-judged}
-use Rattle.judge.proofs.Members.{count-has, has-count, member-number, number-member}
+use Rattle.judge.proofs.Files.Exact.{Exact, found-none, reworded, tested, either, then, FirstPlace, at, first-place}
+use Rattle.judge.proofs.Files.Exact.{FirstBlock, at-block, first-block, says-decided, says-le, says-both}
+use Rattle.judge.proofs.Files.Judged.{length-judged, block-judged}
+use Rattle.judge.proofs.Files.Members.{count-has, has-count, member-number, number-member}
 
 -- ---- number 4
 

@@ -27,7 +27,7 @@ use Rattle.judge.specs.Decisions.{dead?}
 use Rattle.judge.specs.Verdict.{fine?, uncovered}
 use Rattle.judge.specs.Cover.{FineAt}
 use Rattle.judge.specs.Judgement.{OnlyRulesFrom, Heads}
-use Rattle.judge.proofs.Members.{block-listed, listed-block}
+use Rattle.judge.proofs.Files.Members.{block-listed, listed-block}
 
 -- ---- what the judging of a rule asks of a certificate
 
