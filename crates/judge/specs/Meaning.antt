@@ -1,5 +1,5 @@
 -- What acceptance and each refusal mean (document 01, "Verdicts"). That `verdictOf` says just this is proved in
--- proofs/Verdicts.antt.
+-- proofs/Files/Verdicts.antt.
 use mathlib.Core.Path.{_≡_}
 use mathlib.Core.List.{List}
 use Prim.Native.Nat.{ℕ, suc, _+_, _%_, _<_, _≤_}
@@ -135,7 +135,7 @@ abbrev pub Passing : Certificate → List ℕ → Type 0
 Passing certificate b = Passes certificate (ruleOf b)
 
 -- The first uncovered place of a rule that is not dead: it stands at entry k of the conclusion, and no place at an entry
--- before is uncovered. (The entries from k on begin with the subterm there: `placed-entry` of proofs/Spots.antt.)
+-- before is uncovered. (The entries from k on begin with the subterm there: `placed-entry` of proofs/Files/Spots.antt.)
 pub record FirstUncovered (certificate : Certificate) (rule : Rule) (k : ℕ) : Type 0 where
   pub alive : ¬ Dead certificate rule
   pub place : Place

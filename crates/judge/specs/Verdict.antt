@@ -169,7 +169,7 @@ unfoldable pub spotAt : Term Variable → ℕ → Spot Variable
 spotAt t k = getD (spots t) k ([], t)
 
 -- The place of this number in the conclusion is covered if it is risky. (That is `FineAt`: `fine-spot` of
--- proofs/Spots.antt.)
+-- proofs/Files/Spots.antt.)
 abbrev pub FineSpot : Certificate → Rule → ℕ → Type 0
 FineSpot certificate rule k =
     Risky certificate (spotAt (rule .conclusion) k .1)

@@ -4,8 +4,8 @@ use mathlib.Core.Path.{_≡_}
 use Prim.Native.Nat.{_≤_, _-_, _*_}
 use lib.ListN.{length}
 use Rattle.judge.specs.CoverEntries.{subAt, SomeFlagged}
-use Rattle.judge.proofs.Flags.{ClearedBelow, below-start, below-more, below-all, loses-both}
-use Rattle.judge.proofs.Covers.{flagged-below}
+use Rattle.judge.proofs.Covering.Flags.{ClearedBelow, below-start, below-more, below-all, loses-both}
+use Rattle.judge.proofs.Covering.Covers.{flagged-below}
 use Rattle.judge.proofs.cover.bare_places.Statement.{statement}
 use Rattle.judge.proofs.cover.bare_places.Tie as tie
 

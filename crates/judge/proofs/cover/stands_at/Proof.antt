@@ -5,8 +5,8 @@ use Prim.Native.Nat.{ℕ}
 use lib.ListN.{getD}
 use Rattle.terms.specs.Decide.{yes-of, variable?, term?}
 use Rattle.judge.specs.Listed.{slotAt}
-use Rattle.judge.proofs.Covers.{flagged-begins, flagged-found}
-use Rattle.judge.proofs.Indexes.{index-absent, index-points}
+use Rattle.judge.proofs.Covering.Covers.{flagged-begins, flagged-found}
+use Rattle.judge.proofs.Covering.Indexes.{index-absent, index-points}
 use Rattle.judge.proofs.cover.stands_at.Statement.{statement}
 use Rattle.judge.proofs.cover.stands_at.Tie as tie
 

@@ -1,8 +1,8 @@
 -- `judge::judging::certificate_fault` meets its contract. Assumes nothing.
 use mathlib.Core.Path.{ap, _∙_}
 use Rattle.judge.specs.Judgement.{judgedOf}
-use Rattle.judge.proofs.FormLaws.{fine-none, faulty-some, judged-some}
-use Rattle.judge.proofs.JudgingLaws.{certificate-known, certificate-closed, certificate-key, certificate-rule}
+use Rattle.judge.proofs.Stages.FormLaws.{fine-none, faulty-some, judged-some}
+use Rattle.judge.proofs.Stages.JudgingLaws.{certificate-known, certificate-closed, certificate-key, certificate-rule}
 use borrow.Author.Needs.{needs}
 use Rattle.judge.proofs.judging.certificate_fault.Statement.{statement}
 use Rattle.judge.proofs.judging.certificate_fault.Tie as tie

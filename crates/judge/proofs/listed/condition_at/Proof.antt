@@ -5,7 +5,7 @@ use borrow.Author.Tests.{not-true, not-false}
 use Rattle.terms.specs.Decisions.{says-yes, says-no}
 use Rattle.judge.specs.declared.form.Judged.the-variants.{Faulty}
 use Rattle.judge.specs.File.{certificateOf}
-use Rattle.judge.proofs.Numbers.{not-asked, met, unmet}
+use Rattle.judge.proofs.Stages.Numbers.{not-asked, met, unmet}
 use Rattle.judge.proofs.listed.condition_at.Statement.{statement}
 use Rattle.judge.proofs.listed.condition_at.Tie as tie
 

@@ -4,8 +4,8 @@ use Prim.Native.Nat.{_-_, _≤_}
 use borrow.Author.Needs.{needs}
 use Rattle.judge.specs.File.{blockCount, certificateOf}
 use Rattle.judge.specs.Verdict.{firstFault, onKind, kindAsked, conditionAt, conditionFault}
-use Rattle.judge.proofs.FormLaws.{fine-none, faulty-some, judged-none, judged-some, first-stop, first-more, first-end}
-use Rattle.judge.proofs.JudgingLaws.{condition-start}
+use Rattle.judge.proofs.Stages.FormLaws.{fine-none, faulty-some, judged-none, judged-some, first-stop, first-more, first-end}
+use Rattle.judge.proofs.Stages.JudgingLaws.{condition-start}
 use Rattle.judge.proofs.listed.condition_fault.Statement.{statement}
 use Rattle.judge.proofs.listed.condition_fault.Tie as tie
 

@@ -6,7 +6,7 @@ use Rattle.blocks.specs.Block.{blockAt}
 use Rattle.blocks.proofs.KindLaws.{secret-lists, good-lists}
 use Rattle.judge.specs.File.{certificateOf}
 use Rattle.judge.specs.Verdict.{kindAsked}
-use Rattle.judge.proofs.Numbers.{unknown-at, closed-at, kept-at, good-root, meets-as}
+use Rattle.judge.proofs.Stages.Numbers.{unknown-at, closed-at, kept-at, good-root, meets-as}
 use Rattle.judge.proofs.listed.is_met.Statement.{statement}
 use Rattle.judge.proofs.listed.is_met.Tie as tie
 

@@ -6,7 +6,7 @@ use Prim.Native.Nat.{ℕ}
 use native.Mathlib.Omega.{arith}
 use lib.ListN.{getD}
 use Rattle.terms.specs.Decisions.{says-yes, says-no}
-use Rattle.judge.proofs.Roots.{pair-room, left-tag, absent-told, told-absent}
+use Rattle.judge.proofs.Stages.Roots.{pair-room, left-tag, absent-told, told-absent}
 use borrow.Author.Needs.{needs}
 use Rattle.judge.proofs.listed.may_be_secret.Statement.{statement}
 use Rattle.judge.proofs.listed.may_be_secret.Tie as tie

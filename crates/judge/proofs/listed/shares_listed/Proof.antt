@@ -8,7 +8,7 @@ use Rattle.terms.specs.Decisions.{says-no}
 use Rattle.terms.specs.Ending.{EachFrom, each-none, each-down}
 use Rattle.judge.specs.File.{blockCount}
 use Rattle.judge.specs.Listed.{HoldsAt, shares-listed?}
-use Rattle.judge.proofs.Listing.{found-answer, none-answer, lower-answer}
+use Rattle.judge.proofs.Stages.Listing.{found-answer, none-answer, lower-answer}
 use Rattle.judge.proofs.listed.shares_listed.Statement.{statement}
 use Rattle.judge.proofs.listed.shares_listed.Tie as tie
 

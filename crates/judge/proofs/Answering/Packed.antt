@@ -21,9 +21,9 @@ use Rattle.judge.specs.Verdict.{verdictOf}
 use Rattle.judge.specs.Meaning.{LengthRight, BlockFaulty, checkFails, kindFails, layoutFails, atomFails}
 use Rattle.judge.specs.Meaning.{entryFails, patternFails, premiseFails, conclusionFails, Formed, RefusedWith, lengthFails}
 use Rattle.judge.specs.Meaning.{blockFails, missing, secretKnown, secretNotClosed, keyNotKept, placeUncovered}
-use Rattle.judge.proofs.Answers.{numbers}
-use Rattle.judge.proofs.LaidLaws.{laid}
-use Rattle.judge.proofs.Verdicts.{refused-iff}
+use Rattle.judge.proofs.Answering.Answers.{numbers}
+use Rattle.judge.proofs.Files.LaidLaws.{laid}
+use Rattle.judge.proofs.Files.Verdicts.{refused-iff}
 
 -- ---- block and place are small
 

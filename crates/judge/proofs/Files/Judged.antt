@@ -32,8 +32,8 @@ use Rattle.judge.specs.Verdict.{patternFault, conclusionFault, ruleParts
 use Rattle.judge.specs.Meaning.{LengthRight, KindRight, first, later, Shaped, AtomEntryRight, TermEntryRight, EntriesRight, PatternRight}
 use Rattle.judge.specs.Meaning.{PremiseRight, BlockRight, BlockFaulty, checkFails, kindFails, layoutFails, atomFails}
 use Rattle.judge.specs.Meaning.{entryFails, patternFails, premiseFails, conclusionFails}
-use Rattle.judge.proofs.Exact.{Exact, reworded, tested, tested-then, either, then, FirstPlace, at, first-place}
-use Rattle.judge.proofs.Exact.{says-test, says-decided, says-le, says-both, says-within}
+use Rattle.judge.proofs.Files.Exact.{Exact, reworded, tested, tested-then, either, then, FirstPlace, at, first-place}
+use Rattle.judge.proofs.Files.Exact.{says-test, says-decided, says-le, says-both, says-within}
 
 -- ---- what the tests say
 

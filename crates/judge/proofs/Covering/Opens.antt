@@ -20,10 +20,10 @@ use Rattle.judge.specs.Cover.{NoHat, Open}
 use Rattle.judge.specs.Listed.{MatchesListed, SharesListed}
 use Rattle.judge.specs.Laid.{Laid}
 use Rattle.judge.specs.CoverEntries.{subAt, On, SomeOn, Painted, Flagged, OpenBelow, OpenAmong, OpenFlags, ClosedBelow, Concluded}
-use Rattle.judge.proofs.Flags.{on-small, painted-bits}
-use Rattle.judge.proofs.Marks.{term-reads}
-use Rattle.judge.proofs.Hats.{encryption-tag}
-use Rattle.judge.proofs.ListedLaws.{no-hat-is}
+use Rattle.judge.proofs.Covering.Flags.{on-small, painted-bits}
+use Rattle.judge.proofs.Covering.Marks.{term-reads}
+use Rattle.judge.proofs.Covering.Hats.{encryption-tag}
+use Rattle.judge.proofs.Stages.ListedLaws.{no-hat-is}
 
 -- What may stand above an open place, by the answers of the searches.
 module _ {c : Certificate} {t : Term Variable} where

@@ -25,8 +25,8 @@ use Rattle.judge.specs.Laid.{TermBlock, RuleBlock, SecretBlock, GoodBloc
 use Rattle.judge.specs.Verdict.{lengthRight, lengthFault, blockFault, formFrom, formFault}
 use Rattle.judge.specs.File.{fileAtoms, usedEntries}
 use Rattle.judge.specs.Meaning.{LengthRight, KindRight, first, later, BlockRight}
-use Rattle.judge.proofs.Exact.{first-block}
-use Rattle.judge.proofs.Judged.{length-judged, used-both, used-length, block-judged}
+use Rattle.judge.proofs.Files.Exact.{first-block}
+use Rattle.judge.proofs.Files.Judged.{length-judged, used-both, used-length, block-judged}
 
 -- ---- a block that has passed
 

@@ -15,8 +15,8 @@ use Rattle.judge.specs.Hat.{Hat, Protected}
 use Rattle.judge.specs.Cover.{SureHat, NoHat, sharesNoGood, isBad, Open, AtOpenPlace, Risky, isVariable}
 use Rattle.judge.specs.Cover.{sharesSecret, Covered, sureHat, inPremise, Passes, dead, covered}
 use Rattle.judge.specs.Conditions.{MeetsAll}
-use Rattle.judge.proofs.Safe.{Safe, HatAbove, safe-no-secret, protected-under, safe-part}
-use Rattle.judge.proofs.Derive.{HatRoot, hat-root}
+use Rattle.judge.proofs.Runs.Safe.{Safe, HatAbove, safe-no-secret, protected-under, safe-part}
+use Rattle.judge.proofs.Runs.Derive.{HatRoot, hat-root}
 
 module _ {certificate : Certificate} (meets : MeetsAll certificate) (by : Variable → Message) where
   -- A term and a pattern with the term's instance for an instance share it.

@@ -22,7 +22,7 @@ use Rattle.terms.specs.Laws.{subtermAt-replace}
 use Rattle.terms.specs.PlaceLaws.{entryAt, Placed, placed, within, placed-below, at-or-above-entry}
 use Rattle.judge.specs.Hat.{Mark}
 use Rattle.judge.specs.CoverEntries.{subAt, Painted, Raised, MarkOver, Laying}
-use Rattle.judge.proofs.Flags.{painted-raised, raised-none, raised-as, raised-twice}
+use Rattle.judge.proofs.Covering.Flags.{painted-raised, raised-none, raised-as, raised-twice}
 
 -- What stands at a place is a marked variable: not at the root of another term.
 module _ {h k : ℕ} where

@@ -34,7 +34,7 @@ use Rattle.judge.specs.File.{countsOf}
 use Rattle.judge.specs.Verdict.{fine?, uncovered, uncoveredRule, kindAsked, conditionAt, conditionFault, ruleFault, certificateFault}
 use Rattle.judge.specs.Verdict.{faultOf, verdictOf}
 use Rattle.judge.specs.Values.{verdictValues, judgingValues}
-use Rattle.judge.proofs.FormLaws.{found-below}
+use Rattle.judge.proofs.Stages.FormLaws.{found-below}
 
 -- ---- number 12
 

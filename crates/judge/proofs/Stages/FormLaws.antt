@@ -39,7 +39,7 @@ use Rattle.judge.specs.File.{fileAtoms, usedEntries}
 use Rattle.judge.specs.Verdict.{conclusionFault, rulePartsFault, termFault, entriesFault, blockFault, firstFault, formFrom}
 use Rattle.judge.specs.Verdict.{formFault, missingFault}
 use Rattle.judge.specs.File.{kindCount, countsOf}
-use Rattle.judge.proofs.Judged.{used-both, used-length}
+use Rattle.judge.proofs.Files.Judged.{used-both, used-length}
 
 -- ---- what the code's answer tells
 

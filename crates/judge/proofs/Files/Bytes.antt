@@ -17,11 +17,11 @@ use Rattle.judge.specs.Cover.{Passes}
 use Rattle.judge.specs.Conditions.{KnownAtom, WeaklyClosed, KeptKey, MeetsAll}
 use Rattle.judge.specs.Verdict.{verdictOf}
 use Rattle.judge.specs.Meaning.{Formed, Accepts}
-use Rattle.judge.proofs.Members.{listed, block-listed}
-use Rattle.judge.proofs.ForeignLaws.{no-foreign}
-use Rattle.judge.proofs.Verdicts.{accepted-iff}
-use Rattle.judge.proofs.Packed.{zero-accepted}
-use Rattle.judge.proofs.Secrecy.{secrecy}
+use Rattle.judge.proofs.Files.Members.{listed, block-listed}
+use Rattle.judge.proofs.Files.ForeignLaws.{no-foreign}
+use Rattle.judge.proofs.Files.Verdicts.{accepted-iff}
+use Rattle.judge.proofs.Answering.Packed.{zero-accepted}
+use Rattle.judge.proofs.Runs.Secrecy.{secrecy}
 
 pub accepts-meets : (file : List ℕ) → Accepts file → MeetsAll (certificateOf file)
 unfolding certificateOf Built

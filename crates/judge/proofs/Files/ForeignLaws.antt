@@ -27,8 +27,8 @@ use Rattle.judge.specs.Meaning.{Formed}
 use Rattle.judge.specs.Cover.{Risky, isVariable, sharesSecret, SureHat, NoHat, sharesNoGood, isBad, Open}
 use Rattle.judge.specs.Foreign.{Holding, NoForeign, ProperMatch, ProperShare, ProperRisky, ProperSureHat, ProperNoHat, ProperOpen, SameCover}
 use Rattle.judge.specs.Foreign as proper
-use Rattle.judge.proofs.LaidLaws.{fits, pattern-right, premise-right, conclusion-right}
-use Rattle.judge.proofs.Members.{listed}
+use Rattle.judge.proofs.Files.LaidLaws.{fits, pattern-right, premise-right, conclusion-right}
+use Rattle.judge.proofs.Files.Members.{listed}
 
 -- ---- the atoms and keys of a term
 

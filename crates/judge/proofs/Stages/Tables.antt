@@ -19,7 +19,7 @@ use Rattle.terms.specs.Sizes.{SizedFrom, KeptBelow, sizes-at, sizes-kept}
 use Rattle.judge.specs.File.{blockCount, patternOf}
 use Rattle.judge.specs.Laid.{Laid}
 use Rattle.judge.specs.Listed.{Searching, HoldsAt, TermPart, SizesBelow, SizesIn, SizeOf}
-use Rattle.judge.proofs.Roots.{instance-shares}
+use Rattle.judge.proofs.Stages.Roots.{instance-shares}
 
 -- A listed term has at most 63 entries.
 listed-short : {file : List ℕ} {i : ℕ} → Laid file → i < blockCount file → ListsTerm (kindOf (blockAt file i)) → length (firstEntries (blockAt file i)) ≤ mostTermBytes

@@ -34,11 +34,11 @@ use Rattle.judge.specs.Verdict.{spotAt, FineSpot, fine?, uncovered}
 use Rattle.judge.specs.Listed.{SharesListed, IsSecret}
 use Rattle.judge.specs.CoverEntries.{subAt, On, Cleared, Flags, Standing, HatBelow, Entries, OpenEntry, OpenFlags, OpenHolds, Flagged, FlaggedWith, SomeFlagged}
 use Rattle.judge.specs.CoverEntries.{RiskyEntry, Wanted, isSecret, isRisky, WantedEntry, FineEntry, Concluded}
-use Rattle.judge.proofs.Flags.{RaisedBelow}
-use Rattle.judge.proofs.ListedLaws.{risky-is, dead-is}
-use Rattle.judge.proofs.Marks.{term-reads}
-use Rattle.judge.proofs.Hats.{hat-place}
-use Rattle.judge.proofs.Opens.{open-place}
+use Rattle.judge.proofs.Covering.Flags.{RaisedBelow}
+use Rattle.judge.proofs.Stages.ListedLaws.{risky-is, dead-is}
+use Rattle.judge.proofs.Covering.Marks.{term-reads}
+use Rattle.judge.proofs.Covering.Hats.{hat-place}
+use Rattle.judge.proofs.Covering.Opens.{open-place}
 
 -- A term stands at every entry.
 pub begins-at : {e : List ℕ} (k : ℕ) → Begins e → 4 * k < length e → Begins (from (4 * k) e)

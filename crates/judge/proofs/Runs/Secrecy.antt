@@ -10,9 +10,9 @@ use Rattle.judge.specs.Run.{Derives, Start, known, foreign, Step, Enable
 use Rattle.judge.specs.Run.{AfterStep, kept, added, afterFrom, after}
 use Rattle.judge.specs.Hat.{Protected}
 use Rattle.judge.specs.Conditions.{MeetsAll}
-use Rattle.judge.proofs.Safe.{Safe, safe-no-secret}
-use Rattle.judge.proofs.Derive.{safe-derived}
-use Rattle.judge.proofs.Steps.{safe-conclusion}
+use Rattle.judge.proofs.Runs.Safe.{Safe, safe-no-secret}
+use Rattle.judge.proofs.Runs.Derive.{safe-derived}
+use Rattle.judge.proofs.Runs.Steps.{safe-conclusion}
 
 -- An atom that is no secret is safe.
 safe-atom : {certificate : Certificate} (a : ℕ) → (Secret certificate (atom a) → ⊥) → Safe certificate (atom a)

@@ -31,11 +31,11 @@ use mathlib.Core.Logic.{_⊎_, inl, inr, ⊎-elim, _↔_}
 use Rattle.judge.specs.Laid.{Laid, SecretBlock}
 use Rattle.terms.specs.Solve.{Says, says-same}
 use Rattle.terms.specs.Decide.{answer}
-use Rattle.judge.proofs.ListedLaws.{answer-says}
+use Rattle.judge.proofs.Stages.ListedLaws.{answer-says}
 use Rattle.judge.specs.Listed.{pairRoots, encryptionRoots, variableRoots, rootSlots}
 use Rattle.judge.specs.Listed.{HoldsAt, TermPart, SharesListed, IsSecret, slotFor, slotBy, slotAt, FlaggedAt, FlaggedMore, SecretSlot, RootsOf, NoRoot}
-use Rattle.judge.proofs.Listing.{none-found}
-use Rattle.judge.proofs.Numbers.{pair-message}
+use Rattle.judge.proofs.Stages.Listing.{none-found}
+use Rattle.judge.proofs.Stages.Numbers.{pair-message}
 
 -- ---- slots
 

@@ -18,7 +18,7 @@ use Rattle.judge.specs.declared.verdict.Verdict.the-variants.{Accepted, 
 use Rattle.judge.specs.Answer.{numberOf, blockOf, placeOf}
 use Rattle.judge.specs.Line.{digitsOf, fieldOf, newline, threeFields, acceptedLine, refusedLine, lineOf}
 use Rattle.judge.specs.Line.{pasted, Room, Put, printing, printingValues, afterPrinting}
-use Rattle.judge.proofs.Digits.{digits-one, digits-more}
+use Rattle.judge.proofs.Answering.Digits.{digits-one, digits-more}
 
 -- ---- a text written into a buffer
 

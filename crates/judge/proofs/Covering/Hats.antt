@@ -26,10 +26,10 @@ use Rattle.judge.specs.Laid.{Laid, TermBlock}
 use Rattle.judge.specs.Cover.{SureHat}
 use Rattle.judge.specs.Listed.{listedOf, AnyListed, HoldsAt, Searching, SharesListed}
 use Rattle.judge.specs.CoverEntries.{subAt, On, Raised, Cleared, SomeOn, Flags, MarkOver, Laying, Standing, HatOver, HatBelow}
-use Rattle.judge.proofs.Flags.{raised-none, raised-as, raised-twice, zero-off, zero-bits, cleared-none, cleared-as, cleared-twice}
-use Rattle.judge.proofs.Marks.{term-reads, mark-inside, mark-place}
-use Rattle.judge.proofs.Listing.{one-found, none-found}
-use Rattle.judge.proofs.ListedLaws.{not-bad-is}
+use Rattle.judge.proofs.Covering.Flags.{raised-none, raised-as, raised-twice, zero-off, zero-bits, cleared-none, cleared-as, cleared-twice}
+use Rattle.judge.proofs.Covering.Marks.{term-reads, mark-inside, mark-place}
+use Rattle.judge.proofs.Stages.Listing.{one-found, none-found}
+use Rattle.judge.proofs.Stages.ListedLaws.{not-bad-is}
 
 -- What a search at entry h asks for.
 pub searching-at : {file e : List ℕ} {h kind : ℕ} → Standing file e h → ListsTerm kind → Searching file kind (from (4 * h) e)

@@ -12,7 +12,7 @@ use Rattle.judge.specs.Certificate.{Certificate, Secret, inverse}
 use Rattle.judge.specs.Run.{Derives, had, pairs, encrypts, leftHalf, rightHalf, decrypts}
 use Rattle.judge.specs.Hat.{Hat, Protected}
 use Rattle.judge.specs.Conditions.{MeetsAll}
-use Rattle.judge.proofs.Safe.{Safe, HatAbove, safe-no-secret, protected-under, safe-part}
+use Rattle.judge.proofs.Runs.Safe.{Safe, HatAbove, safe-no-secret, protected-under, safe-part}
 
 -- A hat is an encryption, and the inverse of its key is a secret.
 pub record HatRoot (certificate : Certificate) (m : Message) : Type 0 where

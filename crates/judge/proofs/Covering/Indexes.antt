@@ -16,11 +16,11 @@ use Rattle.terms.specs.Solve.{Says, says-same}
 use Rattle.judge.specs.File.{blockCount, patternOf, certificateOf}
 use Rattle.judge.specs.Laid.{Laid}
 use Rattle.judge.specs.Listed.{slotAt, RootsOf, IsSecret, HoldsAt}
-use Rattle.judge.proofs.Listing.{none-found}
+use Rattle.judge.proofs.Stages.Listing.{none-found}
 use Rattle.judge.specs.CoverEntries.{On, Flagged, SomeFlagged, IndexedBelow, Indexed}
-use Rattle.judge.proofs.Flags.{zero-at}
-use Rattle.judge.proofs.Roots.{slot-same}
-use Rattle.judge.proofs.Covers.{flagged-begins, flagged-below}
+use Rattle.judge.proofs.Covering.Flags.{zero-at}
+use Rattle.judge.proofs.Stages.Roots.{slot-same}
+use Rattle.judge.proofs.Covering.Covers.{flagged-begins, flagged-below}
 
 -- Nothing is noted yet.
 pub index-none : {e flags : List ℕ} → IndexedBelow e flags 0 (replicate 400 0)

@@ -32,8 +32,8 @@ use Rattle.judge.specs.Meaning.{SecretNotKnown, SecretClosed, RootKeyKep
 use Rattle.judge.specs.Judgement.{judgedOf}
 use Rattle.judge.specs.Verdict.{onKind, kindAsked, Meets, meets?, faultOn, conditionAt}
 use Rattle.judge.specs.Listed.{IsSecret, is-secret?, TermPart}
-use Rattle.judge.proofs.ListedLaws.{answer-says, asTerm-only, secret-is}
-use Rattle.judge.proofs.Listing.{secret-term}
+use Rattle.judge.proofs.Stages.ListedLaws.{answer-says, asTerm-only, secret-is}
+use Rattle.judge.proofs.Stages.Listing.{secret-term}
 
 -- One of two, the first being refused.
 second : {P Q R : Type 0} (b : Bool) → (R → P ⊎ Q) → (P ⊎ Q → R) → ¬ P → Says b Q → Says b R

@@ -22,8 +22,8 @@ use Rattle.terms.specs.Decisions.{says-yes}
 use Rattle.terms.specs.Decide.{answer, answer-yes, answer-no}
 use Rattle.judge.specs.File.{blockCount, blocksOf, ofKind, patternOf, secretOf, certificateOf}
 use Rattle.judge.specs.Laid.{Laid, TermBlock, SecretBlock}
-use Rattle.judge.proofs.ListedLaws.{answer-says}
-use Rattle.judge.proofs.Members.{BlockOf, block-listed, listed-block}
+use Rattle.judge.proofs.Stages.ListedLaws.{answer-says}
+use Rattle.judge.proofs.Files.Members.{BlockOf, block-listed, listed-block}
 use Rattle.judge.specs.Listed.{listedOf, AnyListed, HoldsAt, Searching, TermPart}
 
 -- A secret block's term is its secret.

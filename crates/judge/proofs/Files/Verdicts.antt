@@ -31,7 +31,7 @@ use Rattle.judge.specs.Cover.{Risky, Covered, Dead, Passes, dead, covere
 use Rattle.judge.specs.Conditions.{KnownAtom}
 use Rattle.judge.specs.Decisions.{known-atom?, risky?, dead?}
 use Rattle.judge.specs.Verdict.{missingFault, onKind, kindFault, kindAsked, Meets, meets?, faultOn, conditionAt, conditionFault, spotAt, FineSpot, fine?}
-use Rattle.judge.proofs.Spots.{spot-stands, fine-spot, all-places, each-entry}
+use Rattle.judge.proofs.Files.Spots.{spot-stands, fine-spot, all-places, each-entry}
 use Rattle.judge.specs.File.{kindCount}
 use Rattle.judge.specs.Verdict.{uncovered, uncoveredRule, ruleFault, certificateFault}
 use Rattle.judge.specs.Verdict.{lengthFault, formFrom, formFault, faultOf, verdictOf, blockFault}
@@ -39,10 +39,10 @@ use Rattle.judge.specs.File.{countsOf}
 use Rattle.judge.specs.Meaning.{LengthRight, BlockRight, BlockFaulty, HasKind, Formed, Every, SecretNotKnown, SecretClosed, RootKeyKept, Passing}
 use Rattle.judge.specs.Meaning.{FirstUncovered, Accepts, FirstAt, RefusedWith, lengthFails, blockFails, missing, secretKnown}
 use Rattle.judge.specs.Meaning.{secretNotClosed, keyNotKept, placeUncovered}
-use Rattle.judge.proofs.Exact.{Exact, found-none, reworded, tested, either, then, FirstPlace, at, first-place}
-use Rattle.judge.proofs.Exact.{FirstBlock, at-block, first-block, says-decided, says-le, says-both}
-use Rattle.judge.proofs.Judged.{length-judged, block-judged}
-use Rattle.judge.proofs.Members.{count-has, has-count}
+use Rattle.judge.proofs.Files.Exact.{Exact, found-none, reworded, tested, either, then, FirstPlace, at, first-place}
+use Rattle.judge.proofs.Files.Exact.{FirstBlock, at-block, first-block, says-decided, says-le, says-both}
+use Rattle.judge.proofs.Files.Judged.{length-judged, block-judged}
+use Rattle.judge.proofs.Files.Members.{count-has, has-count}
 
 -- ---- number 4
 
