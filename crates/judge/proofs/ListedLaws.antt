@@ -8,9 +8,10 @@ use native.Mathlib.Omega.{arith}
 use Rattle.blocks.specs.Kinds.{secretKind, goodKind, badKind}
 use Rattle.terms.specs.Term.{Term, Message, Variable, variable, atom, replace, asTerm}
 use Rattle.terms.specs.Instance.{Matches, Share}
-use Rattle.terms.specs.Laws.{replace-message, replace-asTerm}
+use Rattle.terms.proofs.InstanceLaws.{replace-message, replace-asTerm}
 use Rattle.terms.specs.Solve.{Says}
-use Rattle.terms.specs.Decide.{answer, answer-yes, answer-no}
+use Rattle.terms.specs.Decide.{answer}
+use Rattle.terms.proofs.AnswerLaws.{answer-yes, answer-no}
 use Rattle.judge.specs.Certificate.{Certificate, Rule, Secret}
 use Rattle.judge.specs.Cover.{NoHat, sharesNoGood, isBad, Risky, isVariable, sharesSecret, Dead, AtOpenPlace}
 use Rattle.judge.specs.Decisions.{NotBad, not-bad?, no-hat?, risky?, is-variable?}

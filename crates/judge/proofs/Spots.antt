@@ -5,10 +5,10 @@ use mathlib.Core.List.{List, []}
 use Prim.Native.Nat.{ℕ, _*_, _<_}
 use lib.ListN.{drop}
 use Rattle.terms.specs.Entry.{termOf, size}
-use Rattle.terms.specs.EntryLaws.{termOf-reads}
+use Rattle.terms.proofs.EntryLaws.{termOf-reads}
 use Rattle.terms.specs.OneTerm.{OneTerm}
-use Rattle.terms.specs.TermLaws.{one-alone}
-use Rattle.terms.specs.PlaceLaws.{Placed, spot-placed, placed-reads}
+use Rattle.terms.proofs.OneTermLaws.{one-alone}
+use Rattle.terms.proofs.PlacedLaws.{Placed, spot-placed, placed-reads}
 use Rattle.judge.specs.Cover.{spotAt}
 
 -- Of entries that are exactly one term.

@@ -16,10 +16,10 @@ use Rattle.terms.specs.Place.{Place, subtermAt}
 use Rattle.terms.specs.Entry.{size}
 use Rattle.terms.specs.Search.{in-spots, spots-stand}
 use Rattle.terms.specs.Place.{Spot, spots}
-use Rattle.terms.specs.PlaceLaws.{spots-length}
+use Rattle.terms.proofs.PlacedLaws.{spots-length}
 use Rattle.terms.specs.First.{firstNot}
 use Rattle.terms.specs.Decide.{answer}
-use Rattle.terms.specs.Decisions.{says-eq}
+use Rattle.terms.proofs.AnswerLaws.{says-eq}
 use Rattle.terms.specs.Solve.{Says, says-same}
 use Rattle.judge.specs.declared.verdict.Counts.{Counts}
 use Rattle.judge.specs.declared.verdict.Fault.{Fault}

@@ -3,7 +3,7 @@ use borrow.Author.Needs.{needs}
 use native.Mathlib.Omega.{arith}
 use mathlib.Core.Path.{sym, refl}
 use Rattle.blocks.proofs.KindLaws.{secret-lists}
-use Rattle.terms.specs.Decisions.{says-yes, says-no}
+use Rattle.terms.proofs.AnswerLaws.{says-yes, says-no}
 use Rattle.judge.specs.CoverEntries.{isSecret}
 use Rattle.judge.proofs.Hats.{searching-at}
 use Rattle.judge.proofs.Covers.{standing-entries, wanted-risky, wanted-none}

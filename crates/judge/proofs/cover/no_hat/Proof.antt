@@ -2,7 +2,7 @@
 use borrow.Author.Needs.{needs}
 use mathlib.Core.Path.{refl, sym, _∙_}
 use Rattle.blocks.proofs.KindLaws.{bad-lists}
-use Rattle.terms.specs.Decide.{yes-of, no-of}
+use Rattle.terms.proofs.AnswerLaws.{yes-of, no-of}
 use Rattle.judge.specs.Listed.{matches-listed?, shares-listed?}
 use Rattle.judge.proofs.ListedLaws.{answer-says}
 use Rattle.judge.proofs.Opens.{no-good-shares, by-bad}

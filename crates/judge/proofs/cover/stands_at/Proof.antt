@@ -4,7 +4,8 @@ use mathlib.Core.Path.{_≡_, ap, sym, _∙_}
 use native.Mathlib.Omega.{arith}
 use Prim.Native.Nat.{ℕ}
 use lib.ListN.{getD}
-use Rattle.terms.specs.Decide.{yes-of, variable?, term?}
+use Rattle.terms.specs.Decide.{variable?, term?}
+use Rattle.terms.proofs.AnswerLaws.{yes-of}
 use Rattle.judge.specs.Listed.{slotAt}
 use Rattle.judge.proofs.Covers.{flagged-begins, flagged-found}
 use Rattle.judge.proofs.Indexes.{index-absent, index-points}

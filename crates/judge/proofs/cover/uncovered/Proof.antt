@@ -2,7 +2,7 @@
 use borrow.Author.Needs.{needs}
 use mathlib.Core.Path.{sym}
 use native.Mathlib.Omega.{arith}
-use Rattle.terms.specs.Decisions.{says-yes, says-no}
+use Rattle.terms.proofs.AnswerLaws.{says-yes, says-no}
 use Rattle.judge.specs.File.{ruleOf}
 use Rattle.judge.proofs.Opens.{opened-within}
 use Rattle.judge.proofs.Repeats.{remembered-of}

@@ -2,7 +2,7 @@
 use borrow.Author.Needs.{needs}
 use native.Mathlib.Omega.{arith}
 use Rattle.blocks.specs.Block.{firstEntries}
-use Rattle.terms.specs.Decisions.{says-yes, says-no}
+use Rattle.terms.proofs.AnswerLaws.{says-yes, says-no}
 use Rattle.judge.proofs.Repeats.{fitting-before, fitting-here, repeats-told}
 use Rattle.judge.proofs.judging.repeats_premise.Statement.{statement}
 use Rattle.judge.proofs.judging.repeats_premise.Tie as tie

@@ -2,7 +2,7 @@
 use mathlib.Core.Path.{ap}
 use Rattle.terms.specs.Entry.{termOf}
 use Rattle.terms.specs.Decide.{match?, variable?}
-use Rattle.terms.specs.Decisions.{says-yes, says-no}
+use Rattle.terms.proofs.AnswerLaws.{says-yes, says-no}
 use Rattle.judge.proofs.Listing.{block-there, other-kind}
 use Rattle.judge.proofs.Roots.{instance-answer}
 use Rattle.judge.proofs.Tables.{too-small}

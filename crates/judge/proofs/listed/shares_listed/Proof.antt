@@ -4,7 +4,7 @@ use native.Mathlib.Omega.{arith}
 use borrow.Author.Needs.{needs}
 use Rattle.terms.specs.Instance.{Share}
 use Rattle.terms.specs.Entry.{termOf}
-use Rattle.terms.specs.Decisions.{says-no}
+use Rattle.terms.proofs.AnswerLaws.{says-no}
 use Rattle.judge.specs.File.{blockCount}
 use Rattle.judge.specs.Listed.{HoldsAt, shares-listed?}
 use Rattle.judge.proofs.Listing.{found-answer, none-answer, lower-answer, above-more}

@@ -2,7 +2,7 @@
 use mathlib.Core.Path.{refl}
 use borrow.Author.Needs.{needs}
 use Rattle.blocks.proofs.KindLaws.{secret-lists}
-use Rattle.terms.specs.Decisions.{says-yes, says-no}
+use Rattle.terms.proofs.AnswerLaws.{says-yes, says-no}
 use Rattle.judge.specs.File.{certificateOf}
 use Rattle.judge.specs.Verdict.{unclosedSecret}
 use Rattle.judge.proofs.Listing.{block-there}
