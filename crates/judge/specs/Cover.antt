@@ -4,7 +4,7 @@ use mathlib.Core.Option.{some}
 use Prim.Native.Nat.{ℕ}
 use Rattle.terms.specs.Term.{Term, variable, encrypted, Message, Variable, asTerm}
 use Rattle.terms.specs.Place.{Place, subtermAt, StrictlyAbove}
-use Rattle.terms.specs.PlaceLaws.{Placed}
+use Rattle.terms.specs.Entry.{Placed}
 use Rattle.terms.specs.Instance.{Matches, Share}
 use Rattle.judge.specs.Certificate.{Rule, Certificate, Secret, Good, Bad}
 use Rattle.judge.specs.Hat.{Mark}

@@ -1,5 +1,5 @@
 -- Cover on the entries of a rule: what the walks over them promise. Entry k stands at the k-th place, and the subterm
--- there is what the entries from k on begin with (terms/specs/PlaceLaws.antt).
+-- there is what the entries from k on begin with (terms/proofs/PlacedLaws.antt).
 use mathlib.Core.Path.{_≡_}
 use mathlib.Core.Bool.{Bool, true, false}
 use mathlib.Core.List.{List}
@@ -14,8 +14,7 @@ use Rattle.terms.specs.Term.{Term, Variable, variable, marked, named}
 use Rattle.terms.specs.Place.{Place, subtermAt}
 use Rattle.terms.specs.Instance.{Matches}
 use Rattle.terms.specs.Entry.{size, termOf, Begins}
-use Rattle.terms.specs.WalkLaws.{from}
-use Rattle.terms.specs.PlaceLaws.{entryAt}
+use Rattle.terms.specs.Entry.{from, entryAt}
 use Rattle.judge.specs.Certificate.{Certificate, Good}
 use Rattle.judge.specs.Laid.{Laid}
 use Rattle.judge.specs.Cover.{NoHat, Risky}

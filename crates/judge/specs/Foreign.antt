@@ -9,7 +9,7 @@ use Rattle.terms.specs.Term.{Term, variable, encrypted, Message, Variable, Fore
 use Rattle.terms.specs.Atom.{IsKey}
 use Rattle.terms.specs.Place.{Place, subtermAt, StrictlyAbove}
 use Rattle.terms.specs.Proper.{Built, BuiltMatch, BuiltShare}
-use Rattle.terms.specs.TermLaws.{MessageAtom}
+use Rattle.terms.specs.Proper.{MessageAtom}
 use Rattle.judge.specs.Certificate.{Rule, Certificate, Secret, Good, Bad, Listed}
 use Rattle.judge.specs.Hat.{Mark}
 use Rattle.judge.specs.Cover.{Risky, SureHat, Open}

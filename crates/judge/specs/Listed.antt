@@ -15,7 +15,7 @@ use Rattle.terms.specs.Tag.{pairTag, SymbolTag, Tagged, isAtom, isPair, isEncry
 use Rattle.terms.specs.Slot.{slotCount}
 use Rattle.terms.specs.Entry.{Begins, termOf, size, tagAt, valueAt}
 use Rattle.terms.specs.TermGraph.{SizesOf}
-use Rattle.terms.specs.WalkLaws.{from}
+use Rattle.terms.specs.Entry.{from}
 use Rattle.terms.specs.Decisions.{dec-map}
 use Rattle.terms.specs.Search.{any?}
 use Rattle.judge.specs.Certificate.{Certificate}

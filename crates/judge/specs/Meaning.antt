@@ -11,7 +11,7 @@ use Rattle.blocks.specs.Check.{CheckRight}
 use Rattle.blocks.specs.Layout.{LayoutRight}
 use Rattle.terms.specs.Term.{Term, Variable}
 use Rattle.terms.specs.Place.{Place}
-use Rattle.terms.specs.PlaceLaws.{Placed}
+use Rattle.terms.specs.Entry.{Placed}
 use Rattle.terms.specs.Entry.{termOf}
 use Rattle.terms.specs.Atom.{Atom, atomsOf, AtomRight}
 use Rattle.terms.specs.TermEntry.{EntryRight}

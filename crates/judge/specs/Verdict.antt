@@ -17,7 +17,8 @@ use Rattle.terms.specs.declared.valid.Found.the-variants.{At, Nothing}
 use Rattle.terms.specs.Entry.{termOf, size}
 use Rattle.terms.specs.Atom.{Atom, atomsOf, wrongAtom}
 use Rattle.terms.specs.TermEntry.{wrongEntry}
-use Rattle.terms.specs.OneTerm.{oneTerm?, encryption?}
+use Rattle.terms.specs.OneTerm.{encryption?}
+use Rattle.terms.specs.Reading.{oneTerm?}
 use Rattle.terms.specs.First.{firstNot}
 use Rattle.terms.specs.Decisions.{dec-implies, dec-not}
 use Rattle.terms.specs.Term.{Term, Variable}

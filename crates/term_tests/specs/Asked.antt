@@ -13,10 +13,12 @@ use Rattle.terms.specs.declared.valid.Found.the-variants.{At, Nothing}
 use Rattle.terms.specs.Entry.{termOf, Begins}
 use Rattle.terms.specs.Atom.{Atom, atomsOf}
 use Rattle.terms.specs.TermEntry.{wrongEntry}
-use Rattle.terms.specs.OneTerm.{oneTerm?, HasSymbol}
+use Rattle.terms.specs.OneTerm.{HasSymbol}
+use Rattle.terms.specs.Reading.{oneTerm?}
 use Rattle.terms.specs.Each.{Each}
-use Rattle.terms.specs.TermLaws.{right-each, right-symbols, one-begins}
-use Rattle.terms.specs.Decide.{answer, share?, match?, term?, variable?, yes-of}
+use Rattle.terms.proofs.OneTermLaws.{right-each, right-symbols, one-begins}
+use Rattle.terms.specs.Decide.{answer, share?, match?, term?, variable?}
+use Rattle.terms.proofs.AnswerLaws.{yes-of}
 
 -- 126 atoms, all of them keys.
 unfoldable pub keys : List Atom

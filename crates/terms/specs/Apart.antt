@@ -1,4 +1,4 @@
--- Two terms, each with variables of its own, as terms over the variables of both.
+-- What `share?` needs: two terms, each with variables of its own, as terms over the variables of both.
 use mathlib.Core.Path.{sym, ap, _∙_}
 use mathlib.Core.HLevel.{Discrete}
 use mathlib.Core.Bool.{Bool}

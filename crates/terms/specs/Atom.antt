@@ -1,16 +1,14 @@
 -- Atom entries, and what number 6 asks of them (document 01, "Atom entry").
-use mathlib.Core.Path.{_≡_, refl, ap, _∙_}
+use mathlib.Core.Path.{_≡_, refl, _∙_}
 use mathlib.Core.Logic.{_⊎_, inl, inr}
 use mathlib.Core.List.{List, [], _∷_}
-use Prim.Native.Nat.{ℕ, zero, suc, _+_, _*_, _/_, _≤_, _<_}
+use Prim.Native.Nat.{ℕ, zero, suc, _+_, _*_, _≤_, _<_}
 use native.Mathlib.Omega.{arith}
 use native.Mathlib.Decide.{ℕ-discrete, decLe, decLt}
-use lib.ListN.{length, getD, drop, List·getD-eq-default}
+use lib.ListN.{length, getD}
 use Rattle.terms.specs.declared.valid.Found.{Found}
-use Rattle.terms.specs.declared.valid.Found.the-variants.{Nothing}
-use Rattle.terms.specs.Entry.{tagAt, valueAt}
+use Rattle.terms.specs.First.{firstNot}
 use Rattle.terms.specs.Decisions.{dec-map, dec-and}
-use Rattle.terms.specs.First.{firstNot, first-none}
 
 -- Kinds of atoms: 1 principal, 2 nonce, 3 public, 4 private, 5 symmetric key.
 abbrev pub principalKind : ℕ
@@ -95,17 +93,6 @@ unfoldable pub isKey? : (atoms : List Atom) (n : ℕ) → Dec (IsKey atoms n)
 unfolding atomAt decLe dec-map dec-and
 isKey? atoms n = dec-map (λ h. kind-key (h .0) (h .1)) key-kind (dec-and (decLe publicKind (atomKind atoms n)) (λ l. decLe (atomKind atoms n) symmetricKind))
 
--- A key is listed.
-pub key-listed : {atoms : List Atom} {n : ℕ} → IsKey atoms n → n < length atoms
-unfolding atomAt
-key-listed {atoms} {n} k = elim (decLt n (length atoms)) [
-  | yes l ↦ l
-  | no ge ↦ absurd (away (ap (λ (a : Atom). a .kind) (List·getD-eq-default atoms _ (omega arith))))
-]
-  where
-    away : atomKind atoms n ≡ 0 → ⊥
-    away z = let b = key-kind k in omega arith
-
 -- A public and a private key name each other: the partner is an entry of the other kind whose partner field is this
 -- entry's number. Of the partner's entry only its kind and its partner field count.
 pub record NamedBack (atoms : List Atom) (n other : ℕ) : Type 0 where
@@ -189,41 +176,3 @@ module _ (atoms : List Atom) (n : ℕ) where
 unfoldable pub wrongAtom : List Atom → Found
 unfolding firstNot atomRight?
 wrongAtom atoms = firstNot (atomRight? atoms) (length atoms)
-
--- Nothing found: each is right.
-pub all-right : (atoms : List Atom) → wrongAtom atoms ≡ Nothing → (n : ℕ) → n < length atoms → AtomRight atoms n
-unfolding wrongAtom
-all-right atoms nothing = first-none (atomRight? atoms) nothing
-
--- A key's partner is a key, and names it back.
-pub partner-key : {atoms : List Atom} {n : ℕ} → AtomRight atoms n → IsKey atoms n
-    → IsKey atoms (partnerOf atoms n) × (partnerOf atoms (partnerOf atoms n) ≡ n)
-partner-key {atoms} {n} w key = go (w .partner)
-  where
-    go : PartnerRight atoms n → IsKey atoms (partnerOf atoms n) × (partnerOf atoms (partnerOf atoms n) ≡ n)
-    go (principal k p) = let b = key-kind key in absurd (omega arith)
-    go (nonce k p) = let b = key-kind key in absurd (omega arith)
-    go (publicKey k p) = (isPrivate (p .kind), p .back)
-    go (privateKey k p) = (isPublic (p .kind), p .back)
-    go (symmetricKey k p) = (rw p key, rw (p, p) refl)
-
--- What the bytes say of the entry of a number.
-pub length-atoms : (b : List ℕ) → length (atomsOf b) ≡ length b / 4
-unfolding atomsOf
-length-atoms [] = refl
-length-atoms (x ∷ []) = refl
-length-atoms (x ∷ y ∷ []) = refl
-length-atoms (x ∷ y ∷ z ∷ []) = refl
-length-atoms (x ∷ y ∷ z ∷ w ∷ b) = let ih = length-atoms b in omega arith
-
-pub atom-bytes : (b : List ℕ) (n : ℕ) → n < length b / 4
-    → atomAt (atomsOf b) n ≡ record { kind = tagAt (drop (4 * n) b); known = getD (drop (4 * n) b) 1 0; partner = valueAt (drop (4 * n) b) }
-unfolding atomsOf atomAt
-atom-bytes [] n h = absurd (omega arith)
-atom-bytes (x ∷ []) n h = absurd (omega arith)
-atom-bytes (x ∷ y ∷ []) n h = absurd (omega arith)
-atom-bytes (x ∷ y ∷ z ∷ []) n h = absurd (omega arith)
-atom-bytes (x ∷ y ∷ z ∷ w ∷ b) zero h = refl
-atom-bytes (x ∷ y ∷ z ∷ w ∷ b) (suc n) h =
-    let far : 4 * suc n ≡ suc (suc (suc (suc (4 * n)))) = omega arith in
-    rw far (atom-bytes b n (omega arith))

@@ -1,48 +1,19 @@
 -- What is decided of terms: that they are the same, that a pattern matches, that two terms share an instance. Each is
 -- decided as its meaning, so a yes comes with the replacements and a no with a proof that there are none.
 -- To compute, at the variables of a file: `unfolding match? share? variable?`.
-use mathlib.Core.Path.{_≡_, refl, sym}
 use mathlib.Core.HLevel.{Discrete}
-use mathlib.Core.Bool.{Bool, true, false, true≢false, false≢true}
+use mathlib.Core.Bool.{Bool, true, false}
 use native.Mathlib.Decide.{ℕ-discrete}
-use Rattle.terms.specs.Term.{Term, Variable, replace, Term-discrete, Sort-discrete, Variable-discrete}
+use Rattle.terms.specs.Term.{Term, Term-discrete, Sort-discrete, Variable, Variable-discrete, replace}
 use Rattle.terms.specs.Instance.{Matches, Share}
 use Rattle.terms.specs.Seek.{found, found-is}
-use Rattle.terms.specs.Solve.{Says, decided}
+use Rattle.terms.specs.Solve.{decided}
 use Rattle.terms.specs.Apart.{meet, meet-says}
 
 -- The answer of a decision.
 abbrev pub answer : {P : Type 0} → Dec P → Bool
 answer (yes p) = true
 answer (no n) = false
-
--- What holds is answered by yes, what does not by no.
-pub answer-yes : {P : Type 0} (d : Dec P) → P → answer d ≡ true
-answer-yes (yes p) h = refl
-answer-yes (no n) h = absurd (n h)
-
-pub answer-no : {P : Type 0} (d : Dec P) → ¬ P → answer d ≡ false
-answer-no (yes p) h = absurd (h p)
-answer-no (no n) h = refl
-
--- What is answered by yes holds, what is answered by no does not.
-pub yes-of : {P : Type 0} (d : Dec P) → answer d ≡ true → P
-yes-of (yes p) e = p
-yes-of (no n) e = absurd (false≢true e)
-
-pub no-of : {P : Type 0} (d : Dec P) → answer d ≡ false → ¬ P
-no-of (yes p) e = absurd (true≢false e)
-no-of (no n) e = n
-
--- An answer that says truly is the answer of any decision.
-pub says-answer : {P : Type 0} (b : Bool) → Says b P → (d : Dec P) → b ≡ answer d
-says-answer true p d = sym (answer-yes d p)
-says-answer false n d = sym (answer-no d n)
-
--- Decisions of claims that follow from each other have the same answer.
-pub answer-same : {P Q : Type 0} (d : Dec P) (e : Dec Q) → (P → Q) → (Q → P) → answer d ≡ answer e
-answer-same (yes p) e f g = sym (answer-yes e (f p))
-answer-same (no n) e f g = sym (answer-no e (λ q. n (g q)))
 
 -- Are two variables of a file the same?
 unfoldable pub variable? : Discrete Variable

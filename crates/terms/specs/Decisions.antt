@@ -1,12 +1,11 @@
--- Deciding: decisions put together, and what the answers of tests say.
-use mathlib.Core.Path.{_≡_, refl}
+-- What the decisions below are made of: decisions put together. All of these compute.
 use mathlib.Core.Bool.{Bool, true, false}
 use mathlib.Core.Logic.{_⊎_, inl, inr}
-use Prim.Native.Nat.{ℕ, _<_}
-use lib.Dec.{eqb, ltb}
-use borrow.Author.Tests.{eqb-true, eqb-false, ltb-true, ltb-false}
-use native.Mathlib.Omega.{arith}
-use Rattle.terms.specs.Solve.{Says}
+
+-- One of two, by an answer.
+abbrev pub pick : {A : Type 0} → Bool → A → A → A
+pick true x y = x
+pick false x y = y
 
 -- Decisions put together: the second question is asked only if the first leaves it open.
 unfoldable pub dec-map : {A B : Type 0} → (A → B) → (B → A) → Dec A → Dec B
@@ -48,27 +47,3 @@ dec-all {A} {Q} {P} d (no none′) = yes (λ a q. decided a q (d a))
     decided : (a : A) → Q a → Dec (P a) → P a
     decided a q (yes x) = x
     decided a q (no n) = absurd (none′ (a, q, n))
-
--- What the test of two numbers says.
-pub says-eq : (a b : ℕ) → Says (eqb a b) (a ≡ b)
-says-eq a b = go (eqb a b) refl
-  where
-    go : (t : Bool) → eqb a b ≡ t → Says t (a ≡ b)
-    go true e = eqb-true a b e
-    go false e = eqb-false a b e
-
-pub says-lt : (a b : ℕ) → Says (ltb a b) (a < b)
-says-lt a b = go (ltb a b) refl
-  where
-    go : (t : Bool) → ltb a b ≡ t → Says t (a < b)
-    go true e = ltb-true a b e
-    go false e = λ h. omega (arith, ltb-false a b e)
-
--- What a true answer says, and a false one.
-pub says-yes : {P : Type 0} (b : Bool) → Says b P → b ≡ true → P
-says-yes true p e = p
-says-yes false n e = let z : _≡_ {A = ℕ} 0 1 = cc in absurd (omega arith)
-
-pub says-no : {P : Type 0} (b : Bool) → Says b P → b ≡ false → ¬ P
-says-no true p e = let z : _≡_ {A = ℕ} 0 1 = cc in absurd (omega arith)
-says-no false n e = n

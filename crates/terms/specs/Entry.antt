@@ -3,11 +3,12 @@ use mathlib.Core.Path.{_≡_}
 use mathlib.Core.Bool.{Bool, true, false}
 use mathlib.Core.List.{List, [], _∷_, _++_}
 use mathlib.Core.Option.{Option, none, some}
-use Prim.Native.Nat.{ℕ, zero, suc, _+_, _*_, _/_, _%_, _≤_}
+use Prim.Native.Nat.{ℕ, zero, suc, _+_, _*_, _/_, _%_, _≤_, _-_}
 use lib.Dec.{ltb}
-use lib.ListN.{length, getD}
+use lib.ListN.{length, getD, drop, take}
 use Rattle.blocks.specs.Block.{wordAt}
-use Rattle.terms.specs.Term.{Term, Variable, variable, atom, pair, encrypted, named}
+use Rattle.terms.specs.Term.{Term, variable, atom, pair, encrypted, Variable, named}
+use Rattle.terms.specs.Place.{left, right, inside, Place, subtermAt}
 use Rattle.terms.specs.Tag.{atomTag, pairTag, encryptionTag, sortTag, variables, Tagged, isAtom, isPair, isEncryption, isVariable, isNone, tagged}
 
 -- What one entry says: an atom, a pair, an encryption under a key, or a variable.
@@ -122,3 +123,28 @@ tagAt e = getD e 0 0
 
 abbrev pub valueAt : List ℕ → ℕ
 valueAt e = wordAt e 2
+
+-- The number of the entry at which a place of the term stands: parents before children, left before right.
+unfoldable pub entryAt : {X : Type 0} → Place → Term X → ℕ
+entryAt [] t = 0
+entryAt (left ∷ p) (pair t u) = suc (entryAt p t)
+entryAt (right ∷ p) (pair t u) = suc (size t + entryAt p u)
+entryAt (inside ∷ p) (encrypted k t) = suc (entryAt p t)
+entryAt (left ∷ p) (variable x) = 0
+entryAt (left ∷ p) (atom a) = 0
+entryAt (left ∷ p) (encrypted k t) = 0
+entryAt (right ∷ p) (variable x) = 0
+entryAt (right ∷ p) (atom a) = 0
+entryAt (right ∷ p) (encrypted k t) = 0
+entryAt (inside ∷ p) (variable x) = 0
+entryAt (inside ∷ p) (atom a) = 0
+entryAt (inside ∷ p) (pair t u) = 0
+
+-- Entry k of the term stands at this place, and this subterm begins there.
+pub record Placed {X : Type 0} (t : Term X) (k : ℕ) (place : Place) (subterm : Term X) : Type 0 where
+  pub stands : subtermAt place t ≡ some subterm
+  pub number : entryAt place t ≡ k
+
+-- The entries from byte n on, as a part `&e[n..]` has them.
+abbrev pub from : ℕ → List ℕ → List ℕ
+from n e = take (length e - n) (drop n e)

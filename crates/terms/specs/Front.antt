@@ -1,18 +1,15 @@
 -- The first terms of entries, compared entry by entry: what the walks of matching promise.
 use mathlib.Core.Path.{_≡_}
-use mathlib.Core.Bool.{Bool, true, false}
 use mathlib.Core.List.{List, [], map}
 use mathlib.Core.Logic.{_↔_}
 use mathlib.Core.Option.{Option, none, some}
-use Prim.Native.Nat.{ℕ, _+_, _*_, _-_, _<_, _≤_}
-use lib.Dec.{ltb}
+use Prim.Native.Nat.{ℕ, _+_, _*_, _<_, _≤_}
 use lib.ListN.{length, getD, take}
 use Rattle.blocks.specs.Limits.{mostTermBytes}
 use Rattle.terms.specs.Term.{Term, Variable, replace}
 use Rattle.terms.specs.Tag.{SymbolTag}
+use Rattle.terms.specs.Entry.{termsOf, termOf, Reads, Begins, tagAt, valueAt, from}
 use Rattle.terms.specs.Slot.{slotCount, inSlot}
-use Rattle.terms.specs.Entry.{termsOf, termOf, tagAt, valueAt, Reads, Begins}
-use Rattle.terms.specs.WalkLaws.{from}
 
 abbrev pub listOf : Option (List (Term Variable)) → List (Term Variable)
 listOf none = []

@@ -4,7 +4,7 @@ use mathlib.Core.Path.{_≡_}
 use mathlib.Core.Logic.{_⊎_}
 use mathlib.Core.Bool.{Bool, true, false}
 use Prim.Native.Nat.{ℕ}
-use Rattle.terms.specs.Term.{Message, atom, pair, encrypted}
+use Rattle.terms.specs.Term.{atom, pair, encrypted, Message}
 
 -- What stands at a node: a free node (a variable, or nothing), or a symbol with its children's nodes.
 pub data Node : Type 0 where
@@ -72,3 +72,6 @@ pub record Outcome (node : ℕ → Node) (Q : (ℕ → Message) → Type 0) (nam
 -- A node from which every way down over the classes ends.
 pub data Finite (node : ℕ → Node) (name : ℕ → ℕ) : ℕ → Type 0 where
   finite : {i : ℕ} → ((j : ℕ) → Child j (node (name i)) → Finite node name j) → Finite node name i
+
+abbrev pub Any : (ℕ → Message) → Type 0
+Any v = Unit {0}

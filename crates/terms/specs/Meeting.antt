@@ -1,18 +1,13 @@
 -- How the names of two classes meet, a above b.
-use mathlib.Core.Path.{_≡_, sym, ap, _∙_}
+use mathlib.Core.Path.{_≡_}
 use mathlib.Core.Bool.{false}
 use mathlib.Core.List.{List}
 use mathlib.Core.Logic.{_⊎_}
-use Prim.Native.Nat.{ℕ, _<_, _≤_}
-use native.Mathlib.Omega.{arith}
+use Prim.Native.Nat.{ℕ, _≤_}
 use Rattle.terms.specs.declared.classes.How.{How}
 use Rattle.terms.specs.declared.classes.How.the-variants.{Free, Differ, Atoms, Encryptions, Pairs}
-use Rattle.terms.specs.Tag.{pairTag, encryptionTag}
-use Rattle.terms.specs.TermGraph.{variableNodes}
-use Rattle.terms.specs.TermGraph.{nodeTag, nodeValue, AtHome}
-use Rattle.terms.specs.Tag.{freeTag}
-use Rattle.terms.specs.TermGraphLaws.{home-symbol}
-use Rattle.terms.specs.UniteLaws.{symbol-tag}
+use Rattle.terms.specs.Tag.{pairTag, encryptionTag, freeTag}
+use Rattle.terms.specs.TermGraph.{variableNodes, nodeTag, nodeValue}
 
 -- Both nodes are symbols.
 pub record Symbols (s t : List ℕ) (a b : ℕ) : Type 0 where
@@ -30,8 +25,3 @@ MeetAs s t a b Atoms =
     Symbols s t a b × (nodeTag s t a ≡ nodeTag s t b) × (nodeTag s t a ≡ pairTag → ⊥) × (nodeTag s t a ≡ encryptionTag → ⊥) × (nodeValue s t a ≡ nodeValue s t b)
 MeetAs s t a b Encryptions = Symbols s t a b × (nodeTag s t a ≡ nodeTag s t b) × (nodeTag s t a ≡ encryptionTag) × (nodeValue s t a ≡ nodeValue s t b)
 MeetAs s t a b Pairs = Symbols s t a b × (nodeTag s t a ≡ nodeTag s t b) × (nodeTag s t a ≡ pairTag)
-
--- Where a is no variable's node, neither is b.
-pub both-symbols : {s t : List ℕ} {a b : ℕ} → AtHome s t a → AtHome s t b → b < a → a < variableNodes → Symbols s t a b
-both-symbols {s} {t} {a} {b} first second above low =
-    record { left = symbol-tag s t a (home-symbol first low); right = symbol-tag s t b (home-symbol second (omega arith)) }

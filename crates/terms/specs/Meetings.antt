@@ -10,12 +10,10 @@ use Rattle.terms.specs.declared.sharing.Walk.{Walk}
 use Rattle.terms.specs.declared.sharing.Walk.the-variants.{Apart, Through}
 use Rattle.terms.specs.Term.{Term, Message, Variable, replace}
 use Rattle.terms.specs.Tag.{SymbolTag}
-use Rattle.terms.specs.Entry.{termOf, tagAt}
-use Rattle.terms.specs.WalkLaws.{from}
-use Rattle.terms.specs.Front.{Front, Alike, SameFirst}
+use Rattle.terms.specs.Entry.{termOf, tagAt, from}
 use Rattle.terms.specs.Slot.{slotCount, slotOf}
-use Rattle.terms.specs.TermGraph.{rightNodes, variableNodes, rightVariables}
-use Rattle.terms.specs.TermGraph.{home}
+use Rattle.terms.specs.Front.{Front, SameFirst, Alike}
+use Rattle.terms.specs.TermGraph.{rightNodes, variableNodes, rightVariables, home}
 
 -- Both begin with symbols, and not with the same one.
 pub record RootsDiffer (s t : List ℕ) : Type 0 where

@@ -1,4 +1,4 @@
--- Which variables stand in a term, and what a replacement does to them.
+-- What the decisions below need: which variables stand in a term, and what a replacement does to them.
 use mathlib.Core.Path.{_≡_, refl, ap, ap₂}
 use mathlib.Core.HLevel.{Discrete}
 use mathlib.Core.Logic.{_⊎_, inl, inr, ⊎-elim}

@@ -1,11 +1,12 @@
 -- Terms over given atoms and given keys. Restricting messages to these, as to the listed and foreign atoms and to key
 -- atoms under encryptions, changes no answer.
-use mathlib.Core.Path.{_≡_, refl, sym, ap, ap₂, _∙_}
-use Prim.Native.Nat.{ℕ}
-use Rattle.terms.specs.Term.{Term, variable, atom, pair, encrypted, replace}
+use mathlib.Core.Logic.{_⊎_}
+use mathlib.Core.List.{List}
+use Prim.Native.Nat.{ℕ, _<_}
+use lib.ListN.{length}
+use Rattle.terms.specs.Term.{Term, variable, atom, pair, encrypted, Foreign}
 use Rattle.terms.specs.Instance.{Matches, Share}
-use Rattle.terms.specs.Occurs.{replace-none}
-use Rattle.terms.specs.Decide.{answer, answer-same}
+use Rattle.terms.specs.Atom.{Atom}
 
 -- Every atom a of the term has A a, and every key k of its encryptions has K k.
 unfoldable pub Built : {X : Type 0} (A K : ℕ → Type 0) → Term X → Type 0
@@ -26,76 +27,7 @@ pub record BuiltShare (A K : ℕ → Type 0) {X Y : Type 0} (s : Term X) (t : Te
   pub left : (x : X) → Built A K (share .left .by x)
   pub right : (y : Y) → Built A K (share .right .by y)
 
--- A and K can be decided, and f has A.
-module _ {A K : ℕ → Type 0} (A? : (a : ℕ) → Dec (A a)) (K? : (k : ℕ) → Dec (K k)) (f : ℕ) (ok : A f) where
-  -- The term with f for all that is not built: an atom without A, an encryption under a key without K.
-  mend : {X : Type 0} → Term X → Term X
-  mend (variable x) = variable x
-  mend (atom a) = elim (A? a) [ yes p ↦ atom a | no n ↦ atom f ]
-  mend (pair t u) = pair (mend t) (mend u)
-  mend (encrypted k t) = elim (K? k) [ yes p ↦ encrypted k (mend t) | no n ↦ atom f ]
-
-  -- What is mended is built.
-  mend-built : {X : Type 0} (t : Term X) → Built A K (mend t)
-  unfolding Built mend
-  mend-built (variable x) = tt
-  mend-built {X} (atom a) = go (A? a)
-    where
-      go : (q : Dec (A a)) → Built {X = X} A K (elim q [ yes p ↦ atom a | no n ↦ atom f ])
-      go (yes p) = p
-      go (no n) = ok
-  mend-built (pair t u) = (mend-built t, mend-built u)
-  mend-built {X} (encrypted k t) = go (K? k) (mend-built t)
-    where
-      go : (q : Dec (K k)) → Built A K (mend t) → Built {X = X} A K (elim q [ yes p ↦ encrypted k (mend t) | no n ↦ atom f ])
-      go (yes p) b = (p, b)
-      go (no n) b = ok
-
-  -- In a built term, replaced, only the replacements are mended.
-  mend-replace : {X Y : Type 0} (by : X → Term Y) (t : Term X) → Built A K t
-      → mend (replace by t) ≡ replace (λ x. mend (by x)) t
-  unfolding Built mend replace
-  mend-replace by (variable x) b = refl
-  mend-replace {X} {Y} by (atom a) b = go (A? a)
-    where
-      go : (q : Dec (A a)) → _≡_ {A = Term Y} (elim q [ yes p ↦ atom a | no n ↦ atom f ]) (atom a)
-      go (yes p) = refl
-      go (no n) = absurd (n b)
-  mend-replace by (pair t u) b = ap₂ pair (mend-replace by t (b .0)) (mend-replace by u (b .1))
-  mend-replace {X} {Y} by (encrypted k t) b = go (K? k) (mend-replace by t (b .1))
-    where
-      go : (q : Dec (K k)) → mend (replace by t) ≡ replace (λ x. mend (by x)) t
-          → _≡_ {A = Term Y} (elim q [ yes p ↦ encrypted k (mend (replace by t)) | no n ↦ atom f ])
-          (encrypted k (replace (λ x. mend (by x)) t))
-      go (yes p) e = ap (encrypted k) e
-      go (no n) e = absurd (n (b .0))
-
-  -- A built term stays as it is.
-  mend-same : {X : Type 0} (t : Term X) → Built A K t → mend t ≡ t
-  unfolding mend
-  mend-same t b = ap mend (sym (replace-none t)) ∙ mend-replace variable t b ∙ replace-none t
-
-  -- A match of built terms is one by built terms.
-  pub built-match : {X Y : Type 0} {p : Term X} {t : Term Y} → Built A K p → Built A K t → Matches p t → BuiltMatch A K p t
-  built-match {p = p} {t = t} bp bt m = record {
-    match = record { by = λ x. mend (m .by x); same = sym (mend-replace (m .by) p bp) ∙ ap mend (m .same) ∙ mend-same t bt };
-    built = λ x. mend-built (m .by x);
-  }
-
-  -- Built terms that share an instance share a built one.
-  pub built-share : {X Y : Type 0} {s : Term X} {t : Term Y} → Built A K s → Built A K t → Share s t → BuiltShare A K s t
-  built-share {s = s} {t = t} bs bt c = record {
-    share = record {
-      message = mend (c .message);
-      left = record { by = λ x. mend (c .left .by x); same = sym (mend-replace (c .left .by) s bs) ∙ ap mend (c .left .same) };
-      right = record { by = λ y. mend (c .right .by y); same = sym (mend-replace (c .right .by) t bt) ∙ ap mend (c .right .same) };
-    };
-    message = mend-built (c .message);
-    left = λ x. mend-built (c .left .by x);
-    right = λ y. mend-built (c .right .by y);
-  }
-
-  -- So the restriction changes no answer.
-  pub built-answer : {X Y : Type 0} {s : Term X} {t : Term Y} → Built A K s → Built A K t
-      → (d : Dec (Share s t)) (e : Dec (BuiltShare A K s t)) → answer d ≡ answer e
-  built-answer bs bt d e = answer-same d e (built-share bs bt) (λ b. b .share)
+-- Messages over the listed and the foreign atoms alone, with listed keys alone: two right terms share an instance if and
+-- only if they share such a one, by such replacements.
+abbrev pub MessageAtom : List Atom → ℕ → Type 0
+MessageAtom atoms a = (a < length atoms) ⊎ Foreign a

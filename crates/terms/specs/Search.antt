@@ -1,15 +1,13 @@
 -- Deciding: one of a list, one of a term's places, one of the places above. All of these compute.
 use mathlib.Core.Path.{_≡_, refl, subst, _∙_}
 use mathlib.Core.Logic.{_⊎_, inl, inr, ⊎-elim}
-use mathlib.Core.List.{List, [], _∷_, _++_, map, nil≢cons, List·Memᴰ, List·Memᴰ·head, List·Memᴰ·tail}
-use mathlib.Core.List.{List·Memᴰ·not-nil, List·Memᴰ·cases-cons, List·Memᴰ·append-cases, List·Memᴰ·eq-of-singleton}
-use mathlib.Core.List.{Memᴰ·cast, Memᴰ·append-left, Memᴰ·append-right, Memᴰ·map, Memᴰ·of-map}
+use mathlib.Core.List.{List, [], _∷_, _++_, map, nil≢cons, List·Memᴰ, List·Memᴰ·head, List·Memᴰ·tail, List·Memᴰ·not-nil, List·Memᴰ·cases-cons}
+use mathlib.Core.List.{List·Memᴰ·append-cases, List·Memᴰ·eq-of-singleton, Memᴰ·cast, Memᴰ·append-left, Memᴰ·append-right, Memᴰ·map, Memᴰ·of-map}
 use mathlib.Core.Option.{some}
 use Rattle.terms.specs.Term.{Term, variable, atom, pair, encrypted}
-use Rattle.terms.specs.Place.{Turn, left, right, inside, Turn-discrete, Place, subtermAt}
-use Rattle.terms.specs.Place.{StrictlyAbove, AtOrAbove, Spot, down, spots}
-use Rattle.terms.specs.Laws.{nothing-above-root, by-turns}
+use Rattle.terms.specs.Place.{Turn, Turn-discrete, left, right, inside, Place, subtermAt, StrictlyAbove, AtOrAbove, Spot, down, spots}
 use Rattle.terms.specs.Decisions.{dec-map, dec-not, dec-and, dec-or, dec-all}
+use Rattle.terms.specs.Turns.{nothing-above-root, by-turns}
 
 -- One of a list.
 unfoldable pub any? : {A : Type 0} (l : List A) {P : A → Type 0} → ((a : A) → Dec (P a)) →

@@ -1,4 +1,4 @@
--- The one replacement by which a pattern can become a term.
+-- What `match?` needs: the one replacement by which a pattern can become a term.
 use mathlib.Core.Path.{_≡_, _∙_}
 use mathlib.Core.HLevel.{Discrete}
 use mathlib.Core.Logic.{_⊎_, inl, inr, ⊎-elim}

@@ -1,4 +1,4 @@
--- The solving of equations says truly whether messages solve them.
+-- What `share?` needs: the solving of equations says truly whether messages solve them.
 use mathlib.Core.Path.{_≡_, refl, sym, ap, ap₂, _∙_, subst, fun-ext}
 use mathlib.Core.HLevel.{Discrete}
 use mathlib.Core.Bool.{Bool, true, false}

@@ -92,7 +92,3 @@ pub sort-tagged : (s : Sort) → tagged (sortTag s) ≡ isVariable s refl
 unfolding tagged sortTag
 sort-tagged plain = refl
 sort-tagged marked = refl
-
-pub sort-childless : (s : Sort) → childrenOf (sortTag s) ≡ 0
-unfolding childrenOf
-sort-childless s = rw (sort-tagged s) refl

@@ -3,7 +3,7 @@ use Prim.Native.Nat.{ℕ, _≤_}
 
 -- A term over the variables X: a variable, an atom by its number, a pair (t, u), or {t}k, t encrypted under the key
 -- atom k. Any number may stand as an atom or as a key: that only makes what is proved of runs stronger, and changes no
--- answer on shared instances (`built-answer` of Proper.antt).
+-- answer on shared instances (`built-answer` of proofs/BuiltLaws.antt).
 pub data Term (X : Type 0) : Type 0 where
   variable : X → Term X
   atom : ℕ → Term X

@@ -1,6 +1,5 @@
 -- The graph of two terms: the entries of one from node 0, of the other from node 64, and the variables of each side as
 -- nodes of their own from 128 and from 144. The entry of a variable is found at its variable's node.
-use mathlib.Core.Bool.{Bool, true, false}
 use mathlib.Core.List.{List}
 use mathlib.Core.Logic.{_⊎_}
 use mathlib.Core.Path.{_≡_}
@@ -10,6 +9,7 @@ use lib.ListN.{length, getD, drop}
 use Rattle.blocks.specs.Limits.{mostTermBytes}
 use Rattle.blocks.specs.Block.{wordAt}
 use Rattle.terms.specs.Tag.{pairTag, encryptionTag, variables, Tagged, isAtom, isPair, isEncryption, isVariable, isNone, tagged}
+use Rattle.terms.specs.Decisions.{pick}
 use Rattle.terms.specs.Slot.{slotCount, slotIn}
 use Rattle.terms.specs.Entry.{termOf, size, Begins}
 use Rattle.terms.specs.Graph.{Node, free, atomNode, pairNode, encryptionNode, IsSymbol}
@@ -68,12 +68,8 @@ unfolding tagged
 nodeBy tag n l r = nodeFor (tagged tag) n l r
 
 -- One of three, by the part of the graph that a node lies in.
-abbrev pub third : {A : Type 0} → Bool → A → A → A
-third true x y = x
-third false x y = y
-
 abbrev pub region : {A : Type 0} → ℕ → A → A → A → A
-region i x y z = third (ltb i rightNodes) x (third (ltb i variableNodes) y z)
+region i x y z = pick (ltb i rightNodes) x (pick (ltb i variableNodes) y z)
 
 unfoldable pub nodeTag : List ℕ → List ℕ → ℕ → ℕ
 nodeTag s t i = region i (tagIn s i) (tagIn t (i - rightNodes)) 0

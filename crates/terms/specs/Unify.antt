@@ -1,4 +1,4 @@
--- Equations between terms, solved variable by variable.
+-- What `share?` needs: equations between terms, solved variable by variable.
 use mathlib.Core.HLevel.{Discrete}
 use mathlib.Core.Bool.{Bool, true, false}
 use mathlib.Core.List.{List, [], _∷_, _++_}

@@ -13,7 +13,7 @@ ghost use mathlib.Core.Path.{_≡_};
 ghost use Prim.Native.Nat.{ℕ, _≤_, _<_};
 ghost use lib.ListN.{length, getD};
 ghost use Rattle.terms.specs.Graph.{Outcome};
-ghost use Rattle.terms.specs.GraphLaws.{Any};
+ghost use Rattle.terms.specs.Graph.{Any};
 ghost use Rattle.terms.specs.Tag.{pairTag};
 ghost use Rattle.terms.specs.TermGraph.{allNodes, TwoTerms, SizesOf, AtHome, nodeOf, firstChild, secondChild, nodeTag};
 ghost use Rattle.terms.specs.Names.{nameOf, classCount, Linked};

@@ -7,7 +7,7 @@ ghost use Rattle.terms.specs.Entry.{Begins, termOf, size, valueAt};
 ghost use Rattle.terms.specs.Tag.{childrenOf};
 ghost use Rattle.terms.specs.TermGraph.{sizeIn, SizesOf};
 ghost use Rattle.terms.specs.Sizes.{SizedFrom, KeptBelow};
-ghost use Rattle.terms.specs.WalkLaws.{from};
+ghost use Rattle.terms.specs.Entry.{from};
 use crate::tag::ENCRYPTION;
 use crate::tag::PAIR;
 use blocks::wide;

@@ -26,7 +26,7 @@ ghost use Rattle.terms.specs.Entry.{Begins, termOf};
 ghost use Rattle.terms.specs.Tag.{childrenOf};
 ghost use Rattle.terms.specs.Decide.{answer, share?, variable?};
 ghost use Rattle.terms.specs.Graph.{Outcome};
-ghost use Rattle.terms.specs.GraphLaws.{Any};
+ghost use Rattle.terms.specs.Graph.{Any};
 ghost use Rattle.terms.specs.TermGraph.{TwoTerms, SizesOf, nodeOf};
 ghost use Rattle.terms.specs.Names.{nameOf, Linked};
 ghost use Rattle.terms.specs.Meetings.{RootsDiffer, Noted, NotedIn, Walking, Reduced, WalkSays, Stops, Distinct, AllEqual};

@@ -10,7 +10,8 @@ ghost use Rattle.terms.specs.Atom.{atomsOf, NamedBack, AtomRight, wrongA
 ghost use Rattle.terms.specs.TermEntry.{wrongEntry};
 ghost use Rattle.terms.specs.EntryTables.{listedKind, plainLimit, markedLimit, limitsOf, ByTables};
 ghost use Rattle.terms.specs.Each.{Each};
-ghost use Rattle.terms.specs.OneTerm.{HasSymbol, oneTerm?, encryption?};
+ghost use Rattle.terms.specs.OneTerm.{HasSymbol, encryption?};
+ghost use Rattle.terms.specs.Reading.{oneTerm?};
 ghost use Rattle.terms.specs.Count.{tagsOf, areTerms};
 use crate::entry::children;
 use crate::entry::value;

@@ -10,7 +10,7 @@ use Rattle.blocks.specs.Block.{blockAt, kindOf, firstCount}
 use Rattle.blocks.proofs.Layouts.{counts-room}
 use Rattle.blocks.proofs.Parts.{second-length}
 use Rattle.terms.specs.Entry.{size}
-use Rattle.terms.specs.PlaceLaws.{placed-within}
+use Rattle.terms.proofs.PlacedLaws.{placed-within}
 use Rattle.judge.specs.declared.verdict.Counts.{Counts}
 use Rattle.judge.specs.declared.verdict.Fault.{Fault}
 use Rattle.judge.specs.declared.verdict.Verdict.{Verdict}

@@ -18,13 +18,18 @@ use Rattle.terms.specs.Term.{Term, Variable, variable, named}
 use Rattle.terms.specs.Tag.{VariableTag, SymbolTag, sort-tag}
 use Rattle.terms.specs.Place.{Place}
 use Rattle.terms.specs.Entry.{size, termOf, tagAt, valueAt, Reads, Begins}
-use Rattle.terms.specs.EntryLaws.{First, first-atom, first-pair, first-encrypted, first-variable, first, termOf-reads, suffix}
-use Rattle.terms.specs.EntryLaws.{reads-variable}
-use Rattle.terms.specs.WalkLaws.{from}
+use Rattle.terms.specs.Reading.{First, first-atom, first-pair, first-encrypted, first-variable}
+use Rattle.terms.specs.Reading.{first}
+use Rattle.terms.proofs.EntryLaws.{termOf-reads, suffix}
+use Rattle.terms.proofs.EntryLaws.{reads-variable}
+use Rattle.terms.specs.Entry.{from}
 use Rattle.terms.specs.Solve.{Says, says-same}
-use Rattle.terms.specs.Decide.{answer-yes, answer-no}
-use Rattle.terms.specs.First.{FirstNot, fails, holds, first-only}
-use Rattle.terms.specs.PlaceLaws.{entryAt, Placed, placed, within, spotted, subterm-at, spot-placed}
+use Rattle.terms.proofs.AnswerLaws.{answer-yes, answer-no}
+use Rattle.terms.specs.First.{FirstNot, fails, holds}
+use Rattle.terms.proofs.FirstLaws.{first-only}
+use Rattle.terms.specs.Entry.{entryAt}
+use Rattle.terms.specs.Entry.{Placed}
+use Rattle.terms.proofs.PlacedLaws.{placed, within, spotted, subterm-at, spot-placed}
 use Rattle.judge.specs.Certificate.{Certificate, Rule}
 use Rattle.judge.specs.File.{certificateOf, ruleOf}
 use Rattle.judge.specs.Laid.{Laid, RuleBlock}

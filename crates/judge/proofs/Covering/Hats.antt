@@ -14,12 +14,15 @@ use Rattle.terms.specs.Term.{Term, Variable, replace}
 use Rattle.terms.specs.Place.{Place}
 use Rattle.terms.specs.Instance.{Matches}
 use Rattle.terms.specs.Entry.{size, termOf, tagAt, Begins}
-use Rattle.terms.specs.EntryLaws.{reads-encrypted, termOf-reads, size-positive, fits}
+use Rattle.terms.proofs.EntryLaws.{reads-encrypted, termOf-reads, size-positive, fits}
 use Rattle.terms.specs.OneTerm.{IsEncryption, encryption?}
-use Rattle.terms.specs.TermGraphLaws.{tag-in}
-use Rattle.terms.specs.WalkLaws.{from, encryption-first}
-use Rattle.terms.specs.FrontLaws.{from-length}
-use Rattle.terms.specs.PlaceLaws.{entryAt, Placed, placed, within, spotted, subterm-at, strictly-above-entry}
+use Rattle.terms.proofs.TermGraphLaws.{tag-in}
+use Rattle.terms.specs.Entry.{from}
+use Rattle.terms.proofs.EntryLaws.{encryption-first}
+use Rattle.terms.proofs.EntryLaws.{from-length}
+use Rattle.terms.specs.Entry.{entryAt}
+use Rattle.terms.specs.Entry.{Placed}
+use Rattle.terms.proofs.PlacedLaws.{placed, within, spotted, subterm-at, strictly-above-entry}
 use Rattle.judge.specs.Certificate.{Certificate, Good}
 use Rattle.judge.specs.File.{blockCount, patternOf, certificateOf}
 use Rattle.judge.specs.Laid.{Laid, TermBlock}

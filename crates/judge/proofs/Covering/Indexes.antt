@@ -10,8 +10,8 @@ use lib.Seq.{getD-set-same, getD-set-other}
 use Rattle.blocks.specs.Kinds.{secretKind}
 use Rattle.blocks.proofs.KindLaws.{secret-lists}
 use Rattle.terms.specs.Entry.{Begins, termOf}
-use Rattle.terms.specs.WalkLaws.{from}
-use Rattle.terms.specs.Decisions.{says-eq}
+use Rattle.terms.specs.Entry.{from}
+use Rattle.terms.proofs.AnswerLaws.{says-eq}
 use Rattle.terms.specs.Solve.{Says, says-same}
 use Rattle.judge.specs.File.{blockCount, patternOf, certificateOf}
 use Rattle.judge.specs.Laid.{Laid}

@@ -12,14 +12,15 @@ use Rattle.terms.specs.Tag.{pairTag, encryptionTag, markedTag, sortTag}
 use Rattle.terms.specs.Place.{Turn, Place, left, right, inside, subtermAt}
 use Rattle.terms.specs.Instance.{Matches}
 use Rattle.terms.specs.Entry.{size, termOf, tagAt, valueAt, Reads, Begins}
-use Rattle.terms.specs.EntryLaws.{First, first-atom, first-pair, first-encrypted, first-variable, first, termOf-reads, begins, fits}
-use Rattle.terms.specs.WalkLaws.{from, PairFirst, pair-first, right-begins, EncryptionFirst, encryption-first}
+use Rattle.terms.specs.Reading.{First, first-atom, first-pair, first-encrypted, first-variable, first}
+use Rattle.terms.proofs.EntryLaws.{termOf-reads, begins, fits, PairFirst, pair-first, right-begins, EncryptionFirst, encryption-first, from-length}
+use Rattle.terms.specs.Entry.{from, entryAt}
 use Rattle.terms.specs.OneTerm.{IsEncryption}
 use Rattle.terms.specs.TermGraph.{rightIn}
-use Rattle.terms.specs.TermGraphLaws.{pair-in, encryption-in}
-use Rattle.terms.specs.FrontLaws.{from-length}
-use Rattle.terms.specs.Laws.{subtermAt-replace}
-use Rattle.terms.specs.PlaceLaws.{entryAt, Placed, placed, within, placed-below, at-or-above-entry}
+use Rattle.terms.proofs.TermGraphLaws.{pair-in, encryption-in}
+use Rattle.terms.proofs.PlaceLaws.{subtermAt-replace}
+use Rattle.terms.specs.Entry.{Placed}
+use Rattle.terms.proofs.PlacedLaws.{placed, within, placed-below, at-or-above-entry}
 use Rattle.judge.specs.Hat.{Mark}
 use Rattle.judge.specs.CoverEntries.{subAt, Painted, Raised, MarkOver, Laying}
 use Rattle.judge.proofs.Covering.Flags.{painted-raised, raised-none, raised-as, raised-twice}

@@ -12,9 +12,11 @@ use Rattle.blocks.specs.Kinds.{goodKind, badKind}
 use Rattle.terms.specs.Term.{Term, Variable, encrypted}
 use Rattle.terms.specs.Place.{Place, subtermAt, StrictlyAbove}
 use Rattle.terms.specs.Entry.{size, termOf, Reads, Begins}
-use Rattle.terms.specs.EntryLaws.{size-positive}
+use Rattle.terms.proofs.EntryLaws.{size-positive}
 use Rattle.terms.specs.Solve.{Says, says-same}
-use Rattle.terms.specs.PlaceLaws.{entryAt, Placed, placed, within, spotted, subterm-at, placed-begins, strictly-above-entry}
+use Rattle.terms.specs.Entry.{entryAt}
+use Rattle.terms.specs.Entry.{Placed}
+use Rattle.terms.proofs.PlacedLaws.{placed, within, spotted, subterm-at, placed-begins, strictly-above-entry}
 use Rattle.judge.specs.Certificate.{Certificate}
 use Rattle.judge.specs.Cover.{NoHat, Open}
 use Rattle.judge.specs.Listed.{MatchesListed, SharesListed}

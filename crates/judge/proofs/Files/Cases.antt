@@ -9,7 +9,8 @@ use Rattle.blocks.specs.Check.{sealed}
 use Rattle.terms.specs.Term.{Term, Variable, variable, atom, pair, encrypted, plain, marked, named}
 use Rattle.terms.specs.Entry.{termEntries, size}
 use Rattle.terms.specs.Instance.{Share}
-use Rattle.terms.specs.Decide.{yes-of, no-of, share?, variable?}
+use Rattle.terms.specs.Decide.{share?, variable?}
+use Rattle.terms.proofs.AnswerLaws.{yes-of, no-of}
 use Rattle.judge.specs.File.{ruleOf, certificateOf}
 use Rattle.judge.specs.Cover.{Dead}
 use Rattle.judge.specs.Decisions.{dead?}

@@ -12,7 +12,8 @@ use Rattle.blocks.specs.Kinds.{secretKind, badKind, ListsTerm}
 use Rattle.blocks.specs.Layout.{within}
 use Rattle.terms.specs.declared.valid.Found.{Found}
 use Rattle.terms.specs.declared.valid.Found.the-variants.{At, Nothing}
-use Rattle.terms.specs.First.{FirstNot, fails, holds, firstNot, first-is, first-only}
+use Rattle.terms.specs.First.{FirstNot, fails, holds, firstNot}
+use Rattle.terms.proofs.FirstLaws.{first-is, first-only}
 use Rattle.terms.specs.Decide.{answer}
 use Rattle.terms.specs.Solve.{Says, says-same}
 use Rattle.judge.specs.declared.verdict.Fault.{Fault}

@@ -14,13 +14,15 @@ use Rattle.blocks.specs.Block.{blockAt, firstEntries}
 use Rattle.blocks.proofs.KindLaws.{secret-lists, good-lists, bad-lists}
 use Rattle.blocks.proofs.Parts.{first-length}
 use Rattle.terms.specs.Term.{Term, variable, atom, pair, encrypted, Variable, instance, replace}
-use Rattle.terms.specs.Atom.{Atom, IsKey, isKey?, key-listed, length-atoms}
+use Rattle.terms.specs.Atom.{Atom, IsKey, isKey?}
+use Rattle.terms.proofs.AtomLaws.{key-listed, length-atoms}
 use Rattle.terms.specs.Place.{Place, subtermAt}
-use Rattle.terms.specs.Laws.{by-turns}
+use Rattle.terms.specs.Turns.{by-turns}
 use Rattle.terms.specs.Instance.{Matches, Share}
 use Rattle.terms.specs.Decisions.{dec-or}
-use Rattle.terms.specs.Proper.{Built, built-match, built-share}
-use Rattle.terms.specs.TermLaws.{TermRight, secret-bare, atomRight, pairRight, encryptedRight, variableRight, MessageAtom}
+use Rattle.terms.specs.Proper.{Built, MessageAtom}
+use Rattle.terms.proofs.BuiltLaws.{built-match, built-share}
+use Rattle.terms.proofs.OneTermLaws.{TermRight, secret-bare, atomRight, pairRight, encryptedRight, variableRight}
 use Rattle.judge.specs.Certificate.{Certificate, Rule, Listed}
 use Rattle.judge.specs.File.{patternOf, secretOf, ruleOf, certificateOf, fileAtoms}
 use Rattle.judge.specs.Meaning.{Formed}

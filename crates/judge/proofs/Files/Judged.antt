@@ -18,12 +18,14 @@ use Rattle.blocks.proofs.Sealing.{check-right, right-check}
 use Rattle.blocks.proofs.Layouts.{layout-right, right-layout, layout-fits}
 use Rattle.blocks.proofs.Parts.{first-length, second-length, entries-used}
 use Rattle.terms.specs.Entry.{termOf}
-use Rattle.terms.specs.Atom.{Atom, atomsOf, atomRight?, wrongAtom, length-atoms}
+use Rattle.terms.specs.Atom.{Atom, atomsOf, atomRight?, wrongAtom}
+use Rattle.terms.proofs.AtomLaws.{length-atoms}
 use Rattle.terms.specs.TermEntry.{rightAt?, wrongEntry}
-use Rattle.terms.specs.OneTerm.{OneTerm, oneTerm?, IsEncryption, encryption?}
+use Rattle.terms.specs.OneTerm.{OneTerm, IsEncryption, encryption?}
+use Rattle.terms.specs.Reading.{oneTerm?}
 use Rattle.terms.specs.Decide.{answer}
 use Rattle.terms.specs.Solve.{Says, says-same}
-use Rattle.terms.specs.Decisions.{says-eq}
+use Rattle.terms.proofs.AnswerLaws.{says-eq}
 use Rattle.judge.specs.declared.verdict.Fault.{Fault}
 use Rattle.judge.specs.declared.verdict.Fault.the-variants.{Length, Check, Kind, Layout, AtomEntry, TermEntry, NotOneTerm}
 use Rattle.judge.specs.Verdict.{lengthRight, lengthFault, kindRight, atomFault, entryFault, rootRight}

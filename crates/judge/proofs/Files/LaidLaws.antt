@@ -18,8 +18,9 @@ use Rattle.blocks.proofs.Parts.{first-length}
 use Rattle.terms.specs.Term.{Term, Variable}
 use Rattle.terms.specs.Entry.{termOf}
 use Rattle.terms.specs.TermEntry.{EntryRight}
-use Rattle.terms.specs.Each.{Each, each-of, each-take, each-drop}
-use Rattle.terms.specs.TermLaws.{TermRight, one-begins, one-whole, right-term, secret-message}
+use Rattle.terms.specs.Each.{Each}
+use Rattle.terms.proofs.EachLaws.{each-of, each-take, each-drop}
+use Rattle.terms.proofs.OneTermLaws.{TermRight, one-begins, one-whole, right-term, secret-message}
 use Rattle.judge.specs.File.{blockCount, patternOf, ruleOf}
 use Rattle.judge.specs.Laid.{TermBlock, RuleBlock, SecretBlock, GoodBlock, Laid}
 use Rattle.judge.specs.Verdict.{lengthRight, lengthFault, blockFault, formFrom, formFault}

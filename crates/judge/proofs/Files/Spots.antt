@@ -11,10 +11,11 @@ use lib.ListN.{drop}
 use Rattle.terms.specs.Term.{Term, Variable}
 use Rattle.terms.specs.Place.{Place, subtermAt}
 use Rattle.terms.specs.Entry.{termOf, size}
-use Rattle.terms.specs.EntryLaws.{termOf-reads, size-positive}
+use Rattle.terms.proofs.EntryLaws.{termOf-reads, size-positive}
 use Rattle.terms.specs.OneTerm.{OneTerm}
-use Rattle.terms.specs.TermLaws.{one-alone}
-use Rattle.terms.specs.PlaceLaws.{Placed, placed, spot-placed, placed-reads, one-place, one-subterm, placed-within}
+use Rattle.terms.proofs.OneTermLaws.{one-alone}
+use Rattle.terms.specs.Entry.{Placed}
+use Rattle.terms.proofs.PlacedLaws.{placed, spot-placed, placed-reads, one-place, one-subterm, placed-within}
 use Rattle.judge.specs.Certificate.{Certificate, Rule}
 use Rattle.judge.specs.Cover.{Risky, Covered, FineAt}
 use Rattle.judge.specs.Verdict.{spotAt, FineSpot}

@@ -14,10 +14,10 @@ use Rattle.terms.specs.declared.valid.Found.the-variants.{At, Nothing}
 use Rattle.terms.specs.Term.{Term, Message, Variable}
 use Rattle.terms.specs.Place.{Place, subtermAt}
 use Rattle.terms.specs.Entry.{size}
-use Rattle.terms.specs.PlaceLaws.{placed-within}
+use Rattle.terms.proofs.PlacedLaws.{placed-within}
 use Rattle.terms.specs.First.{firstNot}
 use Rattle.terms.specs.Decide.{answer}
-use Rattle.terms.specs.Decisions.{says-eq}
+use Rattle.terms.proofs.AnswerLaws.{says-eq}
 use Rattle.terms.specs.Solve.{Says, says-same}
 use Rattle.judge.specs.declared.verdict.Counts.{Counts}
 use Rattle.judge.specs.declared.verdict.Fault.{Fault}

@@ -7,7 +7,7 @@ use Prim.Native.Nat.{ℕ}
 use native.Mathlib.Omega.{arith}
 use Rattle.terms.specs.Term.{Term, atom, pair, encrypted, Message, Variable, replace}
 use Rattle.terms.specs.Place.{Turn, left, right, inside, Place, subtermAt}
-use Rattle.terms.specs.Laws.{nothing-above-root}
+use Rattle.terms.specs.Turns.{nothing-above-root}
 use Rattle.judge.specs.Certificate.{Certificate, Secret, inverse}
 use Rattle.judge.specs.Run.{Derives, had, pairs, encrypts, leftHalf, rightHalf, decrypts}
 use Rattle.judge.specs.Hat.{Hat, Protected}

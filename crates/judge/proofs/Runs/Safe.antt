@@ -5,8 +5,8 @@ use mathlib.Core.List.{[], _∷_, _++_, append-assoc}
 use mathlib.Core.Option.{some}
 use Rattle.terms.specs.Term.{Term, Message, Variable}
 use Rattle.terms.specs.Place.{Place, subtermAt, StrictlyAbove, AtOrAbove}
-use Rattle.terms.specs.Laws.{subtermAt-append, beginnings, nothing-above-root, strictly-above-under, at-or-above-under}
-use Rattle.terms.specs.Laws.{strictly-above-from, at-or-above-from}
+use Rattle.terms.specs.Turns.{nothing-above-root}
+use Rattle.terms.proofs.PlaceLaws.{subtermAt-append, beginnings, strictly-above-under, at-or-above-under, strictly-above-from, at-or-above-from}
 use Rattle.judge.specs.Certificate.{Certificate, Secret}
 use Rattle.judge.specs.Hat.{Hat, Protected}
 

@@ -7,9 +7,9 @@ use native.Mathlib.Omega.{arith}
 use Rattle.terms.specs.Term.{Term, Message, Variable, replace, instance}
 use Rattle.terms.specs.Place.{Place, subtermAt}
 use Rattle.terms.specs.Instance.{Matches, Share}
-use Rattle.terms.specs.Laws.{replace-message, replace-asTerm, matches-replace, subtermAt-replace}
-use Rattle.terms.specs.Laws.{strictly-above-below, at-or-above-below, OnTheWay, on-the-way, Composite, composite}
-use Rattle.terms.specs.Laws.{isPair, isEncrypted, Edge, exact, below, Origin, origin}
+use Rattle.terms.proofs.InstanceLaws.{replace-message, replace-asTerm, matches-replace}
+use Rattle.terms.proofs.PlaceLaws.{subtermAt-replace, strictly-above-below, at-or-above-below, OnTheWay, on-the-way, Composite, composite, isPair, isEncrypted}
+use Rattle.terms.proofs.PlaceLaws.{Edge, exact, below, Origin, origin}
 use Rattle.judge.specs.Certificate.{Rule, Certificate, Secret}
 use Rattle.judge.specs.Hat.{Hat, Protected}
 use Rattle.judge.specs.Cover.{SureHat, NoHat, sharesNoGood, isBad, Open, AtOpenPlace, Risky, isVariable}

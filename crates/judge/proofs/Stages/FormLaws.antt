@@ -20,13 +20,17 @@ use Rattle.blocks.proofs.Parts.{first-length}
 use Rattle.terms.specs.declared.valid.Found.{Found}
 use Rattle.terms.specs.declared.valid.Found.the-variants.{At, Nothing}
 use Rattle.terms.specs.Entry.{Begins, termOf}
-use Rattle.terms.specs.Atom.{Atom, atomsOf, atomRight?, wrongAtom, length-atoms}
+use Rattle.terms.specs.Atom.{Atom, atomsOf, atomRight?, wrongAtom}
+use Rattle.terms.proofs.AtomLaws.{length-atoms}
 use Rattle.terms.specs.TermEntry.{rightAt?, wrongEntry}
-use Rattle.terms.specs.Each.{each-take, each-drop}
-use Rattle.terms.specs.First.{FirstNot, fails, holds, first-is}
-use Rattle.terms.specs.OneTerm.{oneTerm?, encryption?}
-use Rattle.terms.specs.TermLaws.{right-each, right-symbols, one-begins}
-use Rattle.terms.specs.Decide.{answer, yes-of}
+use Rattle.terms.proofs.EachLaws.{each-take, each-drop}
+use Rattle.terms.specs.First.{FirstNot, fails, holds}
+use Rattle.terms.proofs.FirstLaws.{first-is}
+use Rattle.terms.specs.OneTerm.{encryption?}
+use Rattle.terms.specs.Reading.{oneTerm?}
+use Rattle.terms.proofs.OneTermLaws.{right-each, right-symbols, one-begins}
+use Rattle.terms.specs.Decide.{answer}
+use Rattle.terms.proofs.AnswerLaws.{yes-of}
 use Rattle.judge.specs.declared.verdict.Counts.{Counts}
 use Rattle.judge.specs.declared.verdict.Fault.{Fault}
 use Rattle.judge.specs.declared.verdict.Fault.the-variants.{Check, Kind, Missing, Layout, AtomEntry, TermEntry, NotOneTerm}

@@ -17,8 +17,10 @@ use Rattle.terms.specs.declared.valid.Found.the-variants.{Nothing}
 use Rattle.terms.specs.Term.{Term, Message, Variable}
 use Rattle.terms.specs.Place.{Place}
 use Rattle.terms.specs.Entry.{size}
-use Rattle.terms.specs.Decide.{answer, answer-same}
-use Rattle.terms.specs.First.{FirstNot, fails, holds, firstNot, first-is, first-only}
+use Rattle.terms.specs.Decide.{answer}
+use Rattle.terms.proofs.AnswerLaws.{answer-same}
+use Rattle.terms.specs.First.{FirstNot, fails, holds, firstNot}
+use Rattle.terms.proofs.FirstLaws.{first-is, first-only}
 use Rattle.judge.specs.Certificate.{Certificate, Rule, Secret, Good, Bad}
 use Rattle.judge.specs.File.{blockCount, blocksOf, ofKind, patternOf, secretOf, certificateOf}
 use Rattle.judge.specs.Laid.{Laid}

@@ -13,8 +13,9 @@ use Rattle.blocks.proofs.Parts.{second-length}
 use Rattle.terms.specs.declared.valid.Found.{Found}
 use Rattle.terms.specs.declared.valid.Found.the-variants.{At, Nothing}
 use Rattle.terms.specs.Entry.{Begins, termOf, size}
-use Rattle.terms.specs.EntryLaws.{fits, termOf-reads}
-use Rattle.terms.specs.First.{firstNot, first-is}
+use Rattle.terms.proofs.EntryLaws.{fits, termOf-reads}
+use Rattle.terms.specs.First.{firstNot}
+use Rattle.terms.proofs.FirstLaws.{first-is}
 use Rattle.terms.specs.Decide.{answer}
 use Rattle.judge.specs.declared.verdict.Counts.{Counts}
 use Rattle.judge.specs.declared.verdict.Fault.{Fault}

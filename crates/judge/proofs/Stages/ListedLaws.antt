@@ -8,7 +8,7 @@ use native.Mathlib.Omega.{arith}
 use Rattle.blocks.specs.Kinds.{secretKind, goodKind, badKind}
 use Rattle.terms.specs.Term.{Term, Message, Variable, variable, atom, replace, asTerm}
 use Rattle.terms.specs.Instance.{Matches, Share}
-use Rattle.terms.specs.Laws.{replace-message, replace-asTerm}
+use Rattle.terms.proofs.InstanceLaws.{replace-message, replace-asTerm}
 use Rattle.terms.specs.Solve.{Says}
 use Rattle.terms.specs.Decide.{answer}
 use Rattle.judge.specs.Certificate.{Certificate, Rule, Secret}

@@ -13,13 +13,13 @@ use Rattle.blocks.specs.Kinds.{secretKind, goodKind, badKind, ListsTerm}
 use Rattle.blocks.specs.Block.{blockAt, kindOf, firstCount, firstEntries}
 use Rattle.blocks.proofs.KindLaws.{which-lists}
 use Rattle.terms.specs.Term.{Term, Variable, atom, replace, asTerm}
-use Rattle.terms.specs.Laws.{replace-asTerm}
+use Rattle.terms.proofs.InstanceLaws.{replace-asTerm}
 use Rattle.terms.specs.Entry.{Begins, termOf}
-use Rattle.terms.specs.WalkLaws.{from}
-use Rattle.terms.specs.FrontLaws.{from-length}
+use Rattle.terms.specs.Entry.{from}
+use Rattle.terms.proofs.EntryLaws.{from-length}
 use Rattle.terms.specs.Solve.{Says, says-same}
-use Rattle.terms.specs.Decisions.{says-yes}
-use Rattle.terms.specs.Decide.{answer, answer-yes, answer-no}
+use Rattle.terms.proofs.AnswerLaws.{says-yes, answer-yes, answer-no}
+use Rattle.terms.specs.Decide.{answer}
 use Rattle.judge.specs.File.{blockCount, blocksOf, ofKind, patternOf, secretOf, certificateOf}
 use Rattle.judge.specs.Laid.{Laid, TermBlock, SecretBlock}
 use Rattle.judge.proofs.Stages.ListedLaws.{answer-says}

@@ -19,13 +19,13 @@ use Rattle.terms.specs.Tag.{atomTag, pairTag, encryptionTag, sortTag, VariableT
 use Rattle.terms.specs.Tag.{Tagged, isAtom, isPair, isEncryption, isVariable, isNone, tagged}
 use Rattle.terms.specs.Slot.{slotCount}
 use Rattle.terms.specs.Instance.{Matches, Share}
-use Rattle.terms.specs.Laws.{replace-asTerm}
+use Rattle.terms.proofs.InstanceLaws.{replace-asTerm}
 use Rattle.terms.specs.Occurs.{replace-twice}
 use Rattle.terms.specs.Entry.{Begins, termOf, tagAt, valueAt}
-use Rattle.terms.specs.EntryLaws.{First, first, first-atom, first-pair, first-encrypted, first-variable, termOf-reads, begins}
-use Rattle.terms.specs.WalkLaws.{from, pair-first}
-use Rattle.terms.specs.FrontLaws.{from-length}
-use Rattle.terms.specs.Roots.{tags-apart, values-apart}
+use Rattle.terms.specs.Reading.{First, first, first-atom, first-pair, first-encrypted, first-variable}
+use Rattle.terms.proofs.EntryLaws.{termOf-reads, begins, pair-first, from-length}
+use Rattle.terms.specs.Entry.{from}
+use Rattle.terms.proofs.Roots.{tags-apart, values-apart}
 use Rattle.judge.specs.File.{blockCount, patternOf, certificateOf}
 use mathlib.Core.Logic.{_⊎_, inl, inr, ⊎-elim, _↔_}
 use Rattle.judge.specs.Laid.{Laid, SecretBlock}

@@ -12,10 +12,11 @@ use Rattle.blocks.proofs.Parts.{first-length}
 use Rattle.terms.specs.Term.{Term, variable, atom, pair, encrypted, replace}
 use Rattle.terms.specs.Instance.{Share}
 use Rattle.terms.specs.Entry.{termOf, size}
-use Rattle.terms.specs.EntryLaws.{size-positive}
+use Rattle.terms.proofs.EntryLaws.{size-positive}
 use Rattle.terms.specs.TermGraph.{SizesOf}
-use Rattle.terms.specs.WalkLaws.{from}
-use Rattle.terms.specs.Sizes.{SizedFrom, KeptBelow, sizes-at, sizes-kept}
+use Rattle.terms.specs.Entry.{from}
+use Rattle.terms.specs.Sizes.{SizedFrom, KeptBelow}
+use Rattle.terms.proofs.SizeLaws.{sizes-at, sizes-kept}
 use Rattle.judge.specs.File.{blockCount, patternOf}
 use Rattle.judge.specs.Laid.{Laid}
 use Rattle.judge.specs.Listed.{Searching, HoldsAt, TermPart, SizesBelow, SizesIn, SizeOf}

@@ -1,7 +1,7 @@
 -- `term_tests::is_term` meets its contract. Assumes nothing.
 use mathlib.Core.Path.{sym, ap, _∙_}
 use mathlib.Core.Bool.{false}
-use Rattle.terms.specs.OneTerm.{oneTerm?}
+use Rattle.terms.specs.Reading.{oneTerm?}
 use Rattle.terms.specs.Decide.{answer}
 use Rattle.term_tests.specs.Asked.{keys, then, nothingFound, too-long, not-whole, by-entries, found-symbols}
 use borrow.Author.Needs.{needs}

@@ -1,7 +1,7 @@
 -- `judge::cover::close_under` meets its contract. Assumes nothing.
 use borrow.Author.Needs.{needs}
 use borrow.Author.Tests.{not-true, not-false}
-use Rattle.terms.specs.Decisions.{says-yes, says-no}
+use Rattle.terms.proofs.AnswerLaws.{says-yes, says-no}
 use Rattle.judge.proofs.Covering.Hats.{standing-end}
 use Rattle.judge.proofs.Covering.Opens.{closed-none, closed-below}
 use Rattle.judge.proofs.cover.close_under.Statement.{statement}

@@ -4,7 +4,7 @@ use Prim.Native.Nat.{ℕ, _≤_, _<_, _-_}
 use borrow.Author.Count.{below-none, below-more}
 use lib.ListN.{length}
 use Rattle.blocks.specs.Limits.{mostTermEntries}
-use Rattle.terms.specs.Decisions.{says-yes, says-no}
+use Rattle.terms.proofs.AnswerLaws.{says-yes, says-no}
 use Rattle.judge.specs.File.{certificateOf}
 use Rattle.judge.specs.Listed.{IsSecret}
 use Rattle.judge.specs.CoverEntries.{FlaggedWith}

@@ -2,7 +2,7 @@
 use borrow.Author.Needs.{needs}
 use mathlib.Core.Path.{refl}
 use Rattle.blocks.proofs.KindLaws.{secret-lists}
-use Rattle.terms.specs.Decisions.{says-yes, says-no}
+use Rattle.terms.proofs.AnswerLaws.{says-yes, says-no}
 use Rattle.judge.specs.CoverEntries.{isSecret}
 use Rattle.judge.proofs.Covering.Hats.{searching-at}
 use Rattle.judge.proofs.Covering.Covers.{standing-entries, wanted-risky, wanted-none}

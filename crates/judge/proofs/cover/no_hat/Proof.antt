@@ -1,7 +1,7 @@
 -- `judge::cover::no_hat` meets its contract. Assumes nothing.
 use mathlib.Core.Path.{refl, sym, _∙_}
 use Rattle.blocks.proofs.KindLaws.{bad-lists}
-use Rattle.terms.specs.Decide.{yes-of, no-of}
+use Rattle.terms.proofs.AnswerLaws.{yes-of, no-of}
 use Rattle.judge.specs.Listed.{matches-listed?, shares-listed?}
 use Rattle.judge.proofs.Stages.ListedLaws.{answer-says}
 use Rattle.judge.proofs.Covering.Opens.{no-good-shares, by-bad}

@@ -1,6 +1,6 @@
 -- `judge::cover::open_places` meets its contract. Assumes nothing.
 use borrow.Author.Needs.{needs}
-use Rattle.terms.specs.Decisions.{says-yes, says-no}
+use Rattle.terms.proofs.AnswerLaws.{says-yes, says-no}
 use Rattle.judge.proofs.Covering.Opens.{flagged-term, open-asked, open-unasked}
 use Rattle.judge.proofs.cover.open_places.Statement.{statement}
 use Rattle.judge.proofs.cover.open_places.Tie as tie

@@ -2,7 +2,7 @@
 use mathlib.Core.Path.{refl}
 use borrow.Author.Needs.{needs}
 use Rattle.blocks.proofs.KindLaws.{bad-lists}
-use Rattle.terms.specs.Sizes.{sizes-part}
+use Rattle.terms.proofs.SizeLaws.{sizes-part}
 use Rattle.judge.proofs.Covering.Hats.{searching-at}
 use Rattle.judge.proofs.Covering.Repeats.{remembered-more}
 use Rattle.judge.specs.Listed.{shares-listed?}

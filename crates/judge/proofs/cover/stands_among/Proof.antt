@@ -4,7 +4,7 @@ use Prim.Native.Nat.{ℕ, _≤_, _<_, _-_}
 use borrow.Author.Count.{below-none, below-more}
 use lib.ListN.{length}
 use Rattle.blocks.specs.Limits.{mostTermEntries}
-use Rattle.terms.specs.Decisions.{says-yes, says-no}
+use Rattle.terms.proofs.AnswerLaws.{says-yes, says-no}
 use mathlib.Core.Path.{_≡_}
 use Rattle.terms.specs.Entry.{termOf}
 use Rattle.judge.specs.CoverEntries.{FlaggedWith}

@@ -3,7 +3,8 @@ use borrow.Author.Needs.{needs}
 use mathlib.Core.Path.{_≡_, ap, sym, _∙_}
 use Prim.Native.Nat.{ℕ}
 use lib.ListN.{getD}
-use Rattle.terms.specs.Decide.{yes-of, variable?, term?}
+use Rattle.terms.specs.Decide.{variable?, term?}
+use Rattle.terms.proofs.AnswerLaws.{yes-of}
 use Rattle.judge.specs.Listed.{slotAt}
 use Rattle.judge.proofs.Covering.Covers.{flagged-begins, flagged-found}
 use Rattle.judge.proofs.Covering.Indexes.{index-absent, index-points}

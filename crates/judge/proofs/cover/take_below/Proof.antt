@@ -1,6 +1,6 @@
 -- `judge::cover::take_below` meets its contract. Assumes nothing.
 use borrow.Author.Needs.{needs}
-use Rattle.terms.specs.Decisions.{says-no}
+use Rattle.terms.proofs.AnswerLaws.{says-no}
 use Rattle.judge.proofs.Covering.Hats.{standing-end, no-encryption, none-below}
 use Rattle.judge.proofs.cover.take_below.Statement.{statement}
 use Rattle.judge.proofs.cover.take_below.Tie as tie

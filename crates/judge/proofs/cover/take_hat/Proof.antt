@@ -1,6 +1,6 @@
 -- `judge::cover::take_hat` meets its contract. Assumes nothing.
 use borrow.Author.Tests.{not-true, not-false}
-use Rattle.terms.specs.Decisions.{says-yes, says-no}
+use Rattle.terms.proofs.AnswerLaws.{says-yes, says-no}
 use Rattle.judge.proofs.Covering.Hats.{hat-taken, hat-shares}
 use Rattle.judge.proofs.cover.take_hat.Statement.{statement}
 use Rattle.judge.proofs.cover.take_hat.Tie as tie

@@ -1,7 +1,7 @@
 -- `judge::cover::uncovered` meets its contract. Assumes nothing.
 use borrow.Author.Needs.{needs}
 use mathlib.Core.Path.{sym}
-use Rattle.terms.specs.Decisions.{says-yes, says-no}
+use Rattle.terms.proofs.AnswerLaws.{says-yes, says-no}
 use Rattle.judge.specs.File.{ruleOf}
 use Rattle.judge.proofs.Covering.Opens.{opened-within}
 use Rattle.judge.proofs.Covering.Repeats.{remembered-of}

@@ -2,7 +2,7 @@
 use mathlib.Core.Path.{sym, ap, _∙_}
 use borrow.Author.Needs.{needs}
 use borrow.Author.Tests.{not-true, not-false}
-use Rattle.terms.specs.Decisions.{says-yes, says-no}
+use Rattle.terms.proofs.AnswerLaws.{says-yes, says-no}
 use Rattle.judge.specs.declared.form.Judged.the-variants.{Faulty}
 use Rattle.judge.specs.File.{certificateOf}
 use Rattle.judge.proofs.Stages.Numbers.{not-asked, met, unmet}

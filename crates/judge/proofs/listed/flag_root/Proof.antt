@@ -5,7 +5,7 @@ use Prim.Native.Nat.{_<_}
 use native.Mathlib.Omega.{arith}
 use lib.ListN.{length, length-set}
 use Rattle.blocks.proofs.KindLaws.{secret-lists}
-use Rattle.terms.specs.Decisions.{says-yes, says-no}
+use Rattle.terms.proofs.AnswerLaws.{says-yes, says-no}
 use Rattle.judge.specs.Listed.{slotAt}
 use Rattle.judge.proofs.Stages.Listing.{term-block}
 use Rattle.judge.proofs.Stages.Roots.{flag-kept, flag-here, flag-only}

@@ -1,6 +1,6 @@
 -- `judge::listed::instance_at` meets its contract. Assumes nothing.
 use Rattle.terms.specs.Decide.{match?, variable?}
-use Rattle.terms.specs.Decisions.{says-yes, says-no}
+use Rattle.terms.proofs.AnswerLaws.{says-yes, says-no}
 use Rattle.judge.proofs.Stages.Listing.{block-there, other-kind}
 use Rattle.judge.proofs.Stages.Roots.{instance-answer}
 use Rattle.judge.proofs.Stages.Tables.{too-small}

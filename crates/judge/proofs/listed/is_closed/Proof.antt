@@ -1,7 +1,6 @@
 -- `judge::listed::is_closed` meets its contract. Assumes nothing.
 use borrow.Author.Needs.{needs}
-use Rattle.terms.specs.EntryLaws.{begins}
-use Rattle.terms.specs.WalkLaws.{pair-first, encryption-first, right-begins}
+use Rattle.terms.proofs.EntryLaws.{begins, pair-first, encryption-first, right-begins}
 use Rattle.judge.specs.File.{certificateOf}
 use Rattle.judge.proofs.Stages.Listing.{search-part}
 use Rattle.judge.proofs.Stages.Numbers.{closed-left, closed-right, closed-content, closed-key, closed-atom}

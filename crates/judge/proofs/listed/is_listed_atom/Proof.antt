@@ -2,7 +2,7 @@
 use mathlib.Core.Path.{refl}
 use borrow.Author.Needs.{needs}
 use Rattle.blocks.proofs.KindLaws.{secret-lists}
-use Rattle.terms.specs.EntryLaws.{begins}
+use Rattle.terms.proofs.EntryLaws.{begins}
 use Rattle.judge.specs.File.{certificateOf}
 use Rattle.judge.proofs.Stages.Numbers.{one-atom, atom-says}
 use Rattle.judge.proofs.listed.is_listed_atom.Statement.{statement}

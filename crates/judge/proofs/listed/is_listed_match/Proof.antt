@@ -4,8 +4,9 @@ use native.Mathlib.Omega.{arith}
 use borrow.Author.Needs.{needs}
 use Rattle.terms.specs.Instance.{Matches}
 use Rattle.terms.specs.Entry.{termOf}
-use Rattle.terms.specs.Decisions.{says-no}
-use Rattle.terms.specs.Ending.{EachFrom, each-none, each-down}
+use Rattle.terms.proofs.AnswerLaws.{says-no}
+use Rattle.terms.specs.Ending.{EachFrom}
+use Rattle.terms.proofs.EndingLaws.{each-none, each-down}
 use Rattle.judge.specs.File.{blockCount}
 use Rattle.judge.specs.Listed.{HoldsAt, matches-listed?}
 use Rattle.judge.proofs.Stages.Listing.{found-answer, none-answer, lower-answer}

@@ -6,7 +6,7 @@ use borrow.Author.Count.{below-none, below-more}
 use mathlib.Core.Path.{_≡_}
 use Rattle.blocks.specs.Kinds.{secretKind}
 use Rattle.terms.specs.Entry.{termOf}
-use Rattle.terms.specs.Decisions.{says-no}
+use Rattle.terms.proofs.AnswerLaws.{says-no}
 use Rattle.judge.specs.File.{blockCount}
 use Rattle.judge.specs.Listed.{HoldsAt, is-secret?}
 use Rattle.judge.proofs.Stages.Listing.{found-answer, none-answer, higher-answer}

@@ -1,8 +1,8 @@
 -- `judge::listed::root_slot` meets its contract. Assumes nothing.
 use borrow.Author.Needs.{needs}
 use native.Mathlib.Omega.{arith}
-use Rattle.terms.specs.Decisions.{says-yes, says-no}
-use Rattle.terms.specs.FrontLaws.{from-length}
+use Rattle.terms.proofs.AnswerLaws.{says-yes, says-no}
+use Rattle.terms.proofs.EntryLaws.{from-length}
 use Rattle.judge.proofs.Stages.Roots.{slot-pair, slot-encryption, slot-atom, slot-variable, pair-room}
 use Rattle.judge.proofs.listed.root_slot.Statement.{statement}
 use Rattle.judge.proofs.listed.root_slot.Tie as tie

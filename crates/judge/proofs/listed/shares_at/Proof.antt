@@ -2,7 +2,7 @@
 use borrow.Author.Needs.{needs}
 use Rattle.terms.specs.Instance.{Share}
 use Rattle.terms.specs.Entry.{termOf}
-use Rattle.terms.specs.Decisions.{says-yes, says-no}
+use Rattle.terms.proofs.AnswerLaws.{says-yes, says-no}
 use Rattle.terms.specs.Decide.{share?, variable?}
 use Rattle.judge.proofs.Stages.Listing.{block-there, block-answer, other-kind}
 use Rattle.judge.proofs.Stages.Tables.{term-sizes}

@@ -1,7 +1,7 @@
 -- `judge::listed::size_block` meets its contract. Assumes nothing.
 use native.Mathlib.Omega.{arith}
 use borrow.Author.Needs.{needs}
-use Rattle.terms.specs.Decisions.{says-yes, says-no}
+use Rattle.terms.proofs.AnswerLaws.{says-yes, says-no}
 use Rattle.judge.proofs.Stages.Tables.{sizes-more, sizes-other}
 use Rattle.judge.proofs.listed.size_block.Statement.{statement}
 use Rattle.judge.proofs.listed.size_block.Tie as tie

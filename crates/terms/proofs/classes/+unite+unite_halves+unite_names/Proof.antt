@@ -2,10 +2,10 @@
 -- classes, one more for `unite` and two more for `unite_halves`. Assumes nothing.
 use mathlib.Core.Path.{sym, _∙_}
 use mathlib.Core.Logic.{inl, inr}
-use Rattle.terms.specs.GraphLaws.{moved, both-answer, failed, first-clash}
+use Rattle.terms.proofs.GraphLaws.{moved, both-answer, failed, first-clash}
 use Rattle.terms.specs.Names.{classCount}
-use Rattle.terms.specs.UniteAnswers.{two-names, met-as, differ-answer, names-linked, names-fewer, free-answer, atoms-answer, contents-answer}
-use Rattle.terms.specs.UniteAnswers.{halves-answer, same-answer, found-names, nodes-answer, turned}
+use Rattle.terms.proofs.ClassAnswers.{two-names, met-as, differ-answer, names-linked, names-fewer, free-answer, atoms-answer, contents-answer}
+use Rattle.terms.proofs.ClassAnswers.{halves-answer, same-answer, found-names, nodes-answer, turned}
 use borrow.Author.Needs.{needs}
 use native.Mathlib.Omega.{arith}
 use Prim.Native.Nat.{ℕ, _<_, _*_, _+_}

@@ -1,6 +1,6 @@
 -- `terms::classes::alone` meets its contract: the nodes before node k lead to themselves. Assumes nothing.
 use lib.ListN.{length-set}
-use Rattle.terms.specs.Names.{stored}
+use Rattle.terms.proofs.NameLaws.{stored}
 use mathlib.Core.Path.{_≡_}
 use Prim.Native.Nat.{ℕ, _≤_, _<_, _-_}
 use lib.ListN.{length, getD}

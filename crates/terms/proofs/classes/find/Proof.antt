@@ -4,7 +4,7 @@ use mathlib.Core.Path.{_≡_}
 use Prim.Native.Nat.{_<_, _≤_}
 use lib.ListN.{length}
 use borrow.Author.Needs.{needs}
-use Rattle.terms.specs.Names.{OnTheWay, way-starts, way-arrives, way-goes-on, way-ends}
+use Rattle.terms.proofs.NameLaws.{OnTheWay, way-starts, way-arrives, way-goes-on, way-ends}
 use Rattle.terms.proofs.classes.find.Statement.{statement}
 use Rattle.terms.proofs.classes.find.Tie as tie
 

@@ -2,9 +2,10 @@
 use mathlib.Core.Path.{sym, _∙_}
 use mathlib.Core.Logic.{inl, inr}
 use native.Mathlib.Omega.{arith}
-use Rattle.terms.specs.Meeting.{Symbols, both-symbols}
+use Rattle.terms.specs.Meeting.{Symbols}
+use Rattle.terms.proofs.ClassLaws.{both-symbols}
 use Rattle.terms.specs.TermGraph.{OwnEntry}
-use Rattle.terms.specs.TermGraphLaws.{symbol-inside, home-symbol}
+use Rattle.terms.proofs.NodeLaws.{symbol-inside, home-symbol}
 use Rattle.terms.proofs.classes.meeting.Statement.{statement}
 use Rattle.terms.proofs.classes.meeting.Tie as tie
 

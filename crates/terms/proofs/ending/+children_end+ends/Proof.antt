@@ -3,9 +3,10 @@
 use mathlib.Core.Path.{_≡_, sym, _∙_}
 use mathlib.Core.Logic.{inl, inr}
 use lib.ListN.{getD, length-set}
-use Rattle.terms.specs.TermGraphLaws.{symbol-inside}
-use Rattle.terms.specs.Ending.{zeros, fewer-zeros, yes-at-once, no-way, answer-map, past-ends, class-ends, back-again, open-sound, open-below, closed}
-use Rattle.terms.specs.Ending.{below-kept, first-below, second-below, content-below, no-children, content-ends, halves-walked, symbol-there}
+use Rattle.terms.proofs.NodeLaws.{symbol-inside}
+use Rattle.terms.specs.Ending.{zeros}
+use Rattle.terms.proofs.EndingLaws.{fewer-zeros, yes-at-once, no-way, answer-map, past-ends, class-ends, back-again, open-sound, open-below, closed}
+use Rattle.terms.proofs.EndingLaws.{below-kept, first-below, second-below, content-below, no-children, content-ends, halves-walked, symbol-there}
 use borrow.Author.Needs.{needs}
 use native.Mathlib.Omega.{arith}
 use Prim.Native.Nat.{ℕ, _<_, _*_, _+_}

@@ -3,7 +3,7 @@ use mathlib.Core.Path.{refl}
 use mathlib.Core.Bool.{false≢true}
 use lib.ListN.{replicate, getD-replicate}
 use borrow.Author.Needs.{needs}
-use Rattle.terms.specs.Ending.{start-sound, start-below, below-kept, left-entries, right-entries, all-finite}
+use Rattle.terms.proofs.EndingLaws.{start-sound, start-below, below-kept, left-entries, right-entries, all-finite}
 use Rattle.terms.proofs.ending.is_finite.Statement.{statement}
 use Rattle.terms.proofs.ending.is_finite.Tie as tie
 

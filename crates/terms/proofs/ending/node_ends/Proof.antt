@@ -1,7 +1,7 @@
 -- `terms::ending::node_ends` meets its contract. Assumes nothing.
 use mathlib.Core.Path.{sym, _∙_}
 use mathlib.Core.Logic.{inl, inr}
-use Rattle.terms.specs.Ending.{answer-map, yes-at-once, parent-home, parent-ends, no-parent}
+use Rattle.terms.proofs.EndingLaws.{answer-map, yes-at-once, parent-home, parent-ends, no-parent}
 use Rattle.terms.proofs.ending.node_ends.Statement.{statement}
 use Rattle.terms.proofs.ending.node_ends.Tie as tie
 

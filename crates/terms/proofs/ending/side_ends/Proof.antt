@@ -5,7 +5,8 @@ use native.Mathlib.Omega.{arith}
 use lib.ListN.{length}
 use borrow.Author.Tests.{not-false, not-true}
 use borrow.Author.Needs.{needs}
-use Rattle.terms.specs.Ending.{ParentEnds, MarksKept, EachFrom, each-none, each-down, yes-kept, no-way, kept-same, kept-both, below-kept}
+use Rattle.terms.specs.Ending.{ParentEnds, MarksKept, EachFrom}
+use Rattle.terms.proofs.EndingLaws.{each-none, each-down, yes-kept, no-way, kept-same, kept-both, below-kept}
 use Rattle.terms.proofs.ending.side_ends.Statement.{statement}
 use Rattle.terms.proofs.ending.side_ends.Tie as tie
 

@@ -1,8 +1,7 @@
 -- `terms::entry::term_size` meets its contract; the measure is the length. Assumes nothing.
 use borrow.Author.Needs.{needs}
 use lib.ListN.{length}
-use Rattle.terms.specs.EntryLaws.{begins}
-use Rattle.terms.specs.WalkLaws.{pair-first, encryption-first, leaf-first, right-begins, pair-size, encryption-size}
+use Rattle.terms.proofs.EntryLaws.{begins, pair-first, encryption-first, leaf-first, right-begins, pair-size, encryption-size}
 use Prim.Native.Nat.{ℕ, _<_}
 use borrow.Fn.Kinds.{In}
 use borrow.Fn.PlainCycle.{Measures, is, falls, and}

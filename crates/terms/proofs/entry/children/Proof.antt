@@ -1,6 +1,6 @@
 -- `terms::entry::children` meets its contract. Assumes nothing.
 use borrow.Author.Needs.{needs}
-use Rattle.terms.specs.EntryLaws.{no-children, two-children, one-child}
+use Rattle.terms.proofs.TagLaws.{no-children, two-children, one-child}
 use Rattle.terms.proofs.entry.children.Statement.{statement}
 use Rattle.terms.proofs.entry.children.Tie as tie
 

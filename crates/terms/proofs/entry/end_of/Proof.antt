@@ -1,7 +1,7 @@
 -- `terms::entry::end_of` meets its contract. Assumes nothing.
 use borrow.Author.Needs.{needs}
 use native.Mathlib.Omega.{arith}
-use Rattle.terms.specs.Sizes.{size-at}
+use Rattle.terms.proofs.SizeLaws.{size-at}
 use Rattle.terms.proofs.entry.end_of.Statement.{statement}
 use Rattle.terms.proofs.entry.end_of.Tie as tie
 

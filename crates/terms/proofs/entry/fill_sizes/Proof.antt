@@ -4,7 +4,8 @@ use mathlib.Core.Path.{_≡_, refl}
 use native.Mathlib.Omega.{arith}
 use lib.ListN.{length}
 use borrow.Author.Needs.{needs}
-use Rattle.terms.specs.Sizes.{SizedFrom, KeptBelow, sized-none, sized-more, kept-more}
+use Rattle.terms.specs.Sizes.{SizedFrom, KeptBelow}
+use Rattle.terms.proofs.SizeLaws.{sized-none, sized-more, kept-more}
 use Rattle.terms.proofs.entry.fill_sizes.Statement.{statement}
 use Rattle.terms.proofs.entry.fill_sizes.Tie as tie
 

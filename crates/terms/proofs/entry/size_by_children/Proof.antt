@@ -5,8 +5,7 @@ use native.Mathlib.Omega.{arith}
 use borrow.Author.Needs.{needs}
 use lib.ListN.{getD}
 use Rattle.terms.specs.TermGraph.{sizeIn, rightIn}
-use Rattle.terms.specs.TermGraphLaws.{leaf-size}
-use Rattle.terms.specs.Sizes.{PairSizes, ContentSize, pair-sizes, content-size}
+use Rattle.terms.proofs.SizeLaws.{leaf-size, PairSizes, ContentSize, pair-sizes, content-size}
 use Rattle.terms.proofs.entry.size_by_children.Statement.{statement}
 use Rattle.terms.proofs.entry.size_by_children.Tie as tie
 

@@ -1,7 +1,7 @@
 -- `terms::entry::sizes` meets its contract. Assumes nothing.
 use native.Mathlib.Omega.{arith}
 use borrow.Author.Needs.{needs}
-use Rattle.terms.specs.Sizes.{sizes-filled}
+use Rattle.terms.proofs.SizeLaws.{sizes-filled}
 use Rattle.terms.proofs.entry.sizes.Statement.{statement}
 use Rattle.terms.proofs.entry.sizes.Tie as tie
 

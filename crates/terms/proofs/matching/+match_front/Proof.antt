@@ -1,9 +1,10 @@
 -- `terms::matching::match_front` meets its contract; the measure is the length. Assumes nothing.
 use borrow.Author.Needs.{needs}
 use lib.ListN.{length}
-use Rattle.terms.specs.FrontLaws.{front-begins, said, denied}
-use Rattle.terms.specs.MatchLaws.{made-none, pattern-begins, subject-begins, comparable, variable-ready, variable-step, variable-last, variable-clash}
-use Rattle.terms.specs.MatchLaws.{symbol-ready, symbol-step, symbol-clash}
+use Rattle.terms.proofs.FrontLaws.{front-begins}
+use Rattle.terms.proofs.SameLaws.{said, denied}
+use Rattle.terms.proofs.MatchLaws.{made-none, pattern-begins, subject-begins, comparable, variable-ready, variable-step, variable-last, variable-clash}
+use Rattle.terms.proofs.MatchLaws.{symbol-ready, symbol-step, symbol-clash}
 use Prim.Native.Nat.{ℕ, _<_}
 use borrow.Fn.Kinds.{In}
 use borrow.Fn.PlainCycle.{Measures, is, falls, and}

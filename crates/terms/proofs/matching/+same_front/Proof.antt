@@ -1,7 +1,8 @@
 -- `terms::matching::same_front` meets its contract; the measure is the length. Assumes nothing.
 use borrow.Author.Needs.{needs}
 use lib.ListN.{length}
-use Rattle.terms.specs.FrontLaws.{front-begins, none-left, same-below, same-step, same-clash, said, denied}
+use Rattle.terms.proofs.FrontLaws.{front-begins, none-left}
+use Rattle.terms.proofs.SameLaws.{same-below, same-step, same-clash, said, denied}
 use Prim.Native.Nat.{ℕ, _<_}
 use borrow.Fn.Kinds.{In}
 use borrow.Fn.PlainCycle.{Measures, is, falls, and}

@@ -2,7 +2,7 @@
 use native.Mathlib.Omega.{arith}
 use borrow.Author.Needs.{needs}
 use Rattle.terms.specs.Decide.{term?, variable?}
-use Rattle.terms.specs.MatchLaws.{held-within, free-slot, held-slot}
+use Rattle.terms.proofs.MatchLaws.{held-within, free-slot, held-slot}
 use Rattle.terms.proofs.matching.bindable.Statement.{statement}
 use Rattle.terms.proofs.matching.bindable.Tie as tie
 

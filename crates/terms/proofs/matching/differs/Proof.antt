@@ -3,8 +3,8 @@ use borrow.Author.Needs.{needs}
 use mathlib.Core.Bool.{false≢true}
 use native.Mathlib.Omega.{arith}
 use borrow.Author.Tests.{not-true}
-use Rattle.terms.specs.Decisions.{says-no}
-use Rattle.terms.specs.RunLaws.{front-room, tag-from, differ-alike, apart-shares}
+use Rattle.terms.proofs.AnswerLaws.{says-no}
+use Rattle.terms.proofs.RunLaws.{front-room, tag-from, differ-alike, apart-shares}
 use Rattle.terms.proofs.matching.differs.Statement.{statement}
 use Rattle.terms.proofs.matching.differs.Tie as tie
 

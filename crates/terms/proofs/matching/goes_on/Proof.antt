@@ -1,10 +1,10 @@
 -- `terms::matching::goes_on` meets its contract. Assumes nothing.
 use borrow.Author.Needs.{needs}
 use native.Mathlib.Omega.{arith}
-use Rattle.terms.specs.Decisions.{says-yes, says-no}
+use Rattle.terms.proofs.AnswerLaws.{says-yes, says-no}
 use Rattle.terms.specs.Solve.{says-same}
-use Rattle.terms.specs.FrontLaws.{front-begins}
-use Rattle.terms.specs.RunLaws.{front-room, tag-from}
+use Rattle.terms.proofs.FrontLaws.{front-begins}
+use Rattle.terms.proofs.RunLaws.{front-room, tag-from}
 use Rattle.terms.proofs.matching.goes_on.Statement.{statement}
 use Rattle.terms.proofs.matching.goes_on.Tie as tie
 

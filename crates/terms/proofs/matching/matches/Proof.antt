@@ -1,8 +1,9 @@
 -- `terms::matching::matches` meets its contract. Assumes nothing.
 use borrow.Author.Needs.{needs}
 use mathlib.Core.Path.{sym}
-use Rattle.terms.specs.Decide.{answer-no, match?, variable?}
-use Rattle.terms.specs.Laws.{matched-shares}
+use Rattle.terms.specs.Decide.{match?, variable?}
+use Rattle.terms.proofs.AnswerLaws.{answer-no}
+use Rattle.terms.proofs.InstanceLaws.{matched-shares}
 use Rattle.terms.proofs.matching.matches.Statement.{statement}
 use Rattle.terms.proofs.matching.matches.Tie as tie
 

@@ -1,6 +1,6 @@
 -- `terms::matching::matches_behind` meets its contract. Assumes nothing.
 use borrow.Author.Needs.{needs}
-use Rattle.terms.specs.RunLaws.{run-ready, run-answer}
+use Rattle.terms.proofs.RunLaws.{run-ready, run-answer}
 use Rattle.terms.proofs.matching.matches_behind.Statement.{statement}
 use Rattle.terms.proofs.matching.matches_behind.Tie as tie
 

@@ -2,8 +2,8 @@
 use borrow.Author.Needs.{needs}
 use native.Mathlib.Omega.{arith}
 use borrow.Author.Tests.{not-true}
-use Rattle.terms.specs.FrontLaws.{denied}
-use Rattle.terms.specs.RunLaws.{first-differs, run-same}
+use Rattle.terms.proofs.SameLaws.{denied}
+use Rattle.terms.proofs.RunLaws.{first-differs, run-same}
 use Rattle.terms.proofs.matching.same.Statement.{statement}
 use Rattle.terms.proofs.matching.same.Tie as tie
 

@@ -1,6 +1,6 @@
 -- `terms::matching::same_entry` meets its contract. Assumes nothing.
 use borrow.Author.Needs.{needs}
-use Rattle.terms.specs.FrontLaws.{same-word}
+use Rattle.terms.proofs.SameLaws.{same-word}
 use Rattle.terms.proofs.matching.same_entry.Statement.{statement}
 use Rattle.terms.proofs.matching.same_entry.Tie as tie
 

@@ -1,7 +1,7 @@
 -- `terms::matching::same_run` meets its contract. Assumes nothing.
 use borrow.Author.Needs.{needs}
 use native.Mathlib.Omega.{arith}
-use Rattle.terms.specs.FrontLaws.{front-few}
+use Rattle.terms.proofs.FrontLaws.{front-few}
 use Rattle.terms.proofs.matching.same_run.Statement.{statement}
 use Rattle.terms.proofs.matching.same_run.Tie as tie
 

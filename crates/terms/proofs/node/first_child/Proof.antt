@@ -2,7 +2,7 @@
 use mathlib.Core.Path.{sym, _∙_, subst}
 use Prim.Native.Nat.{_+_, _-_}
 use Rattle.terms.specs.TermGraph.{AtHome}
-use Rattle.terms.specs.TermGraphLaws.{child-inside, left-first-fits, right-first-fits, first-on-left, first-on-right, home-left, home-right}
+use Rattle.terms.proofs.NodeLaws.{child-inside, left-first-fits, right-first-fits, first-on-left, first-on-right, home-left, home-right}
 use borrow.Author.Needs.{needs}
 use Rattle.terms.proofs.node.first_child.Statement.{statement}
 use Rattle.terms.proofs.node.first_child.Tie as tie

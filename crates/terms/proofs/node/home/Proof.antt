@@ -1,5 +1,6 @@
 -- `terms::node::home` meets its contract. Assumes nothing.
-use Rattle.terms.specs.TermGraphLaws.{home-plain, home-marked, home-own, value-part}
+use Rattle.terms.proofs.TermGraphLaws.{value-part}
+use Rattle.terms.proofs.NodeLaws.{home-plain, home-marked, home-own}
 use borrow.Author.Needs.{needs}
 use Rattle.terms.proofs.node.home.Statement.{statement}
 use Rattle.terms.proofs.node.home.Tie as tie

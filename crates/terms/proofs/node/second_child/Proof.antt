@@ -4,8 +4,7 @@ use mathlib.Core.Logic.{inl}
 use Prim.Native.Nat.{ℕ, _+_, _-_, _<_}
 use native.Mathlib.Omega.{arith}
 use Rattle.terms.specs.TermGraph.{AtHome, home, rightIn}
-use Rattle.terms.specs.TermGraphLaws.{RightThere, child-inside, left-right-there, right-right-there, second-on-left, second-on-right}
-use Rattle.terms.specs.TermGraphLaws.{home-left, home-right}
+use Rattle.terms.proofs.NodeLaws.{RightThere, child-inside, left-right-there, right-right-there, second-on-left, second-on-right, home-left, home-right}
 use borrow.Author.Needs.{needs}
 use Rattle.terms.proofs.node.second_child.Statement.{statement}
 use Rattle.terms.proofs.node.second_child.Tie as tie

@@ -1,7 +1,7 @@
 -- `terms::node::tag_at` meets its contract. Assumes nothing.
 use mathlib.Core.Path.{sym}
 use native.Mathlib.Omega.{arith}
-use Rattle.terms.specs.TermGraphLaws.{left-tag, right-tag}
+use Rattle.terms.proofs.NodeLaws.{left-tag, right-tag}
 use borrow.Author.Needs.{needs}
 use Rattle.terms.proofs.node.tag_at.Statement.{statement}
 use Rattle.terms.proofs.node.tag_at.Tie as tie

@@ -1,7 +1,8 @@
 -- `terms::node::value_at` meets its contract. Assumes nothing.
 use mathlib.Core.Path.{sym, _∙_}
 use Prim.Native.Nat.{_-_}
-use Rattle.terms.specs.TermGraphLaws.{left-value, right-value, value-part}
+use Rattle.terms.proofs.TermGraphLaws.{value-part}
+use Rattle.terms.proofs.NodeLaws.{left-value, right-value}
 use borrow.Author.Needs.{needs}
 use Rattle.terms.proofs.node.value_at.Statement.{statement}
 use Rattle.terms.proofs.node.value_at.Tie as tie

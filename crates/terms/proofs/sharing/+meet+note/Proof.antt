@@ -2,12 +2,12 @@
 -- Assumes nothing.
 use borrow.Author.Needs.{needs}
 use Rattle.terms.specs.Entry.{termOf}
-use Rattle.terms.specs.EntryLaws.{size-positive}
-use Rattle.terms.specs.WalkLaws.{from}
-use Rattle.terms.specs.FrontLaws.{front-begins}
-use Rattle.terms.specs.RunLaws.{tag-from}
-use Rattle.terms.specs.Sizes.{size-at}
-use Rattle.terms.specs.MeetingLaws.{walking-done, walking-room, walking-apart, walking-more}
+use Rattle.terms.proofs.EntryLaws.{size-positive}
+use Rattle.terms.specs.Entry.{from}
+use Rattle.terms.proofs.FrontLaws.{front-begins}
+use Rattle.terms.proofs.RunLaws.{tag-from}
+use Rattle.terms.proofs.SizeLaws.{size-at}
+use Rattle.terms.proofs.MeetingLaws.{walking-done, walking-room, walking-apart, walking-more}
 use native.Mathlib.Omega.{arith}
 use Prim.Native.Nat.{ℕ, _<_, _+_, _*_, _-_}
 use borrow.Fn.Kinds.{In}

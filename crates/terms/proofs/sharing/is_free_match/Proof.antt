@@ -7,11 +7,11 @@ use lib.ListN.{length, length-set}
 use borrow.Author.Needs.{needs}
 use borrow.Rule.Slice.PartAt.{part-to-end}
 use Rattle.terms.specs.Entry.{termOf}
-use Rattle.terms.specs.EntryLaws.{suffix}
-use Rattle.terms.specs.WalkLaws.{from}
+use Rattle.terms.proofs.EntryLaws.{suffix}
+use Rattle.terms.specs.Entry.{from}
 use Rattle.terms.specs.Slot.{slotOf}
 use Rattle.terms.specs.Meetings.{Distinct}
-use Rattle.terms.specs.MeetingLaws.{Seen, distinct-none, distinct-more, seen-new, seen-more}
+use Rattle.terms.proofs.MeetingLaws.{Seen, distinct-none, distinct-more, seen-new, seen-more}
 use Rattle.terms.proofs.sharing.is_free_match.Statement.{statement}
 use Rattle.terms.proofs.sharing.is_free_match.Tie as tie
 

@@ -3,9 +3,9 @@ use Prim.Native.Nat.{_≤_, _*_, _-_}
 use native.Mathlib.Omega.{arith}
 use borrow.Author.Needs.{needs}
 use borrow.Author.Tests.{not-false}
-use Rattle.terms.specs.FrontLaws.{from-length}
+use Rattle.terms.proofs.EntryLaws.{from-length}
 use Rattle.terms.specs.Meetings.{Walking}
-use Rattle.terms.specs.MeetingLaws.{walking-run, run-stops, walking-room, walking-leaves}
+use Rattle.terms.proofs.MeetingLaws.{walking-run, run-stops, walking-room, walking-leaves}
 use Rattle.terms.proofs.sharing.pass.Statement.{statement}
 use Rattle.terms.proofs.sharing.pass.Tie as tie
 

@@ -3,7 +3,7 @@ use mathlib.Core.Bool.{false≢true}
 use native.Mathlib.Omega.{arith}
 use borrow.Author.Needs.{needs}
 use borrow.Author.Tests.{not-true}
-use Rattle.terms.specs.Decisions.{says-no}
+use Rattle.terms.proofs.AnswerLaws.{says-no}
 use Rattle.terms.proofs.sharing.roots_differ.Statement.{statement}
 use Rattle.terms.proofs.sharing.roots_differ.Tie as tie
 

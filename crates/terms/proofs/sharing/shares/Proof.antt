@@ -1,10 +1,11 @@
 -- `terms::sharing::shares` meets its contract. Assumes nothing.
 use mathlib.Core.Path.{sym, subst}
 use borrow.Author.Needs.{needs}
-use Rattle.terms.specs.Decide.{answer-yes, share?, variable?}
+use Rattle.terms.specs.Decide.{share?, variable?}
+use Rattle.terms.proofs.AnswerLaws.{answer-yes}
 use Rattle.terms.specs.Meetings.{WalkSays}
-use Rattle.terms.specs.MeetingLaws.{roots-apart, walking-start, noted-in, free-match}
-use Rattle.terms.specs.ShareGraph.{apart-answer}
+use Rattle.terms.proofs.MeetingLaws.{roots-apart, walking-start, noted-in, free-match}
+use Rattle.terms.proofs.ShareGraph.{apart-answer}
 use Rattle.terms.proofs.sharing.shares.Statement.{statement}
 use Rattle.terms.proofs.sharing.shares.Tie as tie
 

@@ -5,12 +5,14 @@ use native.Mathlib.Omega.{arith}
 use borrow.Author.Tests.{not-false, not-true}
 use borrow.Author.Needs.{needs}
 use Rattle.terms.specs.Graph.{ClassStep}
-use Rattle.terms.specs.GraphLaws.{Any, done, failed}
+use Rattle.terms.specs.Graph.{Any}
+use Rattle.terms.proofs.GraphLaws.{done, failed}
 use Rattle.terms.specs.TermGraph.{nodeOf, home, AtHome}
-use Rattle.terms.specs.TermGraphLaws.{home-left, home-right}
-use Rattle.terms.specs.Names.{nameOf, Linked, classes-of}
+use Rattle.terms.proofs.NodeLaws.{home-left, home-right}
+use Rattle.terms.specs.Names.{nameOf, Linked}
+use Rattle.terms.proofs.NameLaws.{classes-of}
 use Rattle.terms.specs.Meetings.{AllEqual}
-use Rattle.terms.specs.ShareGraph.{united-none, united-more, united-clash}
+use Rattle.terms.proofs.ShareGraph.{united-none, united-more, united-clash}
 use Rattle.terms.proofs.sharing.unite_noted.Statement.{statement}
 use Rattle.terms.proofs.sharing.unite_noted.Tie as tie
 

@@ -1,6 +1,6 @@
 -- `terms::tag::is_variable` meets its contract. Assumes nothing.
 use Rattle.terms.specs.Tag.{encryptionTag}
-use Rattle.terms.specs.Decisions.{says-lt}
+use Rattle.terms.proofs.AnswerLaws.{says-lt}
 use Rattle.terms.proofs.tag.is_variable.Statement.{statement}
 use Rattle.terms.proofs.tag.is_variable.Tie as tie
 

@@ -1,5 +1,5 @@
 -- `terms::valid::are_terms` meets its contract; the measure is the number of entries left. Assumes nothing.
-use Rattle.terms.specs.Count.{none-left-terms, none-needed-terms, next-terms}
+use Rattle.terms.proofs.CountLaws.{none-left-terms, none-needed-terms, next-terms}
 use borrow.Author.Needs.{needs}
 use Prim.Native.Nat.{ℕ, _-_, _<_}
 use borrow.Fn.Kinds.{In}

@@ -1,8 +1,8 @@
 -- `terms::valid::is_encryption` meets its contract. Assumes nothing.
-use Rattle.terms.specs.ValidLaws.{encryption-tag}
+use Rattle.terms.proofs.OneTermLaws.{encryption-tag}
 use Rattle.terms.specs.OneTerm.{encryption?}
 use Rattle.terms.specs.Entry.{termOf}
-use Rattle.terms.specs.Decide.{says-answer}
+use Rattle.terms.proofs.AnswerLaws.{says-answer}
 use borrow.Author.Needs.{needs}
 use Rattle.terms.proofs.valid.is_encryption.Statement.{statement}
 use Rattle.terms.proofs.valid.is_encryption.Tie as tie

@@ -1,7 +1,7 @@
 -- `terms::valid::is_one_term` meets its contract. Assumes nothing.
-use Rattle.terms.specs.Count.{count-one}
-use Rattle.terms.specs.OneTerm.{oneTerm?}
-use Rattle.terms.specs.Decide.{says-answer}
+use Rattle.terms.proofs.CountLaws.{count-one}
+use Rattle.terms.specs.Reading.{oneTerm?}
+use Rattle.terms.proofs.AnswerLaws.{says-answer}
 use borrow.Author.Needs.{needs}
 use Rattle.terms.proofs.valid.is_one_term.Statement.{statement}
 use Rattle.terms.proofs.valid.is_one_term.Tie as tie

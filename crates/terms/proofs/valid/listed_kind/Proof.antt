@@ -1,5 +1,5 @@
 -- `terms::valid::listed_kind` meets its contract. Assumes nothing.
-use Rattle.terms.specs.EntryTables.{kind-away, kind-low, kind-high}
+use Rattle.terms.proofs.EntryTableLaws.{kind-away, kind-low, kind-high}
 use borrow.Author.Needs.{needs}
 use native.Mathlib.Omega.{arith}
 use Rattle.terms.proofs.valid.listed_kind.Statement.{statement}

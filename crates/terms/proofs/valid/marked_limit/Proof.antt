@@ -1,5 +1,5 @@
 -- `terms::valid::marked_limit` meets its contract. Assumes nothing.
-use Rattle.terms.specs.EntryTables.{marked-good, marked-other}
+use Rattle.terms.proofs.EntryTableLaws.{marked-good, marked-other}
 use Rattle.terms.proofs.valid.marked_limit.Statement.{statement}
 use Rattle.terms.proofs.valid.marked_limit.Tie as tie
 

@@ -1,5 +1,5 @@
 -- `terms::valid::named_back` meets its contract. Assumes nothing.
-use Rattle.terms.specs.ValidLaws.{back-away, back-other, back-named}
+use Rattle.terms.proofs.AtomLaws.{back-away, back-other, back-named}
 use borrow.Author.Needs.{needs}
 use Rattle.terms.proofs.valid.named_back.Statement.{statement}
 use Rattle.terms.proofs.valid.named_back.Tie as tie

@@ -1,5 +1,5 @@
 -- `terms::valid::plain_limit` meets its contract. Assumes nothing.
-use Rattle.terms.specs.EntryTables.{plain-secret, plain-other}
+use Rattle.terms.proofs.EntryTableLaws.{plain-secret, plain-other}
 use Rattle.terms.proofs.valid.plain_limit.Statement.{statement}
 use Rattle.terms.proofs.valid.plain_limit.Tie as tie
 

@@ -1,5 +1,5 @@
 -- `terms::valid::right_atom` meets its contract. Assumes nothing.
-use Rattle.terms.specs.ValidLaws.{atom-unknown, atom-principal, atom-nonce, atom-public, atom-private, atom-symmetric, atom-no-kind}
+use Rattle.terms.proofs.AtomLaws.{atom-unknown, atom-principal, atom-nonce, atom-public, atom-private, atom-symmetric, atom-no-kind}
 use borrow.Author.Needs.{needs}
 use Rattle.terms.proofs.valid.right_atom.Statement.{statement}
 use Rattle.terms.proofs.valid.right_atom.Tie as tie

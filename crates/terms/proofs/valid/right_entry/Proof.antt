@@ -1,5 +1,5 @@
 -- `terms::valid::right_entry` meets its contract. Assumes nothing.
-use Rattle.terms.specs.EntryTables.{past-tables, past-limit, less-kind, within}
+use Rattle.terms.proofs.EntryTableLaws.{past-tables, past-limit, less-kind, within}
 use borrow.Author.Needs.{needs}
 use Rattle.terms.proofs.valid.right_entry.Statement.{statement}
 use Rattle.terms.proofs.valid.right_entry.Tie as tie

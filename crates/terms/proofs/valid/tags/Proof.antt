@@ -3,7 +3,8 @@ use mathlib.Core.Path.{_≡_, refl}
 use Prim.Native.Nat.{_≤_, _-_, _/_}
 use lib.ListN.{length, length-set, take}
 use borrow.Author.Needs.{needs}
-use Rattle.terms.specs.Count.{tagsOf, tag-stored, tags-stored}
+use Rattle.terms.specs.Count.{tagsOf}
+use Rattle.terms.proofs.CountLaws.{tag-stored, tags-stored}
 use Rattle.terms.proofs.valid.tags.Statement.{statement}
 use Rattle.terms.proofs.valid.tags.Tie as tie
 

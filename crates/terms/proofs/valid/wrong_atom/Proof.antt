@@ -4,9 +4,9 @@ use native.Mathlib.Omega.{arith}
 use Prim.Native.Nat.{ℕ, _≤_, _<_, _/_, _-_}
 use lib.ListN.{length}
 use borrow.Author.Count.{below-none, below-more}
-use Rattle.terms.specs.Decisions.{says-yes, says-no}
+use Rattle.terms.proofs.AnswerLaws.{says-yes, says-no}
 use Rattle.terms.specs.Atom.{AtomRight, atomsOf}
-use Rattle.terms.specs.ValidLaws.{atom-wrong, atoms-right}
+use Rattle.terms.proofs.AtomLaws.{atom-wrong, atoms-right}
 use Rattle.terms.proofs.valid.wrong_atom.Statement.{statement}
 use Rattle.terms.proofs.valid.wrong_atom.Tie as tie
 

@@ -7,8 +7,7 @@ use borrow.Author.Count.{below-none, below-more}
 use Rattle.terms.specs.Atom.{atomsOf}
 use Rattle.terms.specs.TermEntry.{EntryRight}
 use Rattle.terms.specs.Each.{EntryIs}
-use Rattle.terms.specs.EntryTables.{entry-yes, entry-no}
-use Rattle.terms.specs.ValidLaws.{entry-wrong, entries-right}
+use Rattle.terms.proofs.EntryTableLaws.{entry-yes, entry-no, entry-wrong, entries-right}
 use Rattle.terms.proofs.valid.wrong_entry.Statement.{statement}
 use Rattle.terms.proofs.valid.wrong_entry.Tie as tie
 

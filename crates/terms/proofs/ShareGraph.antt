@@ -8,27 +8,28 @@ use native.Mathlib.Omega.{arith}
 use native.Mathlib.Decide.{ℕ-discrete}
 use native.Mathlib.Nat.{zero-add}
 use lib.Dec.{ltb}
+use lib.ListN.{length, getD, drop}
 use borrow.Author.Tests.{lt-ltb, le-ltb, ltb-true, ltb-false}
 use borrow.Rule.Slice.PartAt.{part-to-end}
-use lib.ListN.{length, getD, drop}
 use Rattle.blocks.specs.Limits.{mostTermBytes}
-use Rattle.terms.specs.Term.{Term, Message, Variable, Sort, atom, named, replace, asTerm}
-use Rattle.terms.specs.Tag.{variables}
-use Rattle.terms.specs.Slot.{slotIn, inSlot, slot-small, slot-in}
+use Rattle.terms.specs.Term.{Term, atom, Message, Sort, Variable, named, replace, asTerm}
 use Rattle.terms.specs.Instance.{Share}
+use Rattle.terms.specs.Tag.{variables}
+use Rattle.terms.specs.Entry.{termOf, Begins, from}
 use Rattle.terms.specs.Occurs.{replace-twice, replace-none}
-use Rattle.terms.specs.Entry.{termOf, Begins}
-use Rattle.terms.specs.EntryLaws.{termOf-reads, suffix}
-use Rattle.terms.specs.WalkLaws.{from}
-use Rattle.terms.specs.RunLaws.{share-alike, alike-share}
-use Rattle.terms.specs.Graph.{free, IsSymbol, made, Valid, Respects, Classes, ClassStep, Clash, Outcome, Finite}
-use Rattle.terms.specs.GraphLaws.{Any, valued, stay, both, restate, restate-clash, second-clash}
-use Rattle.terms.specs.TermGraph.{rightNodes, variableNodes, rightVariables}
-use Rattle.terms.specs.TermGraph.{home, nodeBy, third, region, nodeTag, nodeOf, TwoTerms}
-use Rattle.terms.specs.TermGraphLaws.{values, home-value, side-makes, left-side, right-side}
+use Rattle.terms.specs.Decisions.{pick}
 use Rattle.terms.specs.Solve.{Says}
-use Rattle.terms.specs.Decide.{answer, share?, variable?, says-answer}
+use Rattle.terms.specs.Decide.{answer, variable?, share?}
+use Rattle.terms.specs.Slot.{slotIn, inSlot}
+use Rattle.terms.specs.Graph.{free, IsSymbol, made, Valid, Respects, Classes, ClassStep, Clash, Outcome, Finite, Any}
+use Rattle.terms.specs.TermGraph.{rightNodes, variableNodes, rightVariables, home, nodeBy, region, nodeTag, nodeOf, TwoTerms}
 use Rattle.terms.specs.Meetings.{Reduced, AllEqual}
+use Rattle.terms.proofs.AnswerLaws.{says-answer}
+use Rattle.terms.proofs.EntryLaws.{termOf-reads, suffix}
+use Rattle.terms.proofs.SlotLaws.{slot-small, slot-in}
+use Rattle.terms.proofs.RunLaws.{share-alike, alike-share}
+use Rattle.terms.proofs.GraphLaws.{stay, both, second-clash, restate, restate-clash, valued}
+use Rattle.terms.proofs.TermGraphLaws.{values, home-value, side-makes, left-side, right-side}
 
 -- What a valuation puts for the variables from slots on.
 abbrev read : (ℕ → Message) → ℕ → Variable → Message
@@ -37,7 +38,7 @@ read v slots (named s x) = v (slots + slotIn s x)
 -- The valuation of two replacements.
 abbrev given : List ℕ → List ℕ → (Variable → Message) → (Variable → Message) → ℕ → Message
 given s t f g i =
-    region i (replace f (termOf (drop (4 * i) s))) (replace g (termOf (drop (4 * (i - rightNodes)) t))) (third (ltb i rightVariables) (f (inSlot (i - variableNodes))) (g (inSlot (i - rightVariables))))
+    region i (replace f (termOf (drop (4 * i) s))) (replace g (termOf (drop (4 * (i - rightNodes)) t))) (pick (ltb i rightVariables) (f (inSlot (i - variableNodes))) (g (inSlot (i - rightVariables))))
 
 -- A message read as a term, and back.
 unread : (m : Message) → replace (λ (x : Variable). atom 0) (asTerm m) ≡ m
@@ -88,7 +89,7 @@ module _ (s t : List ℕ) (bs : Begins s) (bt : Begins t) (ss : length s ≤ mos
         simp (le-ltb (rightNodes + k) rightNodes (omega arith), lt-ltb (rightNodes + k) variableNodes (omega arith), back)
 
     -- The nodes of the variables lie past the entries'.
-    given-slot : (i : ℕ) → variableNodes ≤ i → given s t f g i ≡ third (ltb i rightVariables) (f (inSlot (i - variableNodes))) (g (inSlot (i - rightVariables)))
+    given-slot : (i : ℕ) → variableNodes ≤ i → given s t f g i ≡ pick (ltb i rightVariables) (f (inSlot (i - variableNodes))) (g (inSlot (i - rightVariables)))
     given-slot i h = simp (le-ltb i rightNodes (omega arith), le-ltb i variableNodes h)
 
     left-variable : (s′ : Sort) (x : ℕ) → x < variables → given s t f g (variableNodes + slotIn s′ x) ≡ f (named s′ x)

@@ -7,24 +7,24 @@ use Prim.Native.Nat.{ℕ, zero, suc, _+_, _*_, _-_, _<_, _≤_}
 use native.Mathlib.Omega.{arith}
 use native.Mathlib.Decide.{ℕ-discrete}
 use lib.Dec.{eqb}
-use borrow.Author.Tests.{eq-eqb, ne-eqb}
 use lib.ListN.{length, getD, set, length-set}
 use lib.Seq.{getD-set-same, getD-set-other}
-use Rattle.terms.specs.Term.{Term, Variable, variable, atom, pair, encrypted, replace}
+use borrow.Author.Tests.{eq-eqb, ne-eqb}
+use Rattle.terms.specs.Term.{Term, variable, atom, pair, encrypted, Variable, replace}
 use Rattle.terms.specs.Instance.{Share}
+use Rattle.terms.specs.Tag.{SymbolTag, childrenOf}
+use Rattle.terms.specs.Entry.{size, termOf, Begins, tagAt, from}
+use Rattle.terms.specs.Decisions.{pick}
 use Rattle.terms.specs.Occurs.{replace-none}
-use Rattle.terms.specs.Tag.{SymbolTag}
-use Rattle.terms.specs.Entry.{Begins, termOf, tagAt, size}
-use Rattle.terms.specs.Tag.{childrenOf}
-use Rattle.terms.specs.EntryLaws.{size-positive}
-use Rattle.terms.specs.WalkLaws.{from, leaf-first}
-use Rattle.terms.specs.Front.{Front, Alike, Ran, Goes, SameFirst}
 use Rattle.terms.specs.Slot.{slotCount, slotOf}
-use Rattle.terms.specs.FrontLaws.{from-from, from-length, front-few, front-begins, parted, alike-term, alike-one, alike-none, alike-other}
-use Rattle.terms.specs.RunLaws.{from-start, tag-from, alike-share}
-use Rattle.terms.specs.MatchLaws.{symbol-slot}
+use Rattle.terms.specs.Front.{Ran, Goes}
 use Rattle.terms.specs.TermGraph.{TwoTerms}
 use Rattle.terms.specs.Meetings.{RootsDiffer, Noted, NotedIn, notedSlot, Distinct, Same, AllSame, Walking, Stops, Reduced}
+use Rattle.terms.proofs.EntryLaws.{size-positive, leaf-first, from-from, from-length}
+use Rattle.terms.proofs.FrontLaws.{front-begins, parted, alike-term, alike-other, front-few}
+use Rattle.terms.proofs.SameLaws.{alike-none, alike-one}
+use Rattle.terms.proofs.MatchLaws.{symbol-slot}
+use Rattle.terms.proofs.RunLaws.{from-start, alike-share, tag-from}
 
 -- Terms whose roots differ are made the same by no replacements.
 pub roots-apart : {s t : List ℕ} → TwoTerms s t → RootsDiffer s t → (by by′ : Variable → Term Variable) → ¬ (replace by (termOf s) ≡ replace by′ (termOf t))
@@ -227,10 +227,6 @@ module _ {s m seen : List ℕ} {k x : ℕ} (w : Seen s m seen k) (is : x ≡ not
       earlier-one j h off = elim (ℕ-discrete j k) [ yes e ↦ absurd (off (rw e (sym is))) | no other ↦ omega arith ]
 
 -- Each variable is replaced by the term that stands opposite.
-abbrev pick : Bool → Term Variable → Term Variable → Term Variable
-pick true u v = u
-pick false u v = v
-
 abbrev opposite : List ℕ → List ℕ → ℕ → Term Variable
 opposite t m k = termOf (from (4 * getD m (64 + k) 0) t)
 

@@ -1,32 +1,38 @@
 -- What is known of a block's term after numbers 7 and 8.
-use mathlib.Core.Path.{_≡_, refl, sym, ap, ap₂, _∙_}
-use mathlib.Core.Bool.{Bool, true, false}
-use mathlib.Core.Logic.{_↔_, _⊎_, inl, inr, ⊎-elim}
+use mathlib.Core.Path.{_≡_, refl, sym, ap, _∙_, ap₂}
 use mathlib.Core.List.{List, [], _∷_, _++_, append-assoc, append-nil}
 use mathlib.Core.Option.{some}
+use mathlib.Core.Bool.{Bool, true, false}
+use mathlib.Core.Logic.{_↔_, ⊎-elim}
 use Prim.Native.Nat.{ℕ, _+_, _*_, _/_, _%_, _<_}
 use native.Mathlib.Omega.{arith}
-use native.Mathlib.Decide.{decLt, decLe}
-use lib.Dec.{ltb}
+use lib.ListN.{getD, length, length-append}
+use lib.Dec.{ltb, eqb}
 use borrow.Author.Tests.{lt-ltb, ltb-true}
-use lib.ListN.{length, getD, length-append}
 use Rattle.blocks.specs.Kinds.{secretKind, goodKind}
 use Rattle.terms.specs.declared.valid.Found.the-variants.{Nothing}
-use Rattle.terms.specs.Term.{Term, Variable, Message, Foreign, variable, atom, pair, encrypted, Sort, plain, marked, named, replace, asTerm}
-use Rattle.terms.specs.Occurs.{Occurs}
-use Rattle.terms.specs.Instance.{Share}
-use Rattle.terms.specs.Proper.{Built, BuiltShare, built-share}
-use Rattle.terms.specs.Tag.{variables, sort-tagged}
-use Rattle.terms.specs.Entry.{Symbol, atomSymbol, pairSymbol, encryptionSymbol, variableSymbol, tagOf, valueOf, symbolOf, numbered, withZero}
-use Rattle.terms.specs.Entry.{entryOf, termEntries, termsOf, termOf, size, Reads, Begins}
-use Rattle.terms.specs.EntryLaws.{First, first-atom, first-pair, first-encrypted, first-variable, first, none≢some, begins}
-use Rattle.terms.specs.EntryLaws.{termOf-reads, never-empty}
-use Rattle.terms.specs.First.{first-none}
-use Rattle.terms.specs.Atom.{Atom, IsKey, isKey?}
-use Rattle.terms.specs.TermEntry.{TagRight, atomEntry, pairEntry, encryptionEntry, variableEntry, MayStand, EntryRight, Asked, asked, rightAt?}
+use Rattle.terms.specs.Term.{Term, variable, atom, pair, encrypted, Message, Sort, plain, marked, Variable, named, replace, asTerm}
+use Rattle.terms.specs.Atom.{Atom, IsKey}
+use Rattle.terms.specs.Tag.{encryptionTag, variables, sort-tagged}
+use Rattle.terms.specs.Entry.{Symbol, atomSymbol, pairSymbol, encryptionSymbol, variableSymbol, tagOf, valueOf, entryOf, termEntries, size, numbered}
+use Rattle.terms.specs.Entry.{symbolOf, withZero, termsOf, termOf, Reads, Begins, tagAt, valueAt}
+use Rattle.terms.specs.Each.{Each, none-left, one-more}
+use Rattle.terms.specs.TermEntry.{MayStand, TagRight, atomEntry, pairEntry, encryptionEntry, variableEntry, EntryRight, Asked, asked, rightAt?}
 use Rattle.terms.specs.TermEntry.{wrongEntry}
-use Rattle.terms.specs.Each.{Each, none-left, one-more, each-of, each-map}
-use Rattle.terms.specs.OneTerm.{Numbered, OneTerm, HasSymbol, AllOf, one-reads, reads-one}
+use Rattle.terms.specs.OneTerm.{Numbered, OneTerm, HasSymbol, IsEncryption}
+use Rattle.terms.specs.Occurs.{Occurs}
+use Rattle.terms.specs.Solve.{Says, says-same}
+use Rattle.terms.specs.Reading.{First, first-atom, first-pair, first-encrypted, first-variable, none≢some, first, never-empty, entriesAll, AllOf}
+use Rattle.terms.specs.Reading.{read-entries, one-reads}
+use Rattle.terms.proofs.AnswerLaws.{says-eq}
+use Rattle.terms.proofs.EntryLaws.{termOf-reads, reads-encrypted, begins, encryption-first}
+use Rattle.terms.proofs.EachLaws.{each-of, each-map}
+use Rattle.terms.proofs.FirstLaws.{first-none}
+
+pub reads-one : {e : List ℕ} {t : Term Variable} → Reads e (t ∷ []) → ((i : ℕ) → getD e i 0 < 256) → OneTerm e
+unfolding AllOf entriesAll
+reads-one {e} {t} r all =
+    let w = read-entries e (t ∷ []) r in record { term = t; numbers = w .numbers .0; is = w .same all ∙ append-nil (termEntries t) }
 
 -- Nothing found: each entry is right.
 pub right-each : (atoms : List Atom) (kind : ℕ) (e : List ℕ) → length e % 4 ≡ 0
@@ -163,25 +169,9 @@ one-whole {e} o =
     let term : termOf e ≡ o .term = termOf-reads (one-reads o) in
     ap (λ (t : Term Variable). 4 * size t) term ∙ sym (entries-length (o .term)) ∙ ap length (sym (o .is))
 
--- Messages over the listed and the foreign atoms alone, with listed keys alone: two right terms share an instance if and
--- only if they share such a one, by such replacements.
-abbrev pub MessageAtom : List Atom → ℕ → Type 0
-MessageAtom atoms a = (a < length atoms) ⊎ Foreign a
-
-message-atom? : (atoms : List Atom) (a : ℕ) → Dec (MessageAtom atoms a)
-message-atom? atoms a = elim (decLt a (length atoms)) [
-  | yes l ↦ yes (inl l)
-  | no n ↦ elim (decLe 1000 a) [ yes h ↦ yes (inr h) | no m ↦ no (λ w. ⊎-elim n m w) ]
-]
-
-message-built : {atoms : List Atom} {kind : ℕ} {t : Term Variable} → TermRight atoms kind t → Built (MessageAtom atoms) (IsKey atoms) t
-unfolding Built
-message-built (atomRight l) = inl l
-message-built (pairRight w v) = (message-built w, message-built v)
-message-built (encryptedRight i w) = (i, message-built w)
-message-built (variableRight l k) = tt
-
-pub message-share : {atoms : List Atom} {i j : ℕ} {s t : Term Variable} → TermRight atoms i s → TermRight atoms j t
-    → Share s t ↔ BuiltShare (MessageAtom atoms) (IsKey atoms) s t
-message-share {atoms} w v =
-    (built-share (message-atom? atoms) (isKey? atoms) 1000 (inr (omega arith)) (message-built w) (message-built v), λ b. b .share)
+-- The root's tag.
+pub encryption-tag : {e : List ℕ} → Begins e → Says (eqb (tagAt e) encryptionTag) (IsEncryption (termOf e))
+encryption-tag {e} w = says-same (eqb (tagAt e) encryptionTag)
+    (λ t. (let f = encryption-first w t in record { key = valueAt e; content = f .content; is = termOf-reads (f .whole) }))
+    (λ r. (let same : w .term ≡ encrypted (r .key) (r .content) = sym (termOf-reads (w .reads)) ∙ r .is in
+    reads-encrypted (rw same at (w .reads)) .0)) (says-eq (tagAt e) encryptionTag)

@@ -1,29 +1,28 @@
 -- Laws of the run of equal symbols with which two terms begin, and of what follows where they then differ.
 use mathlib.Core.Path.{_≡_, refl, sym, ap, _∙_}
 use mathlib.Core.Bool.{Bool, false}
-use mathlib.Core.List.{List, _∷_, map}
+use mathlib.Core.List.{List}
 use mathlib.Core.Logic.{_↔_}
-use Prim.Native.Nat.{ℕ, _+_, _*_, _-_, _<_, _≤_}
+use Prim.Native.Nat.{ℕ, _+_, _*_, _-_, _≤_}
 use native.Mathlib.Omega.{arith}
-use borrow.Rule.Slice.PartAt.{part-to-end}
 use lib.ListN.{length, getD, replicate}
+use borrow.Rule.Slice.PartAt.{part-to-end}
 use Rattle.blocks.specs.Limits.{mostTermBytes}
-use Rattle.terms.specs.Term.{Term, Message, Variable, variable, atom, replace, asTerm}
+use Rattle.terms.specs.Term.{Term, variable, atom, Message, Variable, replace, asTerm}
 use Rattle.terms.specs.Instance.{Matches, Share}
+use Rattle.terms.specs.Tag.{SymbolTag, childrenOf}
+use Rattle.terms.specs.Entry.{termOf, Begins, tagAt, from}
 use Rattle.terms.specs.Occurs.{replace-twice}
-use Rattle.terms.specs.Tag.{SymbolTag}
-use Rattle.terms.specs.Entry.{size, termOf, tagAt, valueAt, Begins}
-use Rattle.terms.specs.Tag.{childrenOf}
-use Rattle.terms.specs.EntryLaws.{size-positive}
-use Rattle.terms.specs.WalkLaws.{from, leaf-first}
 use Rattle.terms.specs.Solve.{Says, says-same}
-use Rattle.terms.specs.Decide.{answer, variable?, term?, match?, says-answer}
+use Rattle.terms.specs.Decide.{answer, variable?, term?, match?}
 use Rattle.terms.specs.Slot.{slotCount}
-use Rattle.terms.specs.Front.{Front, Takes, Alike, Ran, Goes, SameFirst, Ready, Made}
-use Rattle.terms.specs.FrontLaws.{from-from, from-length, front-few, front-begins, parted, opened, next, next-symbol, one-term}
-use Rattle.terms.specs.FrontLaws.{KeepsFirst, alike-symbol, alike-other, alike-one, same-clash}
-use Rattle.terms.specs.MatchLaws.{none-bound, symbol-slot, same-answer}
-use Rattle.terms.specs.TermGraphLaws.{tag-in}
+use Rattle.terms.specs.Front.{Front, Takes, SameFirst, Alike, Ran, Goes, Ready, Made}
+use Rattle.terms.proofs.AnswerLaws.{says-answer}
+use Rattle.terms.proofs.EntryLaws.{from-from, from-length}
+use Rattle.terms.proofs.FrontLaws.{next, front-begins, opened, KeepsFirst, next-symbol, alike-symbol, alike-other, front-few}
+use Rattle.terms.proofs.SameLaws.{one-term, alike-one, same-clash}
+use Rattle.terms.proofs.MatchLaws.{symbol-slot, none-bound, same-answer}
+use Rattle.terms.proofs.TermGraphLaws.{tag-in}
 
 -- Nothing has been compared yet.
 pub from-start : (e : List ℕ) → from (4 * 0) e ≡ e

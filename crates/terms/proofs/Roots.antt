@@ -4,12 +4,13 @@ use mathlib.Core.List.{List, _∷_}
 use Prim.Native.Nat.{ℕ, _≤_}
 use native.Mathlib.Omega.{arith}
 use lib.ListN.{drop}
-use Rattle.terms.specs.Term.{Term, Message, Variable, atom, pair, encrypted, replace}
+use Rattle.terms.specs.Term.{Term, atom, pair, encrypted, Message, Variable, replace}
 use Rattle.terms.specs.Instance.{Share}
 use Rattle.terms.specs.Tag.{SymbolTag}
-use Rattle.terms.specs.Entry.{Begins, termOf, tagAt, valueAt}
-use Rattle.terms.specs.EntryLaws.{First, first, first-atom, first-pair, first-encrypted, first-variable, termOf-reads}
-use Rattle.terms.specs.UniteLaws.{form, number}
+use Rattle.terms.specs.Entry.{termOf, Begins, tagAt, valueAt}
+use Rattle.terms.specs.Reading.{First, first-atom, first-pair, first-encrypted, first-variable, first}
+use Rattle.terms.proofs.EntryLaws.{termOf-reads}
+use Rattle.terms.proofs.ClassLaws.{form, number}
 
 -- Replacing variables leaves a symbol at the root as it is.
 record Root (tag value : ℕ) (t : Term Variable) : Type 0 where

@@ -9,14 +9,15 @@ use lib.ListN.{set}
 use Rattle.terms.specs.declared.classes.How.{How}
 use Rattle.terms.specs.declared.classes.How.the-variants.{Free, Differ, Atoms, Encryptions, Pairs}
 use Rattle.terms.specs.Term.{Message}
-use Rattle.terms.specs.Graph.{Node, Classes, Respects, Outcome}
-use Rattle.terms.specs.GraphLaws.{merge, Any, done, failed, restate, restate-clash}
-use Rattle.terms.specs.TermGraph.{nodeOf, nodeTag, firstChild, secondChild, AtHome}
 use Rattle.terms.specs.Tag.{freeTag}
-use Rattle.terms.specs.TermGraphLaws.{past-tag}
+use Rattle.terms.specs.Graph.{Node, Respects, Classes, Outcome, Any}
+use Rattle.terms.specs.TermGraph.{nodeTag, firstChild, secondChild, nodeOf, AtHome}
+use Rattle.terms.specs.Names.{nameOf, Linked, classCount}
 use Rattle.terms.specs.Meeting.{MeetAs}
-use Rattle.terms.specs.Names.{nameOf, Linked, classCount, classes-of, joined-linked, joined-names, joined-fewer, name-home, name-named}
-use Rattle.terms.specs.UniteLaws.{one-class, free-class, tags-clash, values-clash, equal-atoms, equal-encryptions, equal-pairs}
+use Rattle.terms.proofs.GraphLaws.{merge, restate, restate-clash, done, failed}
+use Rattle.terms.proofs.NodeLaws.{past-tag}
+use Rattle.terms.proofs.NameLaws.{name-named, name-home, classes-of, joined-linked, joined-names, joined-fewer}
+use Rattle.terms.proofs.ClassLaws.{one-class, free-class, tags-clash, values-clash, equal-atoms, equal-encryptions, equal-pairs}
 
 -- The names a and b of two classes, a above b.
 pub record TwoNames (s t c : List ℕ) (a b : ℕ) : Type 0 where

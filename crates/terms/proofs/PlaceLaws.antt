@@ -1,42 +1,12 @@
--- Laws of replacements and places.
-use mathlib.Core.Path.{_≡_, refl, sym, ap, subst, _∙_}
+-- Laws of places.
+use mathlib.Core.Path.{_≡_, refl, _∙_}
 use mathlib.Core.Logic.{_⊎_, inl, inr}
 use mathlib.Core.List.{[], _∷_, _++_, append-assoc, nil≢cons}
 use mathlib.Core.Option.{Option, some, Option·none-ne-some}
 use Prim.Native.Nat.{ℕ}
-use native.Mathlib.Omega.{arith}
-use Rattle.terms.specs.Term.{Term, variable, atom, pair, encrypted, Message, replace, asTerm}
+use Rattle.terms.specs.Term.{Term, variable, atom, pair, encrypted, replace}
 use Rattle.terms.specs.Place.{Turn, left, right, inside, Place, subtermAt, StrictlyAbove, AtOrAbove}
-use Rattle.terms.specs.Instance.{Matches, Share}
-use Rattle.terms.specs.Occurs.{replace-twice}
-
--- Replacements.
-
--- A message holds no variable, so a replacement leaves it as it is.
-pub replace-message : (by : ⊥ → Message) (m : Message) → replace by m ≡ m
-unfolding replace
-replace-message by (variable x) = absurd x
-replace-message by (atom a) = refl
-replace-message by (pair m n) = cc (replace-message by m, replace-message by n)
-replace-message by (encrypted k m) = cc (replace-message by m)
-
-pub replace-asTerm : {X : Type 0} (by : X → Message) (m : Message) → replace by (asTerm m) ≡ m
-unfolding asTerm
-replace-asTerm by m = replace-twice by (λ x. absurd x) m ∙ replace-message (λ x. replace by (absurd x)) m
-
--- What matches a term matches the term's instances.
-pub matches-replace : {X Y Z : Type 0} {pattern : Term X} {t : Term Y} (by : Y → Term Z) → Matches pattern t →
-    Matches pattern (replace by t)
-matches-replace {pattern} by h =
-    record { by = λ x. replace by (h .by x); same = sym (replace-twice by (h .by) pattern) ∙ ap (replace by) (h .same) }
-
--- A pattern shares an instance with what it matches: any instance of that.
-pub matched-shares : {X Y : Type 0} {pattern : Term X} {t : Term Y} → Matches pattern t → Share pattern t
-matched-shares {t = t} h = record {
-  message = replace (λ y. atom 0) t;
-  left = matches-replace (λ y. atom 0) h;
-  right = record { by = λ y. atom 0; same = refl };
-}
+use Rattle.terms.specs.Turns.{by-turns}
 
 -- Places.
 
@@ -57,13 +27,6 @@ beginnings (a ∷ q) (b ∷ h) r s e =
     further : StrictlyAbove h q ⊎ AtOrAbove q h → StrictlyAbove (b ∷ h) (a ∷ q) ⊎ AtOrAbove (a ∷ q) (b ∷ h)
     further (inl x) = inl (record { turn = x .turn; rest = x .rest; split = cc })
     further (inr x) = inr (record { rest = x .rest; split = cc })
-
-pub nothing-above-root : {q : Place} → StrictlyAbove q [] → ⊥
-nothing-above-root {q} x = go q (x .split)
-  where
-    go : (q : Place) → [] ≡ q ++ (x .turn ∷ x .rest) → ⊥
-    go [] e = let z : _≡_ {A = ℕ} 0 1 = cc in omega arith
-    go (a ∷ q) e = let z : _≡_ {A = ℕ} 0 1 = cc in omega arith
 
 -- Further down it still stands above.
 pub strictly-above-below : {q p : Place} (r : Place) → StrictlyAbove q p → StrictlyAbove q (p ++ r)
@@ -88,30 +51,6 @@ strictly-above-from o {q} {p} x =
 
 pub at-or-above-from : (o : Place) {q p : Place} → AtOrAbove (o ++ q) (o ++ p) → AtOrAbove q p
 at-or-above-from o {q} {p} x = record { rest = x .rest; split = append-cancel o (cc (append-assoc o q (x .rest))) }
-
--- What stands at a place.
-
--- To prove something of a place, a term and the subterm there: prove it at the root, and carry it up one turn.
-pub by-turns : {X : Type 0} (P : Place → Term X → Term X → Type 0) →
-    ((t : Term X) → P [] t t) →
-    ((p : Place) (t u s : Term X) → P p t s → P (left ∷ p) (pair t u) s) →
-    ((p : Place) (t u s : Term X) → P p u s → P (right ∷ p) (pair t u) s) →
-    ((p : Place) (k : ℕ) (t s : Term X) → P p t s → P (inside ∷ p) (encrypted k t) s) →
-    (p : Place) (t : Term X) {s : Term X} → subtermAt p t ≡ some s → P p t s
-unfolding subtermAt
-by-turns P root l r i [] t {s} e = let same : t ≡ s = cc in subst (P [] t) same (root t)
-by-turns P root l r i (left ∷ p) (pair t u) {s} e = l p t u s (by-turns P root l r i p t e)
-by-turns P root l r i (right ∷ p) (pair t u) {s} e = r p t u s (by-turns P root l r i p u e)
-by-turns P root l r i (inside ∷ p) (encrypted k t) {s} e = i p k t s (by-turns P root l r i p t e)
-by-turns P root l r i (left ∷ p) (variable x) {s} e = absurd (Option·none-ne-some s e)
-by-turns P root l r i (left ∷ p) (atom a) {s} e = absurd (Option·none-ne-some s e)
-by-turns P root l r i (left ∷ p) (encrypted k t) {s} e = absurd (Option·none-ne-some s e)
-by-turns P root l r i (right ∷ p) (variable x) {s} e = absurd (Option·none-ne-some s e)
-by-turns P root l r i (right ∷ p) (atom a) {s} e = absurd (Option·none-ne-some s e)
-by-turns P root l r i (right ∷ p) (encrypted k t) {s} e = absurd (Option·none-ne-some s e)
-by-turns P root l r i (inside ∷ p) (variable x) {s} e = absurd (Option·none-ne-some s e)
-by-turns P root l r i (inside ∷ p) (atom a) {s} e = absurd (Option·none-ne-some s e)
-by-turns P root l r i (inside ∷ p) (pair t u) {s} e = absurd (Option·none-ne-some s e)
 
 pub subtermAt-append : {X : Type 0} (q r : Place) (t : Term X) {u : Term X} → subtermAt q t ≡ some u →
     subtermAt (q ++ r) t ≡ subtermAt r u

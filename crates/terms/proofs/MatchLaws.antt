@@ -1,29 +1,29 @@
 -- Laws of matching by a walk over the pattern's entries left: slots of variables, bindings, and a step for each branch.
 use mathlib.Core.Path.{_≡_, refl, sym, ap, _∙_}
-use mathlib.Core.Bool.{Bool, true, false, not}
+use mathlib.Core.Bool.{Bool, true, false}
 use mathlib.Core.List.{List, _∷_}
 use mathlib.Core.Logic.{_↔_}
 use Prim.Native.Nat.{ℕ, _+_, _*_, _-_, _<_, _≤_}
 use native.Mathlib.Omega.{arith}
 use native.Mathlib.Decide.{ℕ-discrete}
-use lib.Dec.{ltb}
-use borrow.Author.Tests.{lt-ltb, le-ltb, ltb-false}
 use lib.ListN.{length, getD, set, drop, replicate, getD-replicate}
 use lib.Seq.{getD-set-same, getD-set-other}
 use borrow.Rule.Slice.PartAt.{part-to-end}
 use Rattle.blocks.specs.Limits.{mostTermBytes}
-use Rattle.terms.specs.Term.{Term, Variable, Sort, variable, atom, pair, encrypted, plain, marked, named, replace}
-use Rattle.terms.specs.Tag.{plainTag, markedTag, sortTag, variables, SymbolTag, childrenOf}
-use Rattle.terms.specs.Slot.{slotCount, slotIn, slotOf, inSlot, slot-in, slot-of-slot}
+use Rattle.terms.specs.Term.{Term, variable, atom, pair, encrypted, Sort, plain, marked, Variable, named, replace}
 use Rattle.terms.specs.Instance.{Matches}
-use Rattle.terms.specs.Entry.{termOf, tagAt, valueAt, size, Begins}
-use Rattle.terms.specs.EntryLaws.{First, first-atom, first-pair, first-encrypted, first-variable, first, termOf-reads, fits}
-use Rattle.terms.specs.WalkLaws.{from}
+use Rattle.terms.specs.Tag.{plainTag, markedTag, sortTag, variables, SymbolTag, childrenOf}
+use Rattle.terms.specs.Entry.{size, termOf, Begins, tagAt, valueAt, from}
 use Rattle.terms.specs.Solve.{Says, says-same}
-use Rattle.terms.specs.Decide.{answer, yes-of, no-of, says-answer, variable?, term?, match?}
-use Rattle.terms.specs.Front.{Front, Takes, Bound, Agrees, SameFirst, Comparable, Bindable, Ready, Made}
-use Rattle.terms.specs.FrontLaws.{from-from, from-length, front-begins, parted, opened, next, next-term, next-symbol, other-symbol, KeepsFirst}
-use Rattle.terms.specs.FrontLaws.{none-left, front-few, one-term, same-term}
+use Rattle.terms.specs.Decide.{answer, variable?, term?, match?}
+use Rattle.terms.specs.Reading.{First, first-atom, first-pair, first-encrypted, first-variable, first}
+use Rattle.terms.specs.Slot.{slotCount, slotIn, slotOf, inSlot}
+use Rattle.terms.specs.Front.{Front, Takes, SameFirst, Bound, Agrees, Comparable, Bindable, Ready, Made}
+use Rattle.terms.proofs.AnswerLaws.{yes-of, no-of, says-answer}
+use Rattle.terms.proofs.EntryLaws.{termOf-reads, fits, from-from, from-length}
+use Rattle.terms.proofs.SlotLaws.{slot-in, slot-of-slot}
+use Rattle.terms.proofs.FrontLaws.{next, front-begins, opened, parted, KeepsFirst, next-term, next-symbol, other-symbol, none-left, front-few}
+use Rattle.terms.proofs.SameLaws.{one-term, same-term}
 
 -- The slot of a term that stands first, by its tag and value.
 pub record Slotted (tag n : ℕ) (t : Term Variable) : Type 0 where

@@ -6,16 +6,13 @@ use Prim.Native.Nat.{ℕ, _<_}
 use native.Mathlib.Omega.{arith}
 use lib.Dec.{eqb}
 use borrow.Author.Tests.{eqb-true, eqb-false, eq-eqb, ne-eqb}
-use Rattle.terms.specs.Term.{Message, atom, pair, encrypted}
+use Rattle.terms.specs.Term.{atom, pair, encrypted, Message}
 use Rattle.terms.specs.Entry.{size}
+use Rattle.terms.specs.Decisions.{pick}
 use Rattle.terms.specs.Graph.{Node, free, atomNode, pairNode, encryptionNode, IsSymbol, made, Child, Valid, Respects, ClosedFor, Classes, ClassStep}
-use Rattle.terms.specs.Graph.{Clash, Outcome, Finite, finite}
+use Rattle.terms.specs.Graph.{Clash, Outcome, Finite, finite, Any}
 
 -- a is renamed to b.
-abbrev pub pick : Bool → ℕ → ℕ → ℕ
-pick true b x = b
-pick false b x = x
-
 unfoldable pub rename : ℕ → ℕ → ℕ → ℕ
 rename a b x = pick (eqb x a) b x
 
@@ -128,9 +125,6 @@ done s = record { stepped = λ e. s; clashed = λ e. absurd (true≢false e) }
 pub failed : {node : ℕ → Node} {Q : (ℕ → Message) → Type 0} {name next : ℕ → ℕ} {P : (ℕ → Message) → Type 0} → Clash node name P
     → Outcome node Q name next P false
 failed c = record { stepped = λ e. absurd (false≢true e); clashed = λ e. c }
-
-abbrev pub Any : (ℕ → Message) → Type 0
-Any v = Unit {0}
 
 -- Uniting the classes of i and j.
 module _ (node : ℕ → Node) (name : ℕ → ℕ) (cs : Classes node name) (i j : ℕ) where

@@ -1,4 +1,4 @@
--- Places and entries: entry k of a term's entries stands at its k-th place.
+-- Places and their entries: which entry a place stands at, and what begins there.
 use mathlib.Core.Path.{_≡_, refl, sym, ap, _∙_}
 use mathlib.Core.Bool.{true, false}
 use mathlib.Core.List.{List, [], _∷_, _++_, map, nil≢cons}
@@ -8,38 +8,16 @@ use Prim.Native.Nat.{ℕ, zero, suc, _+_, _*_, _-_, _<_, _≤_}
 use native.Mathlib.Omega.{arith}
 use native.Mathlib.Decide.{decLt}
 use lib.Dec.{ltb}
-use borrow.Author.Tests.{lt-ltb, le-ltb}
-use borrow.Rule.Slice.PartAt.{part-to-end}
 use lib.ListN.{length, getD, getElem?, drop, length-append, length-map}
 use lib.Seq.{drop-drop}
-use Rattle.terms.specs.Term.{Term, Variable, variable, atom, pair, encrypted}
-use Rattle.terms.specs.Place.{Turn, left, right, inside, Place, subtermAt, StrictlyAbove, AtOrAbove}
-use Rattle.terms.specs.Entry.{size, termOf, Reads, Begins}
-use Rattle.terms.specs.EntryLaws.{reads-pair, reads-encrypted, past, size-positive, termOf-reads, begins}
-use Rattle.terms.specs.WalkLaws.{from}
-use Rattle.terms.specs.Laws.{by-turns, subtermAt-append}
-use Rattle.terms.specs.Place.{Spot, spots}
-
--- The number of the entry at which a place of the term stands: parents before children, left before right.
-unfoldable pub entryAt : {X : Type 0} → Place → Term X → ℕ
-entryAt [] t = 0
-entryAt (left ∷ p) (pair t u) = suc (entryAt p t)
-entryAt (right ∷ p) (pair t u) = suc (size t + entryAt p u)
-entryAt (inside ∷ p) (encrypted k t) = suc (entryAt p t)
-entryAt (left ∷ p) (variable x) = 0
-entryAt (left ∷ p) (atom a) = 0
-entryAt (left ∷ p) (encrypted k t) = 0
-entryAt (right ∷ p) (variable x) = 0
-entryAt (right ∷ p) (atom a) = 0
-entryAt (right ∷ p) (encrypted k t) = 0
-entryAt (inside ∷ p) (variable x) = 0
-entryAt (inside ∷ p) (atom a) = 0
-entryAt (inside ∷ p) (pair t u) = 0
-
--- Entry k of the term stands at this place, and this subterm begins there.
-pub record Placed {X : Type 0} (t : Term X) (k : ℕ) (place : Place) (subterm : Term X) : Type 0 where
-  pub stands : subtermAt place t ≡ some subterm
-  pub number : entryAt place t ≡ k
+use borrow.Author.Tests.{lt-ltb, le-ltb}
+use borrow.Rule.Slice.PartAt.{part-to-end}
+use Rattle.terms.specs.Term.{Term, variable, atom, pair, encrypted, Variable}
+use Rattle.terms.specs.Place.{Turn, left, right, inside, Place, subtermAt, StrictlyAbove, AtOrAbove, Spot, spots}
+use Rattle.terms.specs.Entry.{size, termOf, Reads, Begins, entryAt, Placed, from}
+use Rattle.terms.specs.Turns.{by-turns}
+use Rattle.terms.proofs.PlaceLaws.{subtermAt-append}
+use Rattle.terms.proofs.EntryLaws.{termOf-reads, reads-pair, reads-encrypted, past, size-positive, begins}
 
 -- Every place has its entry.
 pub placed : {X : Type 0} (p : Place) (t : Term X) {s : Term X} → subtermAt p t ≡ some s → Placed t (entryAt p t) p s

@@ -1,33 +1,20 @@
 -- Laws of the first terms of entries: what one entry, and what one term, says of them.
 use mathlib.Core.Path.{_≡_, refl, sym, ap, _∙_, ap₂}
-use mathlib.Core.Bool.{Bool, true, false}
 use mathlib.Core.List.{List, [], _∷_, map}
 use mathlib.Core.Option.{Option, none, some}
 use mathlib.Core.Logic.{_↔_}
 use Prim.Native.Nat.{ℕ, zero, suc, _+_, _*_, _-_, _≤_}
 use native.Mathlib.Omega.{arith}
-use lib.Dec.{eqb}
-use borrow.Author.Tests.{eqb-true, eqb-false}
 use lib.ListN.{length, take, drop, length-drop}
-use lib.Seq.{drop-drop}
 use borrow.Rule.Slice.PartAt.{part-to-end}
-use Rattle.terms.specs.Term.{Term, Variable, variable, atom, pair, encrypted, named, replace}
-use Rattle.terms.specs.Entry.{Symbol, atomSymbol, pairSymbol, encryptionSymbol, variableSymbol, tagOf, valueOf, before, termOf, tagAt, valueAt}
-use Rattle.terms.specs.Entry.{size, Reads, Begins}
-use Rattle.terms.specs.Tag.{Tagged, isAtom, isPair, isEncryption, isVariable, isNone, tagged, sort-tagged, sort-childless, childrenOf}
-use Rattle.terms.specs.EntryLaws.{First, first-atom, first-pair, first-encrypted, first-variable, first, none≢some, termOf-reads}
-use Rattle.terms.specs.EntryLaws.{past, fits, begins, size-positive, zero-byte}
-use Rattle.terms.specs.WalkLaws.{from}
-use Rattle.terms.specs.Occurs.{replace-none}
-use Rattle.terms.specs.Solve.{Says, says-same}
-use Rattle.terms.specs.Front.{Alike, Word, frontOf, listOf, SameFirst, Front, Takes}
-
--- A part's part is a part.
-pub from-from : (a b : ℕ) (e : List ℕ) → from a (from b e) ≡ from (b + a) e
-from-from a b e = rw (part-to-end, part-to-end, part-to-end, drop-drop)
-
-pub from-length : (n : ℕ) (e : List ℕ) → length (from n e) ≡ length e - n
-from-length n e = rw part-to-end (length-drop n e)
+use Rattle.terms.specs.Term.{Term, variable, atom, pair, encrypted, Variable, named, replace}
+use Rattle.terms.specs.Tag.{Tagged, isAtom, isPair, isEncryption, isVariable, isNone, tagged, childrenOf, sort-tagged}
+use Rattle.terms.specs.Entry.{Symbol, atomSymbol, pairSymbol, encryptionSymbol, variableSymbol, tagOf, valueOf, size, before, termOf, Reads, Begins}
+use Rattle.terms.specs.Entry.{tagAt, valueAt, from}
+use Rattle.terms.specs.Reading.{First, first-atom, first-pair, first-encrypted, first-variable, none≢some, first}
+use Rattle.terms.specs.Front.{listOf, frontOf, Front, Takes, SameFirst, Alike}
+use Rattle.terms.proofs.TagLaws.{sort-childless}
+use Rattle.terms.proofs.EntryLaws.{termOf-reads, past, fits, size-positive, begins}
 
 -- A symbol is known by its tag and its value.
 symbolFor : {tag : ℕ} → Tagged tag → ℕ → Symbol
@@ -272,63 +259,3 @@ none-left by e f is = record { same = rw is refl }
 -- The first term, where the entries begin with one.
 pub front-few : {n : ℕ} {e : List ℕ} → Begins e → n ≤ 1 → Front n e
 front-few b few = front (b .reads) (omega arith)
-
--- One term against one.
-pub one-term : {e f : List ℕ} → Begins e → Begins f → (by : Variable → Term Variable) → Takes by 1 e f ↔ (replace by (termOf e) ≡ termOf f)
-one-term b d by =
-    let n = next-term 1 (front-few b (omega arith)) (front-few d (omega arith)) (omega arith) by in
-    (λ h. n .0 h .0, λ h. n .1 (h, none-left by _ _ refl))
-
--- One term against one, with replacements on both sides.
-pub alike-none : (by by′ : Variable → Term Variable) (e f : List ℕ) {need : ℕ} → need ≡ 0 → Alike by by′ need e f
-unfolding frontOf
-alike-none by by′ e f is = record { same = rw is refl }
-
-pub alike-one : {e f : List ℕ} → Begins e → Begins f → (by by′ : Variable → Term Variable) → Alike by by′ 1 e f ↔ (replace by (termOf e) ≡ replace by′ (termOf f))
-alike-one b d by by′ =
-    let n = alike-term 1 (front-few b (omega arith)) (front-few d (omega arith)) (omega arith) by by′ in
-    (λ h. n .0 h .0, λ h. n .1 (h, alike-none by by′ _ _ refl))
-
--- Each variable replaced by itself: the terms are the same.
-pub same-term : {e f : List ℕ} → Begins e → Begins f → Takes variable 1 e f ↔ (termOf e ≡ termOf f)
-same-term {e} b d =
-    let n = one-term b d variable in
-    (λ h. sym (replace-none (termOf e)) ∙ n .0 h, λ h. n .1 (replace-none (termOf e) ∙ h))
-
--- Entries of terms are the same if they are the same number: their second bytes are zero.
-pub same-word : {e f : List ℕ} → Begins e → Begins f → (a b : ℕ) → Word e a → Word f b → Says (eqb a b) (SameFirst e f)
-same-word {e} {f} b d m n p q = go (eqb m n) refl
-  where
-    left : m ≡ tagAt e + 65536 * valueAt e
-    left = omega (arith, p .is, zero-byte (b .reads))
-
-    right : n ≡ tagAt f + 65536 * valueAt f
-    right = omega (arith, q .is, zero-byte (d .reads))
-
-    go : (c : Bool) → eqb m n ≡ c → Says c (SameFirst e f)
-    go true h = let is = eqb-true m n h in record { tag = omega (arith, p .low, q .low, left, right); value = omega (arith, p .low, q .low, left, right) }
-    go false h = λ is. let tag = is .tag in let value = is .value in eqb-false m n h (omega (arith, left, right))
-
--- What an answer says.
-pub said : {P : Type 0} {b : Bool} → b ≡ true → Says b P → P
-said {P} {b} is h = rw is at h
-
-pub denied : {P : Type 0} {b : Bool} → b ≡ false → Says b P → ¬ P
-denied {P} {b} is h = rw is at h
-
--- The steps of the walk that tells whether terms are the same; k is the number of the first entry's children.
-module _ {need : ℕ} {e f : List ℕ} (ready : Front need e × Front need f) (some-left : ¬ (need ≡ 0)) where
-  pub same-below : SameFirst e f → {k : ℕ} → k ≡ childrenOf (tagAt e) → Front (need - 1 + k) (from 4 e) × Front (need - 1 + k) (from 4 f)
-  same-below first-same is = (
-    rw is (opened need (ready .0) some-left .below),
-    rw (is, first-same .tag) (opened need (ready .1) some-left .below),
-  )
-
-  pub same-step : SameFirst e f → {k : ℕ} → k ≡ childrenOf (tagAt e) → (b : Bool) → Says b (Takes variable (need - 1 + k) (from 4 e) (from 4 f))
-      → Says b (Takes variable need e f)
-  same-step first-same {k} is b says =
-      let step = next-symbol need (ready .0) (ready .1) some-left variable (λ x h. refl) first-same in
-      says-same b (step .1) (step .0) (rw is at says)
-
-  pub same-clash : ¬ SameFirst e f → ¬ Takes variable need e f
-  same-clash = other-symbol need (ready .0) (ready .1) some-left variable (λ x h. refl)

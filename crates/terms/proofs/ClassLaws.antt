@@ -2,12 +2,15 @@
 use mathlib.Core.Path.{_≡_, refl, sym, ap, ap₂, _∙_, subst}
 use mathlib.Core.Bool.{Bool, true, false, true≢false, false≢true}
 use mathlib.Core.List.{List}
-use Prim.Native.Nat.{ℕ, zero, suc}
-use Rattle.terms.specs.Term.{Message, variable, atom, pair, encrypted}
-use Rattle.terms.specs.Graph.{atomNode, pairNode, encryptionNode, IsSymbol, made, Valid, Classes, ClassStep, Clash, Outcome}
-use Rattle.terms.specs.GraphLaws.{merge, Any, done, stay, already, united, united-clash, apart-clash, united-classes}
-use Rattle.terms.specs.TermGraph.{nodeTag, nodeValue, firstChild, secondChild, nodeFor, nodeBy, nodeOf}
+use Prim.Native.Nat.{ℕ, _<_}
+use native.Mathlib.Omega.{arith}
+use Rattle.terms.specs.Term.{variable, atom, pair, encrypted, Message}
 use Rattle.terms.specs.Tag.{atomTag, pairTag, encryptionTag, Tagged, isAtom, isPair, isEncryption, isVariable, isNone, tagged, freeBy, freeTag}
+use Rattle.terms.specs.Graph.{atomNode, pairNode, encryptionNode, IsSymbol, made, Valid, Classes, ClassStep, Clash, Outcome, Any}
+use Rattle.terms.specs.TermGraph.{variableNodes, nodeFor, nodeBy, nodeTag, nodeValue, firstChild, secondChild, nodeOf, AtHome}
+use Rattle.terms.specs.Meeting.{Symbols}
+use Rattle.terms.proofs.GraphLaws.{merge, stay, done, already, united, united-clash, apart-clash, united-classes}
+use Rattle.terms.proofs.NodeLaws.{home-symbol}
 
 module _ (s t : List ℕ) where
   -- What stands at a node, by its tag.
@@ -190,3 +193,8 @@ module _ (s t : List ℕ) (name : ℕ → ℕ) (cs : Classes (nodeOf s t) name) 
           (λ v x e. let q : pair (v (firstChild s t a)) (v (secondChild s t a)) ≡ pair (v (firstChild s t b)) (v (secondChild s t b)) =
           sym (ap (made v) first) ∙ both-make v x e ∙ ap (made v) second in (cc, cc))
           (λ v p is. ap (made v) first ∙ ap₂ pair (p .0) (p .1) ∙ sym (ap (made v) second)) o
+
+-- Where a is no variable's node, neither is b.
+pub both-symbols : {s t : List ℕ} {a b : ℕ} → AtHome s t a → AtHome s t b → b < a → a < variableNodes → Symbols s t a b
+both-symbols {s} {t} {a} {b} first second above low =
+    record { left = symbol-tag s t a (home-symbol first low); right = symbol-tag s t b (home-symbol second (omega arith)) }

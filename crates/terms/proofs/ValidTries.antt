@@ -7,7 +7,7 @@ use Rattle.terms.specs.declared.valid.Found.the-variants.{At, Nothing}
 use Rattle.terms.specs.Atom.{atomsOf, wrongAtom}
 use Rattle.terms.specs.TermEntry.{wrongEntry}
 use Rattle.terms.specs.Decide.{answer}
-use Rattle.terms.specs.OneTerm.{oneTerm?}
+use Rattle.terms.specs.Reading.{oneTerm?}
 
 entry : ℕ → ℕ → ℕ → List ℕ
 entry a b n = a ∷ b ∷ n % 256 ∷ n / 256 ∷ []

@@ -1,7 +1,7 @@
 -- Worked cases of matching and sharing, by computation.
 use mathlib.Core.Path.{_≡_, refl}
 use mathlib.Core.Bool.{Bool, true, false}
-use Rattle.terms.specs.Term.{Term, variable, atom, pair, encrypted, Variable, plain, marked, named}
+use Rattle.terms.specs.Term.{Term, variable, atom, pair, encrypted, plain, marked, Variable, named}
 use Rattle.terms.specs.Decide.{answer, variable?, term?, match?, share?}
 
 -- x, y and x′ of the cases.

@@ -1,115 +1,16 @@
 -- Laws of entries: what stands first, and what is left after it.
-use mathlib.Core.Path.{_≡_, refl, ap}
-use mathlib.Core.Bool.{Bool, true, false}
+use mathlib.Core.Path.{_≡_, refl, ap, _∙_}
 use mathlib.Core.List.{List, [], _∷_}
-use mathlib.Core.Option.{Option, none, some}
-use Prim.Native.Nat.{ℕ, zero, suc, _+_, _*_, _<_, _≤_}
+use mathlib.Core.Option.{some}
+use Prim.Native.Nat.{ℕ, zero, suc, _+_, _*_, _<_, _≤_, _-_}
 use native.Mathlib.Omega.{arith}
-use lib.Dec.{ltb}
-use borrow.Author.Tests.{ltb-true}
 use lib.ListN.{getD, length, drop, length-drop}
 use lib.Seq.{drop-drop}
-use Rattle.terms.specs.Term.{Term, Variable, Sort, variable, atom, pair, encrypted, named}
-use Rattle.terms.specs.Tag.{pairTag, encryptionTag, sortTag, variables, Tagged, isAtom, isPair, isEncryption, isVariable, isNone, tagged, childrenBy, childrenOf}
-use Rattle.terms.specs.Tag.{atomTag, VariableTag, sort-tag}
-use Rattle.terms.specs.Entry.{Symbol, atomSymbol, pairSymbol, encryptionSymbol, variableSymbol, symbolBy, symbolOf, numbered, before, beforeAll}
-use Rattle.terms.specs.Entry.{withZero, termsOf, termOf, firstOf, tagAt, valueAt, size, Reads, Begins}
-
--- Any other tag than a pair's and an encryption's has no children.
-pub no-children : (tag : ℕ) → (tag ≡ pairTag → ⊥) → (tag ≡ encryptionTag → ⊥) → 0 ≡ childrenOf tag
-unfolding childrenOf
-no-children tag off off′ = go (tagged tag)
-  where
-    go : (w : Tagged tag) → 0 ≡ childrenBy w
-    go (isAtom e) = refl
-    go (isPair e) = absurd (off e)
-    go (isEncryption e) = absurd (off′ e)
-    go (isVariable s e) = refl
-    go (isNone e) = refl
-
-pub two-children : {tag : ℕ} → tag ≡ pairTag → 2 ≡ childrenOf tag
-unfolding childrenOf
-two-children e = rw e refl
-
-pub one-child : {tag : ℕ} → tag ≡ encryptionTag → 1 ≡ childrenOf tag
-unfolding childrenOf
-one-child e = rw e refl
-
--- The entry of this tag and value, before these entries, makes these terms.
-pub data First (tag n : ℕ) (rest : List ℕ) (l : List (Term Variable)) : Type 0 where
-  first-atom : {m : List (Term Variable)} → tag ≡ atomTag → l ≡ atom n ∷ m → Reads rest m → First tag n rest l
-  first-pair : {t u : Term Variable} {m : List (Term Variable)} → tag ≡ pairTag → n ≡ 0 → l ≡ pair t u ∷ m → Reads rest (t ∷ u ∷ m) → First tag n rest l
-  first-encrypted : {t : Term Variable} {m : List (Term Variable)} → tag ≡ encryptionTag → l ≡ encrypted n t ∷ m → Reads rest (t ∷ m) → First tag n rest l
-  first-variable : {s : Sort} {m : List (Term Variable)} → tag ≡ sortTag s → VariableTag tag → n < variables → l ≡ variable (named s n) ∷ m
-      → Reads rest m → First tag n rest l
-
-pub none≢some : {A : Type 0} (x : A) → none ≡ some x → ⊥
-none≢some x e = let z : _≡_ {A = ℕ} 0 1 = cc in omega arith
-
-module _ (rest : List ℕ) (l : List (Term Variable)) {tag : ℕ} where
-  atomCase : tag ≡ atomTag → (n : ℕ) (o : Option (List (Term Variable))) → termsOf rest ≡ o → beforeAll (some (atomSymbol n)) o ≡ some l → First tag n rest l
-  unfolding beforeAll before
-  atomCase g n none q r = absurd (none≢some _ r)
-  atomCase g n (some m) q r = first-atom {m = m} g (cc) (record { is = q })
-
-  pairCase : tag ≡ pairTag → (o : Option (List (Term Variable))) → termsOf rest ≡ o → beforeAll (some pairSymbol) o ≡ some l → First tag 0 rest l
-  unfolding beforeAll before
-  pairCase g none q r = absurd (none≢some _ r)
-  pairCase g (some []) q r = absurd (none≢some _ r)
-  pairCase g (some (t ∷ [])) q r = absurd (none≢some _ r)
-  pairCase g (some (t ∷ u ∷ m)) q r = first-pair {t = t} {u = u} {m = m} g refl (cc) (record { is = q })
-
-  encryptedCase : tag ≡ encryptionTag → (n : ℕ) (o : Option (List (Term Variable))) → termsOf rest ≡ o → beforeAll (some (encryptionSymbol n)) o ≡ some l
-      → First tag n rest l
-  unfolding beforeAll before
-  encryptedCase g n none q r = absurd (none≢some _ r)
-  encryptedCase g n (some []) q r = absurd (none≢some _ r)
-  encryptedCase g n (some (t ∷ m)) q r = first-encrypted {t = t} {m = m} g (cc) (record { is = q })
-
-  variableCase : (s : Sort) → tag ≡ sortTag s → (n : ℕ) (b : Bool) (o : Option (List (Term Variable))) → termsOf rest ≡ o → ltb n variables ≡ b
-      → beforeAll (numbered b (named s n)) o ≡ some l → First tag n rest l
-  unfolding beforeAll before
-  variableCase s g n false o q b r = absurd (none≢some _ r)
-  variableCase s g n true none q b r = absurd (none≢some _ r)
-  variableCase s g n true (some m) q b r = first-variable {s = s} {m = m} g (sort-tag s g) (ltb-true n variables b) (cc) (record { is = q })
-
-  fromSymbol : (n : ℕ) → beforeAll (symbolOf tag n) (termsOf rest) ≡ some l → First tag n rest l
-  unfolding symbolOf beforeAll
-  fromSymbol n r = go (tagged tag) n r
-    where
-      go : (w : Tagged tag) (n : ℕ) → beforeAll (symbolBy w n) (termsOf rest) ≡ some l → First tag n rest l
-      go (isAtom e) n r = atomCase e n (termsOf rest) refl r
-      go (isPair e) zero r = pairCase e (termsOf rest) refl r
-      go (isPair e) (suc n) r = absurd (none≢some _ r)
-      go (isEncryption e) n r = encryptedCase e n (termsOf rest) refl r
-      go (isVariable s e) n r = variableCase s e n (ltb n variables) (termsOf rest) refl refl r
-      go (isNone e) n r = absurd (none≢some _ r)
-
-  fromEntry : (z n : ℕ) → beforeAll (withZero z (symbolOf tag n)) (termsOf rest) ≡ some l → First tag n rest l
-  unfolding withZero beforeAll
-  fromEntry zero n r = fromSymbol n r
-  fromEntry (suc z) n r = absurd (none≢some _ r)
-
-nothing-read : {A : Type 0} {t : Term Variable} {l : List (Term Variable)} → some [] ≡ some (t ∷ l) → A
-nothing-read r = let z : _≡_ {A = ℕ} 0 1 = cc in absurd (omega arith)
-
--- Entries that begin with a term have a first entry, and what is left after it are terms again.
-pub first : {e : List ℕ} {t : Term Variable} {l : List (Term Variable)} → Reads e (t ∷ l) → First (tagAt e) (valueAt e) (drop 4 e) (t ∷ l)
-unfolding termsOf
-first {e} {t} {l} r = go e (r .is)
-  where
-    go : (e : List ℕ) → termsOf e ≡ some (t ∷ l) → First (tagAt e) (valueAt e) (drop 4 e) (t ∷ l)
-    go [] r = nothing-read r
-    go (a ∷ []) r = absurd (none≢some _ r)
-    go (a ∷ b ∷ []) r = absurd (none≢some _ r)
-    go (a ∷ b ∷ c ∷ []) r = absurd (none≢some _ r)
-    go (a ∷ b ∷ c ∷ d ∷ e) r = fromEntry e (t ∷ l) b (c + 256 * d) r
-
--- The second byte of an entry is zero.
-pub entry-zero : {r : List (Term Variable)} (z : ℕ) (s : Option Symbol) (o : Option (List (Term Variable))) → beforeAll (withZero z s) o ≡ some r → z ≡ 0
-unfolding withZero beforeAll
-entry-zero zero s o r = refl
-entry-zero (suc z) s o r = absurd (none≢some _ r)
+use borrow.Rule.Slice.PartAt.{part-to-end}
+use Rattle.terms.specs.Term.{Term, variable, atom, pair, encrypted, Sort, Variable, named}
+use Rattle.terms.specs.Tag.{atomTag, pairTag, encryptionTag, sortTag, variables}
+use Rattle.terms.specs.Entry.{size, symbolOf, withZero, termsOf, firstOf, termOf, Reads, Begins, tagAt, valueAt, from}
+use Rattle.terms.specs.Reading.{First, first-atom, first-pair, first-encrypted, first-variable, none≢some, nothing-read, first, entry-zero, never-empty}
 
 pub zero-byte : {e : List ℕ} {t : Term Variable} {l : List (Term Variable)} → Reads e (t ∷ l) → getD e 1 0 ≡ 0
 unfolding termsOf
@@ -232,19 +133,6 @@ rest-reads {e} {t} {l} r = go (first r)
     go (first-encrypted {t} {m} g q k) = (t ∷ m, k)
     go (first-variable {m = m} g v n q k) = (m, k)
 
--- An entry makes at least one term.
-pub never-empty : (s : Option Symbol) (o : Option (List (Term Variable))) → beforeAll s o ≡ some [] → ⊥
-unfolding beforeAll before
-never-empty none o r = none≢some _ r
-never-empty (some s) none r = none≢some _ r
-never-empty (some (atomSymbol a)) (some l) r = let z : _≡_ {A = ℕ} 0 1 = cc in omega arith
-never-empty (some (variableSymbol x)) (some l) r = let z : _≡_ {A = ℕ} 0 1 = cc in omega arith
-never-empty (some pairSymbol) (some []) r = none≢some _ r
-never-empty (some pairSymbol) (some (t ∷ [])) r = none≢some _ r
-never-empty (some pairSymbol) (some (t ∷ u ∷ l)) r = let z : _≡_ {A = ℕ} 0 1 = cc in omega arith
-never-empty (some (encryptionSymbol k)) (some []) r = none≢some _ r
-never-empty (some (encryptionSymbol k)) (some (t ∷ l)) r = let z : _≡_ {A = ℕ} 0 1 = cc in omega arith
-
 -- Entries that are no terms at all are no entries.
 no-terms : (e : List ℕ) → Reads e [] → 0 < length e → ⊥
 unfolding termsOf
@@ -268,3 +156,86 @@ suffix (suc k) {e} b h =
     let far : 4 * k < length (drop 4 e) = omega (arith, length-drop 4 e) in
     let there : 4 + 4 * k ≡ 4 * suc k = omega arith in
     rw (drop-drop, there) at (suffix k rest far)
+
+-- A pair stands first.
+pub record PairFirst (e : List ℕ) : Type 0 where
+  pub left : Term Variable
+  pub right : Term Variable
+  pub others : List (Term Variable)
+  pub whole : Reads e (pair left right ∷ others)
+  pub below : Reads (from 4 e) (left ∷ right ∷ others)
+
+pub pair-first : {e : List ℕ} → Begins e → tagAt e ≡ pairTag → PairFirst e
+pair-first {e} b is = go (first (b .reads))
+  where
+    go : First (tagAt e) (valueAt e) (drop 4 e) (b .term ∷ b .others) → PairFirst e
+    go (first-pair {t} {u} {m} g n q k) = record { left = t; right = u; others = m; whole = rw q at (b .reads); below = rw part-to-end k }
+    go (first-atom g q k) = absurd (omega arith)
+    go (first-encrypted g q k) = absurd (omega arith)
+    go (first-variable g v n q k) = absurd (omega arith)
+
+-- An encryption stands first.
+pub record EncryptionFirst (e : List ℕ) : Type 0 where
+  pub content : Term Variable
+  pub others : List (Term Variable)
+  pub whole : Reads e (encrypted (valueAt e) content ∷ others)
+  pub below : Reads (from 4 e) (content ∷ others)
+
+pub encryption-first : {e : List ℕ} → Begins e → tagAt e ≡ encryptionTag → EncryptionFirst e
+encryption-first {e} b is = go (first (b .reads))
+  where
+    go : First (tagAt e) (valueAt e) (drop 4 e) (b .term ∷ b .others) → EncryptionFirst e
+    go (first-encrypted {t} {m} g q k) = record { content = t; others = m; whole = rw q at (b .reads); below = rw part-to-end k }
+    go (first-pair g n q k) = absurd (omega arith)
+    go (first-atom g q k) = absurd (omega arith)
+    go (first-variable g v n q k) = absurd (omega arith)
+
+-- Any other tag is a term of one entry.
+pub leaf-first : {e : List ℕ} → Begins e → (tagAt e ≡ pairTag → ⊥) → (tagAt e ≡ encryptionTag → ⊥) → 1 ≡ size (termOf e)
+unfolding size
+leaf-first {e} b no-pair no-encryption = go (first (b .reads))
+  where
+    one : (t : Term Variable) → 1 ≡ size t → termOf e ≡ t → 1 ≡ size (termOf e)
+    one t s q = rw q s
+
+    go : First (tagAt e) (valueAt e) (drop 4 e) (b .term ∷ b .others) → 1 ≡ size (termOf e)
+    go (first-atom g q k) = one (atom (valueAt e)) refl (termOf-reads (rw q at (b .reads)))
+    go (first-variable {s = s} g v n q k) = one (variable (named s (valueAt e))) refl (termOf-reads (rw q at (b .reads)))
+    go (first-pair g n q k) = absurd (no-pair g)
+    go (first-encrypted g q k) = absurd (no-encryption g)
+
+-- The right half of a pair begins past the left one.
+pub right-begins : {e : List ℕ} (p : PairFirst e) {r : ℕ} → r ≡ size (termOf (from 4 e)) → Reads (from (4 * (1 + r)) e) (p .right ∷ p .others)
+right-begins {e} p {r} is =
+    let here : Reads (drop 4 e) (p .left ∷ p .right ∷ p .others) = rw part-to-end at (p .below) in
+    let known : r ≡ size (p .left) = is ∙ ap size (termOf-reads (p .below)) in
+    let there : 4 + 4 * size (p .left) ≡ 4 * (1 + r) = omega arith in
+    rw part-to-end (rw (drop-drop, there) at (past (p .left) here))
+
+-- How many entries a pair, an encryption has.
+pub pair-size : {e : List ℕ} → Begins e → tagAt e ≡ pairTag → {r s : ℕ} → r ≡ size (termOf (from 4 e)) → s ≡ size (termOf (from (4 * (1 + r)) e))
+    → (1 + r + s ≡ size (termOf e)) × (4 * (1 + r + s) ≤ length e)
+unfolding size
+pair-size {e} b is {r} {s} left right =
+    let p = pair-first b is in
+    let l : r ≡ size (p .left) = left ∙ ap size (termOf-reads (p .below)) in
+    let q : s ≡ size (p .right) = right ∙ ap size (termOf-reads (right-begins p left)) in
+    let whole : size (termOf e) ≡ 1 + (size (p .left) + size (p .right)) = ap size (termOf-reads (p .whole)) in
+    let room : 4 * (1 + (size (p .left) + size (p .right))) ≤ length e = fits (pair (p .left) (p .right)) (p .whole) in
+    (omega arith, omega arith)
+
+pub encryption-size : {e : List ℕ} → Begins e → tagAt e ≡ encryptionTag → {r : ℕ} → r ≡ size (termOf (from 4 e)) → (1 + r ≡ size (termOf e)) × (4 * (1 + r) ≤ length e)
+unfolding size
+encryption-size {e} b is {r} below =
+    let p = encryption-first b is in
+    let l : r ≡ size (p .content) = below ∙ ap size (termOf-reads (p .below)) in
+    let whole : size (termOf e) ≡ 1 + size (p .content) = ap size (termOf-reads (p .whole)) in
+    let room : 4 * (1 + size (p .content)) ≤ length e = fits (encrypted (valueAt e) (p .content)) (p .whole) in
+    (omega arith, omega arith)
+
+-- A part's part is a part.
+pub from-from : (a b : ℕ) (e : List ℕ) → from a (from b e) ≡ from (b + a) e
+from-from a b e = rw (part-to-end, part-to-end, part-to-end, drop-drop)
+
+pub from-length : (n : ℕ) (e : List ℕ) → length (from n e) ≡ length e - n
+from-length n e = rw part-to-end (length-drop n e)

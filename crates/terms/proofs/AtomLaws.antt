@@ -1,30 +1,73 @@
--- Laws of the judging of entries, shaped like its branches.
-use mathlib.Core.Path.{_≡_, refl, sym, ap, _∙_}
+-- Laws of atom entries: what the bytes of an entry say, which entries are right (number 6), and keys with their partners.
+use mathlib.Core.Path.{_≡_, refl, ap, _∙_, sym}
+use mathlib.Core.List.{List, [], _∷_}
 use mathlib.Core.Bool.{Bool}
-use mathlib.Core.List.{List}
-use Prim.Native.Nat.{ℕ, _+_, _*_, _/_, _≤_, _<_}
+use Prim.Native.Nat.{ℕ, zero, suc, _+_, _*_, _/_, _≤_, _<_}
 use native.Mathlib.Omega.{arith}
-use lib.Dec.{eqb}
-use lib.ListN.{length, getD}
-use lib.Seq.{getD-drop}
+use native.Mathlib.Decide.{decLt}
 use native.Mathlib.Nat.{add-zero}
+use lib.ListN.{length, getD, drop, List·getD-eq-default}
+use lib.Dec.{eqb}
+use lib.Seq.{getD-drop}
 use borrow.Rule.Slice.PartAt.{part-to-end}
-use Rattle.terms.specs.declared.valid.Found.the-variants.{At, Nothing}
-use Rattle.terms.specs.Term.{encrypted}
-use Rattle.terms.specs.Tag.{encryptionTag}
-use Rattle.terms.specs.Entry.{Begins, termOf, tagAt, valueAt}
-use Rattle.terms.specs.EntryLaws.{reads-encrypted, termOf-reads}
-use Rattle.terms.specs.WalkLaws.{from, encryption-first}
+use Rattle.terms.specs.declared.valid.Found.the-variants.{Nothing, At}
+use Rattle.terms.specs.Atom.{principalKind, nonceKind, publicKind, privateKind, symmetricKind, Atom, atomsOf, atomAt, atomKind, knownOf, partnerOf, IsKey}
+use Rattle.terms.specs.Atom.{isPublic, isPrivate, key-kind, NamedBack, PartnerRight, principal, nonce, publicKey, privateKey, symmetricKey, AtomRight}
+use Rattle.terms.specs.Atom.{Wanted, partner-wanted, partner-right, atomRight?, wrongAtom}
+use Rattle.terms.specs.Entry.{tagAt, valueAt, from}
+use Rattle.terms.specs.First.{fails, holds}
 use Rattle.terms.specs.Solve.{Says, says-same}
-use Rattle.terms.specs.Decisions.{says-eq}
-use Rattle.terms.specs.First.{fails, holds, first-only}
-use Rattle.terms.specs.Atom.{Atom, atomsOf, atomKind, knownOf, partnerOf, NamedBack, PartnerRight}
-use Rattle.terms.specs.Atom.{principalKind, nonceKind, publicKind, privateKind, symmetricKind}
-use Rattle.terms.specs.Atom.{principal, nonce, publicKey, privateKey, symmetricKey, AtomRight, Wanted, partner-wanted, partner-right}
-use Rattle.terms.specs.Atom.{atomRight?, wrongAtom, length-atoms, atom-bytes}
-use Rattle.terms.specs.TermEntry.{EntryRight, rightAt?, wrongEntry}
-use Rattle.terms.specs.Each.{EntryIs}
-use Rattle.terms.specs.OneTerm.{IsEncryption}
+use Rattle.terms.proofs.AnswerLaws.{says-eq}
+use Rattle.terms.proofs.FirstLaws.{first-only, first-none}
+
+-- A key is listed.
+pub key-listed : {atoms : List Atom} {n : ℕ} → IsKey atoms n → n < length atoms
+unfolding atomAt
+key-listed {atoms} {n} k = elim (decLt n (length atoms)) [
+  | yes l ↦ l
+  | no ge ↦ absurd (away (ap (λ (a : Atom). a .kind) (List·getD-eq-default atoms _ (omega arith))))
+]
+  where
+    away : atomKind atoms n ≡ 0 → ⊥
+    away z = let b = key-kind k in omega arith
+
+-- Nothing found: each is right.
+pub all-right : (atoms : List Atom) → wrongAtom atoms ≡ Nothing → (n : ℕ) → n < length atoms → AtomRight atoms n
+unfolding wrongAtom
+all-right atoms nothing = first-none (atomRight? atoms) nothing
+
+-- A key's partner is a key, and names it back.
+pub partner-key : {atoms : List Atom} {n : ℕ} → AtomRight atoms n → IsKey atoms n
+    → IsKey atoms (partnerOf atoms n) × (partnerOf atoms (partnerOf atoms n) ≡ n)
+partner-key {atoms} {n} w key = go (w .partner)
+  where
+    go : PartnerRight atoms n → IsKey atoms (partnerOf atoms n) × (partnerOf atoms (partnerOf atoms n) ≡ n)
+    go (principal k p) = let b = key-kind key in absurd (omega arith)
+    go (nonce k p) = let b = key-kind key in absurd (omega arith)
+    go (publicKey k p) = (isPrivate (p .kind), p .back)
+    go (privateKey k p) = (isPublic (p .kind), p .back)
+    go (symmetricKey k p) = (rw p key, rw (p, p) refl)
+
+-- What the bytes say of the entry of a number.
+pub length-atoms : (b : List ℕ) → length (atomsOf b) ≡ length b / 4
+unfolding atomsOf
+length-atoms [] = refl
+length-atoms (x ∷ []) = refl
+length-atoms (x ∷ y ∷ []) = refl
+length-atoms (x ∷ y ∷ z ∷ []) = refl
+length-atoms (x ∷ y ∷ z ∷ w ∷ b) = let ih = length-atoms b in omega arith
+
+pub atom-bytes : (b : List ℕ) (n : ℕ) → n < length b / 4
+    → atomAt (atomsOf b) n ≡ record { kind = tagAt (drop (4 * n) b); known = getD (drop (4 * n) b) 1 0; partner = valueAt (drop (4 * n) b) }
+unfolding atomsOf atomAt
+atom-bytes [] n h = absurd (omega arith)
+atom-bytes (x ∷ []) n h = absurd (omega arith)
+atom-bytes (x ∷ y ∷ []) n h = absurd (omega arith)
+atom-bytes (x ∷ y ∷ z ∷ []) n h = absurd (omega arith)
+atom-bytes (x ∷ y ∷ z ∷ w ∷ b) zero h = refl
+atom-bytes (x ∷ y ∷ z ∷ w ∷ b) (suc n) h =
+    let far : 4 * suc n ≡ suc (suc (suc (suc (4 * n)))) = omega arith in
+    rw far (atom-bytes b n (omega arith))
 
 -- What the bytes of an atom entry are.
 module _ (b : List ℕ) {n : ℕ} (inside : n < length b / 4) where
@@ -118,22 +161,3 @@ atom-wrong b n inside all off = first-only (atomRight? (atomsOf b)) {count = len
 pub atoms-right : (b : List ℕ) → ((k : ℕ) → k < length b / 4 → AtomRight (atomsOf b) k) → Nothing ≡ wrongAtom (atomsOf b)
 unfolding wrongAtom
 atoms-right b all = first-only (atomRight? (atomsOf b)) {count = length (atomsOf b)} (holds refl (λ k l. all k (omega (arith, length-atoms b))))
-
--- The first entry that is not right.
-module _ (b : List ℕ) (kind : ℕ) (e : List ℕ) where
-  pub entry-wrong : (n : ℕ) → n < length e / 4
-      → ((k : ℕ) → k < n → EntryIs (EntryRight (atomsOf b) kind) e k) → ¬ EntryIs (EntryRight (atomsOf b) kind) e n
-      → At n ≡ wrongEntry (atomsOf b) kind e
-  unfolding wrongEntry
-  entry-wrong n inside all off = first-only (rightAt? (atomsOf b) kind e) (fails refl inside off all)
-
-  pub entries-right : ((k : ℕ) → k < length e / 4 → EntryIs (EntryRight (atomsOf b) kind) e k) → Nothing ≡ wrongEntry (atomsOf b) kind e
-  unfolding wrongEntry
-  entries-right all = first-only (rightAt? (atomsOf b) kind e) (holds refl all)
-
--- The root's tag.
-pub encryption-tag : {e : List ℕ} → Begins e → Says (eqb (tagAt e) encryptionTag) (IsEncryption (termOf e))
-encryption-tag {e} w = says-same (eqb (tagAt e) encryptionTag)
-    (λ t. (let f = encryption-first w t in record { key = valueAt e; content = f .content; is = termOf-reads (f .whole) }))
-    (λ r. (let same : w .term ≡ encrypted (r .key) (r .content) = sym (termOf-reads (w .reads)) ∙ r .is in
-    reads-encrypted (rw same at (w .reads)) .0)) (says-eq (tagAt e) encryptionTag)

@@ -1,0 +1,181 @@
+-- Laws of the tables: an entry is right (number 7) if and only if the tables say so.
+use mathlib.Core.Path.{_≡_, refl, ap}
+use mathlib.Core.Bool.{Bool, true, false}
+use mathlib.Core.List.{List, [], _∷_}
+use mathlib.Core.Logic.{_⊎_, inl, inr}
+use Prim.Native.Nat.{ℕ, _*_, _/_, _≤_, _<_}
+use native.Mathlib.Decide.{ℕ-discrete}
+use native.Mathlib.Omega.{arith}
+use lib.Dec.{ltb}
+use lib.ListN.{length, getD, List·getD-eq-default}
+use borrow.Author.Tests.{ltb-true, lt-ltb, le-ltb, eq-eqb, ne-eqb}
+use borrow.Rule.Slice.PartAt.{part-to-end}
+use Rattle.blocks.specs.Kinds.{secretKind, goodKind}
+use Rattle.terms.specs.declared.valid.Found.the-variants.{At, Nothing}
+use Rattle.terms.specs.Term.{Sort, plain, marked}
+use Rattle.terms.specs.Atom.{publicKind, Atom, atomsOf, atomAt, atomKind, IsKey, key-kind, kind-key}
+use Rattle.terms.specs.Tag.{atomTag, markedTag, sortTag, variables, Tagged, isAtom, isPair, isEncryption, isVariable, isNone, tagged}
+use Rattle.terms.specs.Entry.{tagAt, valueAt, from}
+use Rattle.terms.specs.Each.{EntryIs}
+use Rattle.terms.specs.TermEntry.{MayStand, EntryRight, AskedBy, Asked, asked, tagRight, rightAt?, wrongEntry}
+use Rattle.terms.specs.First.{fails, holds}
+use Rattle.terms.specs.Decisions.{pick}
+use Rattle.terms.specs.Solve.{Says, says-same}
+use Rattle.terms.specs.EntryTables.{listedKind, plainLimit, markedLimit, limitsOf, leastKinds, ByTables}
+use Rattle.terms.proofs.AnswerLaws.{says-yes, says-no}
+use Rattle.terms.proofs.FirstLaws.{first-only}
+use Rattle.terms.proofs.AtomLaws.{key-listed, length-atoms, kind-byte}
+
+-- The kind of an atom, by its byte.
+module _ (b : List ℕ) (n : ℕ) where
+  pub kind-away : length b / 4 ≤ n → 0 ≡ listedKind (atomsOf b) n
+  unfolding listedKind atomAt
+  kind-away far = let none-there : atomKind (atomsOf b) n ≡ 0 = ap (λ (a : Atom). a .kind) (List·getD-eq-default (atomsOf b) _ (omega (arith, length-atoms b))) in
+      rw none-there
+
+  pub kind-low : n < length b / 4 → getD b (4 * n) 0 < 6 → getD b (4 * n) 0 ≡ listedKind (atomsOf b) n
+  unfolding listedKind
+  kind-low inside low = rw (kind-byte b inside, lt-ltb (getD b (4 * n) 0) 6 low)
+
+  pub kind-high : n < length b / 4 → 6 ≤ getD b (4 * n) 0 → 0 ≡ listedKind (atomsOf b) n
+  unfolding listedKind
+  kind-high inside high = rw (kind-byte b inside, le-ltb (getD b (4 * n) 0) 6 high)
+
+-- How many variables, by the kind of the block.
+module _ {kind : ℕ} where
+  pub plain-secret : kind ≡ secretKind → 0 ≡ plainLimit kind
+  unfolding plainLimit
+  plain-secret e = rw (eq-eqb kind secretKind e)
+
+  pub plain-other : (kind ≡ secretKind → ⊥) → variables ≡ plainLimit kind
+  unfolding plainLimit
+  plain-other e = rw (ne-eqb kind secretKind e)
+
+  pub marked-good : kind ≡ goodKind → variables ≡ markedLimit kind
+  unfolding markedLimit
+  marked-good e = rw (eq-eqb kind goodKind e)
+
+  pub marked-other : (kind ≡ goodKind → ⊥) → 0 ≡ markedLimit kind
+  unfolding markedLimit
+  marked-other e = rw (ne-eqb kind goodKind e)
+
+-- What the tables ask of an entry is what number 7 asks, tag by tag.
+module _ (atoms : List Atom) (kind value : ℕ) where
+  kind-key-listed : publicKind ≤ listedKind atoms value → IsKey atoms value
+  unfolding listedKind
+  kind-key-listed = go (ltb (atomKind atoms value) 6) refl
+    where
+      go : (t : Bool) → ltb (atomKind atoms value) 6 ≡ t → publicKind ≤ pick t (atomKind atoms value) 0 → IsKey atoms value
+      go true e h = let l = ltb-true (atomKind atoms value) 6 e in kind-key h (omega arith)
+      go false e h = absurd (omega arith)
+
+  key-kind-listed : IsKey atoms value → publicKind ≤ listedKind atoms value
+  unfolding listedKind
+  key-kind-listed k = let b = key-kind k in rw (lt-ltb (atomKind atoms value) 6 (omega arith)) (b .0)
+
+  within-asked : (tag : ℕ) → value < getD (limitsOf kind (length atoms)) tag 0 → getD leastKinds tag 0 ≤ listedKind atoms value
+      → Asked atoms kind value tag
+  unfolding Asked limitsOf sortTag MayStand
+  within-asked tag below kept = go (tagged tag) below kept
+    where
+      sorted : (s : Sort) → value < getD (limitsOf kind (length atoms)) (sortTag s) 0 → (value < variables) × MayStand s kind
+      sorted plain below = elim (ℕ-discrete kind secretKind) [
+        | yes e ↦ absurd (omega (arith, plain-secret e))
+        | no off ↦ (omega (arith, plain-other off), off)
+      ]
+      sorted marked below = elim (ℕ-discrete kind goodKind) [
+        | yes e ↦ (omega (arith, marked-good e), e)
+        | no off ↦ absurd (omega (arith, marked-other off))
+      ]
+
+      past : {n : ℕ} (l : List ℕ) → length l ≡ 6 → 5 < n → getD l n 0 ≡ 0
+      past l long far = List·getD-eq-default l 0 (omega arith)
+
+      none : (n : ℕ) → (n < atomTag) ⊎ (markedTag < n) → value < getD (limitsOf kind (length atoms)) n 0 → ⊥
+      none n (inl low) below = let z : n ≡ 0 = omega arith in let h = rw z at below in omega arith
+      none n (inr far) below = let z = past (limitsOf kind (length atoms)) refl far in omega arith
+
+      go : (w : Tagged tag) → value < getD (limitsOf kind (length atoms)) tag 0 → getD leastKinds tag 0 ≤ listedKind atoms value
+          → AskedBy atoms kind value w
+      go (isAtom e) below kept = rw e at below
+      go (isPair e) below kept = let h = rw e at below in omega arith
+      go (isEncryption e) below kept = kind-key-listed (rw e at kept)
+      go (isVariable s e) below kept = sorted s (rw e at below)
+      go (isNone e) below kept = absurd (none tag e below)
+
+  asked-within : (tag : ℕ) → Asked atoms kind value tag
+      → (value < getD (limitsOf kind (length atoms)) tag 0) × (getD leastKinds tag 0 ≤ listedKind atoms value)
+  unfolding Asked limitsOf sortTag MayStand
+  asked-within tag a = go (tagged tag) a
+    where
+      Within : ℕ → Type 0
+      Within n = (value < getD (limitsOf kind (length atoms)) n 0) × (getD leastKinds n 0 ≤ listedKind atoms value)
+
+      sorted : (s : Sort) → value < variables → MayStand s kind → Within (sortTag s)
+      sorted plain low off = (omega (arith, plain-other off), omega arith)
+      sorted marked low is = (omega (arith, marked-good is), omega arith)
+
+      go : (w : Tagged tag) → AskedBy atoms kind value w → Within tag
+      go (isAtom e) a = rw e (a, omega arith)
+      go (isPair e) a = rw e (omega arith, omega arith)
+      go (isEncryption e) a = rw e (key-listed a, key-kind-listed a)
+      go (isVariable s e) a = rw e (sorted s (a .0) (a .1))
+      go (isNone e) a = absurd a
+
+abbrev Right : List ℕ → ℕ → List ℕ → Type 0
+Right b kind e = EntryRight (atomsOf b) kind (tagAt e) (getD e 1 0) (valueAt e)
+
+within-right : (b : List ℕ) (kind : ℕ) (e : List ℕ) {limits : List ℕ} → limits ≡ limitsOf kind (length b / 4)
+    → (r : Bool) → Says r (ByTables (atomsOf b) limits leastKinds e) → Says r (Right b kind e)
+within-right b kind e {limits} is r says = says-same {P = ByTables (atomsOf b) limits leastKinds e} r
+    (λ w. record {
+      blank = w .blank;
+      tagged = tagRight (atomsOf b) kind (valueAt e) (tagAt e) (within-asked (atomsOf b) kind (valueAt e) (tagAt e)
+          (rw tables at (w .below)) (w .kept));
+    })
+    (λ w. (let a = asked-within (atomsOf b) kind (valueAt e) (tagAt e) (asked (atomsOf b) kind (valueAt e) (w .tagged)) in
+    record { blank = w .blank; below = rw tables (a .0); kept = a .1 })) says
+  where
+    tables : limits ≡ limitsOf kind (length (atomsOf b))
+    tables = rw (length-atoms b) is
+
+-- What is said of entry n by the tables is said by number 7.
+module _ (b : List ℕ) (kind : ℕ) (e : List ℕ) {limits : List ℕ} (is : limits ≡ limitsOf kind (length b / 4)) (n : ℕ) (r : Bool)
+    (says : Says r (ByTables (atomsOf b) limits leastKinds (from (4 * n) e))) where
+  right-there : Says r (Right b kind (from (4 * n) e))
+  right-there = within-right b kind (from (4 * n) e) is r says
+
+  pub entry-yes : r ≡ true → EntryIs (EntryRight (atomsOf b) kind) e n
+  entry-yes t = rw part-to-end at (says-yes {P = Right b kind (from (4 * n) e)} r right-there t)
+
+  pub entry-no : r ≡ false → ¬ EntryIs (EntryRight (atomsOf b) kind) e n
+  entry-no f w = says-no {P = Right b kind (from (4 * n) e)} r right-there f (rw part-to-end w)
+
+-- The steps of the test.
+module _ {atoms : List Atom} {limits least e : List ℕ} {tag : ℕ} (is-tag : tag ≡ tagAt e) where
+  pub past-tables : length limits ≡ 6 → 5 < tag → ¬ ByTables atoms limits least e
+  past-tables long far w = let z : getD limits (tagAt e) 0 ≡ 0 = List·getD-eq-default limits 0 (omega arith) in let h = w .below in omega arith
+
+  module _ {n : ℕ} (is-value : n ≡ valueAt e) where
+    pub past-limit : getD limits tag 0 ≤ n → ¬ ByTables atoms limits least e
+    past-limit far w = let h = w .below in let k = rw (is-tag, is-value) at far in omega arith
+
+    module _ {k : ℕ} (is-kind : k ≡ listedKind atoms n) where
+      pub less-kind : k < getD least tag 0 → ¬ ByTables atoms limits least e
+      less-kind low w = let h = w .kept in let l = rw (is-kind, is-tag, is-value) at low in omega arith
+
+      pub within : getD e 1 0 ≡ 0 → n < getD limits tag 0 → getD least tag 0 ≤ k → ByTables atoms limits least e
+      within blank below kept =
+          record { blank = blank; below = rw (is-tag, is-value) at below; kept = rw (is-kind, is-tag, is-value) at kept }
+
+-- The first entry that is not right.
+module _ (b : List ℕ) (kind : ℕ) (e : List ℕ) where
+  pub entry-wrong : (n : ℕ) → n < length e / 4
+      → ((k : ℕ) → k < n → EntryIs (EntryRight (atomsOf b) kind) e k) → ¬ EntryIs (EntryRight (atomsOf b) kind) e n
+      → At n ≡ wrongEntry (atomsOf b) kind e
+  unfolding wrongEntry
+  entry-wrong n inside all off = first-only (rightAt? (atomsOf b) kind e) (fails refl inside off all)
+
+  pub entries-right : ((k : ℕ) → k < length e / 4 → EntryIs (EntryRight (atomsOf b) kind) e k) → Nothing ≡ wrongEntry (atomsOf b) kind e
+  unfolding wrongEntry
+  entries-right all = first-only (rightAt? (atomsOf b) kind e) (holds refl all)

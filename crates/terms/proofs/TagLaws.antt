@@ -1,0 +1,30 @@
+-- Laws of tags: how many children an entry has.
+use mathlib.Core.Path.{_≡_, refl}
+use Prim.Native.Nat.{ℕ}
+use Rattle.terms.specs.Term.{Sort}
+use Rattle.terms.specs.Tag.{pairTag, encryptionTag, sortTag, Tagged, isAtom, isPair, isEncryption, isVariable, isNone, tagged, childrenBy, childrenOf}
+use Rattle.terms.specs.Tag.{sort-tagged}
+
+pub sort-childless : (s : Sort) → childrenOf (sortTag s) ≡ 0
+unfolding childrenOf
+sort-childless s = rw (sort-tagged s) refl
+
+-- Any other tag than a pair's and an encryption's has no children.
+pub no-children : (tag : ℕ) → (tag ≡ pairTag → ⊥) → (tag ≡ encryptionTag → ⊥) → 0 ≡ childrenOf tag
+unfolding childrenOf
+no-children tag off off′ = go (tagged tag)
+  where
+    go : (w : Tagged tag) → 0 ≡ childrenBy w
+    go (isAtom e) = refl
+    go (isPair e) = absurd (off e)
+    go (isEncryption e) = absurd (off′ e)
+    go (isVariable s e) = refl
+    go (isNone e) = refl
+
+pub two-children : {tag : ℕ} → tag ≡ pairTag → 2 ≡ childrenOf tag
+unfolding childrenOf
+two-children e = rw e refl
+
+pub one-child : {tag : ℕ} → tag ≡ encryptionTag → 1 ≡ childrenOf tag
+unfolding childrenOf
+one-child e = rw e refl
