@@ -1,4 +1,5 @@
 -- `judge::cover::take_hat` meets its contract. Assumes nothing.
+use borrow.Author.Needs.{needs}
 use borrow.Author.Tests.{not-true, not-false}
 use Rattle.terms.proofs.AnswerLaws.{says-yes, says-no}
 use Rattle.judge.proofs.Covering.Hats.{hat-taken, hat-shares}
