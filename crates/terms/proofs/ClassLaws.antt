@@ -6,6 +6,7 @@ use Prim.Native.Nat.{ℕ, _<_}
 use native.Mathlib.Omega.{arith}
 use Rattle.terms.specs.Term.{variable, atom, pair, encrypted, Message}
 use Rattle.terms.specs.Tag.{atomTag, pairTag, encryptionTag, Tagged, isAtom, isPair, isEncryption, isVariable, isNone, tagged, freeBy, freeTag}
+use Rattle.terms.specs.Solve.{form}
 use Rattle.terms.specs.Graph.{atomNode, pairNode, encryptionNode, IsSymbol, made, Valid, Classes, ClassStep, Clash, Outcome, Any}
 use Rattle.terms.specs.TermGraph.{variableNodes, nodeFor, nodeBy, nodeTag, nodeValue, firstChild, secondChild, nodeOf, AtHome}
 use Rattle.terms.specs.Meeting.{Symbols}
@@ -51,13 +52,7 @@ module _ (s t : List ℕ) where
   unfolding nodeOf nodeBy freeTag
   is-symbol i f = symbol-node (tagged (nodeTag s t i)) (nodeValue s t i) (firstChild s t i) (secondChild s t i) f
 
--- The form of a message and the number in it: its root's tag and value as an entry.
-unfoldable pub form : Message → ℕ
-form (variable x) = 0
-form (atom a) = atomTag
-form (pair m n) = pairTag
-form (encrypted k m) = encryptionTag
-
+-- The number in a message: its root's value as an entry.
 unfoldable pub number : Message → ℕ
 number (variable x) = 0
 number (atom a) = a

@@ -179,8 +179,8 @@ module _ {s t c : List ℕ} {a : ℕ} where
   unfolding nodeBy
   content-below three is all = rw is (all .child (firstChild s t a) (subst (Child (firstChild s t a)) (sym (node-by s t a three)) refl))
 
-  pub no-children : (nodeTag s t a ≡ pairTag → ⊥) → (nodeTag s t a ≡ encryptionTag → ⊥) → ChildrenEnd s t c a
-  no-children no-pair no-encryption = record { child = λ j child. absurd (childless s t a no-pair no-encryption j child) }
+  pub no-children-end : (nodeTag s t a ≡ pairTag → ⊥) → (nodeTag s t a ≡ encryptionTag → ⊥) → ChildrenEnd s t c a
+  no-children-end no-pair no-encryption = record { child = λ j child. absurd (childless s t a no-pair no-encryption j child) }
 
   pub content-ends : {x : ℕ} → nodeTag s t a ≡ encryptionTag → x ≡ firstChild s t a → Finite (nodeOf s t) (nameOf c) x → ChildrenEnd s t c a
   content-ends three is first = record { child = λ j child. subst (Finite (nodeOf s t) (nameOf c)) (is ∙ sym (content-children s t a three j child)) first }

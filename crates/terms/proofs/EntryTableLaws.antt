@@ -1,7 +1,7 @@
 -- Laws of the tables: an entry is right (number 7) if and only if the tables say so.
 use mathlib.Core.Path.{_≡_, refl, ap}
 use mathlib.Core.Bool.{Bool, true, false}
-use mathlib.Core.List.{List, [], _∷_}
+use mathlib.Core.List.{List}
 use mathlib.Core.Logic.{_⊎_, inl, inr}
 use Prim.Native.Nat.{ℕ, _*_, _/_, _≤_, _<_}
 use native.Mathlib.Decide.{ℕ-discrete}
@@ -164,8 +164,8 @@ module _ {atoms : List Atom} {limits least e : List ℕ} {tag : ℕ} (is-tag : t
       pub less-kind : k < getD least tag 0 → ¬ ByTables atoms limits least e
       less-kind low w = let h = w .kept in let l = rw (is-kind, is-tag, is-value) at low in omega arith
 
-      pub within : getD e 1 0 ≡ 0 → n < getD limits tag 0 → getD least tag 0 ≤ k → ByTables atoms limits least e
-      within blank below kept =
+      pub by-tables : getD e 1 0 ≡ 0 → n < getD limits tag 0 → getD least tag 0 ≤ k → ByTables atoms limits least e
+      by-tables blank below kept =
           record { blank = blank; below = rw (is-tag, is-value) at below; kept = rw (is-kind, is-tag, is-value) at kept }
 
 -- The first entry that is not right.

@@ -90,9 +90,6 @@ pub one-place : {X : Type 0} {t s u : Term X} {k : ℕ} {p q : Place} → Placed
 one-place {t = t} {p = p} {q = q} a b =
     let n = a .number in let m = b .number in cc (place-of-entry p t (a .stands) .1, place-of-entry q t (b .stands) .1)
 
-pub one-subterm : {X : Type 0} {t s u : Term X} {k : ℕ} {p q : Place} → Placed t k p s → Placed t k q u → s ≡ u
-one-subterm a b = let same = one-place a b in let x = a .stands in let y = b .stands in cc
-
 -- Every entry stands at a place.
 pub record Spotted {X : Type 0} (t : Term X) (k : ℕ) : Type 0 where
   pub place : Place

@@ -20,8 +20,8 @@ use Rattle.terms.specs.Front.{Front, Takes, SameFirst, Alike, Ran, Goes,
 use Rattle.terms.proofs.AnswerLaws.{says-answer}
 use Rattle.terms.proofs.EntryLaws.{from-from, from-length}
 use Rattle.terms.proofs.FrontLaws.{next, front-begins, opened, KeepsFirst, next-symbol, alike-symbol, alike-other, front-few}
-use Rattle.terms.proofs.SameLaws.{one-term, alike-one, same-clash}
-use Rattle.terms.proofs.MatchLaws.{symbol-slot, none-bound, same-answer}
+use Rattle.terms.proofs.SameLaws.{one-term, alike-one, same-clash, same-answer}
+use Rattle.terms.proofs.MatchLaws.{symbol-slot, none-bound}
 use Rattle.terms.proofs.TermGraphLaws.{tag-in}
 
 -- Nothing has been compared yet.

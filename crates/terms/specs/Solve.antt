@@ -3,13 +3,13 @@ use mathlib.Core.Path.{_≡_, refl, sym, ap, ap₂, _∙_, subst, fun-ext}
 use mathlib.Core.HLevel.{Discrete}
 use mathlib.Core.Bool.{Bool, true, false}
 use mathlib.Core.Logic.{inl, inr, ⊎-elim, _↔_}
-use mathlib.Core.List.{List, _∷_, _++_, List·Memᴰ, List·Memᴰ·head, List·Memᴰ·tail, List·Memᴰ·cases-cons}
-use mathlib.Core.List.{Memᴰ·append-left, Memᴰ·append-right}
+use mathlib.Core.List.{List, _∷_, _++_, List·Memᴰ, List·Memᴰ·head, List·Memᴰ·tail, List·Memᴰ·cases-cons, Memᴰ·append-left, Memᴰ·append-right}
 use lib.ListN.{length}
 use Prim.Native.Nat.{ℕ, zero, suc, _≤_, _<_}
 use native.Mathlib.Omega.{arith}
 use native.Mathlib.Decide.{ℕ-discrete}
 use Rattle.terms.specs.Term.{Term, variable, atom, pair, encrypted, Message, replace}
+use Rattle.terms.specs.Tag.{atomTag, pairTag, encryptionTag}
 use Rattle.terms.specs.Occurs.{Occurs, occurs?, replace-on, replace-twice, replace-none, comes, Self, no-cycle}
 use Rattle.terms.specs.Unify.{Equations, clash, done, more, put, equate, single, without, solve, names, unify}
 
@@ -39,12 +39,12 @@ pub record Solvable {Z : Type 0} (e : Equations Z) : Type 0 where
   pub by : Z → Message
   pub solves : Solves by e
 
--- The form of a message, by a number.
-form : Message → ℕ
+-- The form of a message: its root's tag as an entry.
+unfoldable pub form : Message → ℕ
 form (variable x) = 0
-form (atom a) = 1
-form (pair m n) = 2
-form (encrypted k m) = 3
+form (atom a) = atomTag
+form (pair m n) = pairTag
+form (encrypted k m) = encryptionTag
 
 -- Messages of different forms are never the same.
 never : {m n : Message} {P : Type 0} → ¬ (form m ≡ form n) → ⊥ ↔ ((m ≡ n) × P)

@@ -220,5 +220,5 @@ module _ (s t m : List ℕ) (k : ℕ) {name mid : ℕ → ℕ} (step : ClassStep
     pub united-more : {next : ℕ → ℕ} → ClassStep (nodeOf s t) Any mid next (λ v. v i ≡ v j) → ClassStep (nodeOf s t) Any name next (AllEqual s t m (k + 1))
     united-more more = restate (λ v x all. split v all) (λ v q all. joined v all) (both (nodeOf s t) Any step more)
 
-    pub united-clash : {n : ℕ} → k < n → Clash (nodeOf s t) mid (λ v. v i ≡ v j) → Clash (nodeOf s t) name (AllEqual s t m n)
-    united-clash low clash = restate-clash (λ v x all. split v (λ l h. all l (omega arith))) (second-clash (nodeOf s t) Any step clash)
+    pub united-noted-clash : {n : ℕ} → k < n → Clash (nodeOf s t) mid (λ v. v i ≡ v j) → Clash (nodeOf s t) name (AllEqual s t m n)
+    united-noted-clash low clash = restate-clash (λ v x all. split v (λ l h. all l (omega arith))) (second-clash (nodeOf s t) Any step clash)
