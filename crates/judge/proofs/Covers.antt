@@ -19,7 +19,7 @@ use Rattle.terms.specs.Tag.{VariableTag, SymbolTag, sort-tag}
 use Rattle.terms.specs.Place.{Place}
 use Rattle.terms.specs.Entry.{size, termOf, tagAt, valueAt, Reads, Begins}
 use Rattle.terms.specs.Reading.{First, first-atom, first-pair, first-encrypted, first-variable, first}
-use Rattle.terms.proofs.EntryLaws.{termOf-reads, fits, suffix, reads-variable}
+use Rattle.terms.proofs.EntryLaws.{termOf-reads, term-reads, fits, suffix, reads-variable}
 use Rattle.terms.specs.Entry.{from, entryAt}
 use Rattle.terms.specs.Solve.{Says, says-same}
 use Rattle.terms.proofs.AnswerLaws.{answer-yes, answer-no}
@@ -38,7 +38,6 @@ use Rattle.judge.specs.CoverEntries.{subAt, On, Cleared, Flags, Standing
 use Rattle.judge.specs.CoverEntries.{RiskyEntry, Wanted, isSecret, isRisky, WantedEntry, FineEntry, Concluded}
 use Rattle.judge.proofs.Flags.{RaisedBelow}
 use Rattle.judge.proofs.ListedLaws.{risky-is, dead-is}
-use Rattle.judge.proofs.Marks.{term-reads}
 use Rattle.judge.proofs.Hats.{hat-place}
 use Rattle.judge.proofs.Opens.{open-place}
 

@@ -15,7 +15,7 @@ use Rattle.terms.specs.Term.{Term, Variable, replace}
 use Rattle.terms.specs.Place.{Place}
 use Rattle.terms.specs.Instance.{Matches}
 use Rattle.terms.specs.Entry.{size, termOf, tagAt, Begins}
-use Rattle.terms.proofs.EntryLaws.{reads-encrypted, termOf-reads, size-positive, fits, suffix, encryption-first, from-length}
+use Rattle.terms.proofs.EntryLaws.{reads-encrypted, termOf-reads, term-reads, size-positive, fits, suffix, encryption-first, from-length}
 use Rattle.terms.specs.OneTerm.{IsEncryption, encryption?}
 use Rattle.terms.proofs.TermGraphLaws.{tag-in}
 use Rattle.terms.specs.Entry.{from, entryAt}
@@ -27,7 +27,7 @@ use Rattle.judge.specs.Cover.{SureHat}
 use Rattle.judge.specs.Listed.{listedOf, AnyListed, HoldsAt, Searching, SharesListed}
 use Rattle.judge.specs.CoverEntries.{subAt, On, Raised, Cleared, SomeOn, Flags, MarkOver, Laying, Standing, HatOver, HatBelow}
 use Rattle.judge.proofs.Flags.{raised-none, raised-as, raised-twice, zero-off, zero-bits, cleared-none, cleared-as, cleared-twice}
-use Rattle.judge.proofs.Marks.{term-reads, mark-inside, mark-place}
+use Rattle.judge.proofs.Marks.{mark-inside, mark-place}
 use Rattle.judge.proofs.Listing.{one-found, none-found}
 use Rattle.judge.proofs.ListedLaws.{not-bad-is}
 

@@ -18,7 +18,7 @@ use Rattle.terms.specs.Term.{Term, Message, Variable, variable, atom, pair, enc
 use Rattle.terms.specs.Tag.{atomTag, pairTag, encryptionTag}
 use Rattle.terms.specs.Entry.{Begins, Reads, termsOf, termOf, symbolOf, withZero, before, beforeAll, tagAt, valueAt, size}
 use Rattle.terms.specs.Reading.{First, first-atom, first-pair, first-encrypted, first-variable, first}
-use Rattle.terms.proofs.EntryLaws.{reads-atom, reads-pair, reads-encrypted, termOf-reads, pair-first, encryption-first, right-begins}
+use Rattle.terms.proofs.EntryLaws.{reads-atom, reads-pair, reads-encrypted, termOf-reads, term-reads, pair-first, encryption-first, right-begins}
 use Rattle.terms.specs.Entry.{from}
 use Rattle.terms.specs.Atom.{Atom, atomsOf, atomAt, knownOf}
 use Rattle.terms.proofs.AtomLaws.{length-atoms, known-byte, partner-bytes}
@@ -64,9 +64,6 @@ encrypted-message (pair l r) e = let z : _≡_ {A = ℕ} 0 1 = cc in absurd (ome
 encrypted-message (encrypted j n) {k} e = let same : k ≡ j = cc in (n, rw same refl, (cc))
 
 -- A term of a known form stands first.
-read : {e : List ℕ} (b : Begins e) {t : Term Variable} → termOf e ≡ t → Reads e (t ∷ b .others)
-read b is = let same = sym (termOf-reads (b .reads)) ∙ is in rw same at (b .reads)
-
 atom-first : {e : List ℕ} → Begins e → tagAt e ≡ atomTag → termOf e ≡ atom (valueAt e)
 atom-first {e} b is = go (first (b .reads))
   where
@@ -144,14 +141,14 @@ module _ (c : Certificate) where
     -- 9: no other tag is an atom's.
     pub known-other : ¬ (tagAt e ≡ atomTag) → ¬ KnownAtom c m
     unfolding asTerm replace
-    known-other off w = off (reads-atom (read b (message ∙ ap asTerm (w .same))) .0)
+    known-other off w = off (reads-atom (term-reads b (message ∙ ap asTerm (w .same))) .0)
 
     -- 10: with an atom there is nothing to ask.
     pub closed-atom : ¬ (tagAt e ≡ pairTag) → ¬ (tagAt e ≡ encryptionTag) → WeaklyClosed c m
     unfolding asTerm replace
     closed-atom off off′ = record {
-      ofPair = λ l r is. absurd (off (reads-pair (read b (message ∙ ap asTerm is)) .0));
-      ofEncrypted = λ n k is. absurd (off′ (reads-encrypted (read b (message ∙ ap asTerm is)) .0));
+      ofPair = λ l r is. absurd (off (reads-pair (term-reads b (message ∙ ap asTerm is)) .0));
+      ofEncrypted = λ n k is. absurd (off′ (reads-encrypted (term-reads b (message ∙ ap asTerm is)) .0));
     }
 
 -- The atom block, b being its entries.
@@ -175,7 +172,7 @@ module _ (file : List ℕ) {b : List ℕ} (atoms : b ≡ firstEntries (blockAt f
     known-number : KnownAtom (certificateOf file) m → (n : ℕ) × (valueAt e ≡ n) × (n < length b / 4) × (knownOf (atomsOf b) n ≡ 1)
     unfolding asTerm replace
     known-number w =
-        let r = reads-atom (read begins (message ∙ ap asTerm (w .same))) in
+        let r = reads-atom (term-reads begins (message ∙ ap asTerm (w .same))) in
         let listed : w .number < length (atomsOf b) = rw atoms-are at (w .known .listed) in
         (w .number, r .1, omega (arith, length-atoms b), rw atoms-are at (w .known .known))
 
@@ -199,7 +196,7 @@ module _ (file : List ℕ) {b : List ℕ} (atoms : b ≡ firstEntries (blockAt f
 pub kept-says : (c : Certificate) {e : List ℕ} → Begins e → IsEncryption (termOf e) → {k p : ℕ} → k ≡ valueAt e → p ≡ inverse c k
     → (b : Bool) → Says b (Secret c (atom p)) → Says b (KeptKey c (termOf e))
 kept-says c {e} begins root {k} {p} value is b says =
-    let key : valueAt e ≡ root .key = reads-encrypted (read begins (root .is)) .1 in
+    let key : valueAt e ≡ root .key = reads-encrypted (term-reads begins (root .is)) .1 in
     let same : inverse c (root .key) ≡ p = ap (inverse c) (sym (value ∙ key)) ∙ sym is in
     says-same b (λ s. record { key = root .key; inner = root .content; same = root .is; kept = rw same s })
     (λ w. (let again : w .key ≡ root .key = (let a = w .same in let d = root .is in cc) in

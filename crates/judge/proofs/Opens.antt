@@ -12,7 +12,7 @@ use Rattle.blocks.specs.Kinds.{goodKind, badKind}
 use Rattle.terms.specs.Term.{Term, Variable, encrypted}
 use Rattle.terms.specs.Place.{Place, subtermAt, StrictlyAbove}
 use Rattle.terms.specs.Entry.{size, termOf, Reads, Begins}
-use Rattle.terms.proofs.EntryLaws.{size-positive}
+use Rattle.terms.proofs.EntryLaws.{term-reads, size-positive}
 use Rattle.terms.specs.Solve.{Says, says-same}
 use Rattle.terms.specs.Entry.{entryAt}
 use Rattle.terms.proofs.PlacedLaws.{Placed, placed, within, spotted, subterm-at, placed-begins, strictly-above-entry}
@@ -22,7 +22,6 @@ use Rattle.judge.specs.Listed.{MatchesListed, SharesListed}
 use Rattle.judge.specs.Laid.{Laid}
 use Rattle.judge.specs.CoverEntries.{subAt, On, SomeOn, Painted, Flagged, OpenBelow, OpenAmong, OpenFlags, ClosedBelow, Concluded}
 use Rattle.judge.proofs.Flags.{on-small, painted-bits}
-use Rattle.judge.proofs.Marks.{term-reads}
 use Rattle.judge.proofs.Hats.{encryption-tag}
 use Rattle.judge.proofs.ListedLaws.{no-hat-is}
 
