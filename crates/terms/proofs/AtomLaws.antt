@@ -121,7 +121,8 @@ module _ (b : List ℕ) (n : ℕ) (inside : n < length b / 4) where
     unfolding Wanted
     atom-private k r says = by-kind known privateKind k r says
 
-  pub atom-no-kind : (getD b (4 * n) 0 ≡ principalKind → ⊥) → (getD b (4 * n) 0 ≡ nonceKind → ⊥) → (getD b (4 * n) 0 ≡ publicKind → ⊥) → (getD b (4 * n) 0 ≡ privateKind → ⊥)
+  pub atom-no-kind : (getD b (4 * n) 0 ≡ principalKind → ⊥) → (getD b (4 * n) 0 ≡ nonceKind → ⊥) → (getD b (4 * n) 0 ≡ publicKind → ⊥)
+      → (getD b (4 * n) 0 ≡ privateKind → ⊥)
       → (getD b (4 * n) 0 ≡ symmetricKind → ⊥) → ¬ AtomRight (atomsOf b) n
   atom-no-kind one two three four five w = go (w .partner)
     where

@@ -228,7 +228,8 @@ pair-walked {e} b is {r} {s} left right =
     let room : 4 * (1 + (size (p .left) + size (p .right))) ≤ length e = fits (pair (p .left) (p .right)) (p .whole) in
     (omega arith, omega arith)
 
-pub encryption-walked : {e : List ℕ} → Begins e → tagAt e ≡ encryptionTag → {r : ℕ} → r ≡ size (termOf (from 4 e)) → (1 + r ≡ size (termOf e)) × (4 * (1 + r) ≤ length e)
+pub encryption-walked : {e : List ℕ} → Begins e → tagAt e ≡ encryptionTag → {r : ℕ} → r ≡ size (termOf (from 4 e))
+    → (1 + r ≡ size (termOf e)) × (4 * (1 + r) ≤ length e)
 unfolding size
 encryption-walked {e} b is {r} below =
     let p = encryption-first b is in

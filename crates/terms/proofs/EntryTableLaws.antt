@@ -30,7 +30,9 @@ use Rattle.terms.proofs.AtomLaws.{key-listed, length-atoms, kind-byte}
 module _ (b : List ℕ) (n : ℕ) where
   pub kind-away : length b / 4 ≤ n → 0 ≡ listedKind (atomsOf b) n
   unfolding listedKind atomAt
-  kind-away far = let none-there : atomKind (atomsOf b) n ≡ 0 = ap (λ (a : Atom). a .kind) (List·getD-eq-default (atomsOf b) _ (omega (arith, length-atoms b))) in
+  kind-away far =
+      let none-there : atomKind (atomsOf b) n ≡ 0 =
+      ap (λ (a : Atom). a .kind) (List·getD-eq-default (atomsOf b) _ (omega (arith, length-atoms b))) in
       rw none-there
 
   pub kind-low : n < length b / 4 → getD b (4 * n) 0 < 6 → getD b (4 * n) 0 ≡ listedKind (atomsOf b) n

@@ -1,4 +1,4 @@
--- What is known of a block's term after numbers 7 and 8.
+-- Laws of exactly one term: what is known of a block's term after numbers 7 and 8.
 use mathlib.Core.Path.{_≡_, refl, sym, ap, _∙_, ap₂}
 use mathlib.Core.List.{List, [], _∷_, _++_, append-assoc, append-nil}
 use mathlib.Core.Option.{some}
@@ -29,6 +29,7 @@ use Rattle.terms.proofs.EntryLaws.{termOf-reads, reads-encrypted, begin
 use Rattle.terms.proofs.EachLaws.{each-of, each-map}
 use Rattle.terms.proofs.FirstLaws.{first-none}
 
+-- Bytes that are read as one term are exactly one term.
 pub reads-one : {e : List ℕ} {t : Term Variable} → Reads e (t ∷ []) → ((i : ℕ) → getD e i 0 < 256) → OneTerm e
 unfolding AllOf entriesAll
 reads-one {e} {t} r all =

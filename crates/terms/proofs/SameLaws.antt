@@ -29,7 +29,8 @@ pub alike-none : (by by′ : Variable → Term Variable) (e f : List ℕ) {need 
 unfolding frontOf
 alike-none by by′ e f is = record { same = rw is refl }
 
-pub alike-one : {e f : List ℕ} → Begins e → Begins f → (by by′ : Variable → Term Variable) → Alike by by′ 1 e f ↔ (replace by (termOf e) ≡ replace by′ (termOf f))
+pub alike-one : {e f : List ℕ} → Begins e → Begins f → (by by′ : Variable → Term Variable)
+    → Alike by by′ 1 e f ↔ (replace by (termOf e) ≡ replace by′ (termOf f))
 alike-one b d by by′ =
     let n = alike-term 1 (front-few b (omega arith)) (front-few d (omega arith)) (omega arith) by by′ in
     (λ h. n .0 h .0, λ h. n .1 (h, alike-none by by′ _ _ refl))
