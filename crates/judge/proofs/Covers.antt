@@ -21,7 +21,7 @@ use Rattle.terms.specs.Entry.{size, termOf, tagAt, valueAt, Reads, Begins}
 use Rattle.terms.specs.Reading.{First, first-atom, first-pair, first-encrypted, first-variable, first}
 use Rattle.terms.proofs.EntryLaws.{termOf-reads, term-reads, fits, suffix, reads-variable}
 use Rattle.terms.specs.Entry.{from, entryAt}
-use Rattle.terms.specs.Solve.{Says, says-same}
+use Rattle.terms.specs.Decisions.{Says, says-same}
 use Rattle.terms.proofs.AnswerLaws.{answer-yes, answer-no}
 use Rattle.terms.specs.First.{FirstNot, fails, holds}
 use Rattle.terms.proofs.FirstLaws.{first-only}

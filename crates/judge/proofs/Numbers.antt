@@ -23,7 +23,7 @@ use Rattle.terms.specs.Entry.{from}
 use Rattle.terms.specs.Atom.{Atom, atomsOf, atomAt, knownOf}
 use Rattle.terms.proofs.AtomLaws.{length-atoms, known-byte, partner-bytes}
 use Rattle.terms.specs.OneTerm.{IsEncryption}
-use Rattle.terms.specs.Solve.{Says, says-same}
+use Rattle.terms.specs.Decisions.{Says, says-same}
 use Rattle.terms.proofs.AnswerLaws.{says-eq, says-yes, says-no, says-answer}
 use Rattle.terms.specs.Decide.{answer}
 use Rattle.judge.specs.declared.verdict.Fault.{Fault}

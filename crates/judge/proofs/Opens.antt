@@ -13,7 +13,7 @@ use Rattle.terms.specs.Term.{Term, Variable, encrypted}
 use Rattle.terms.specs.Place.{Place, subtermAt, StrictlyAbove}
 use Rattle.terms.specs.Entry.{size, termOf, Reads, Begins}
 use Rattle.terms.proofs.EntryLaws.{term-reads, size-positive}
-use Rattle.terms.specs.Solve.{Says, says-same}
+use Rattle.terms.specs.Decisions.{Says, says-same}
 use Rattle.terms.specs.Entry.{entryAt}
 use Rattle.terms.proofs.PlacedLaws.{Placed, placed, within, spotted, subterm-at, placed-begins, strictly-above-entry}
 use Rattle.judge.specs.Certificate.{Certificate}

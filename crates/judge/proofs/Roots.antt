@@ -29,7 +29,7 @@ use Rattle.terms.proofs.RootLaws.{tags-apart, values-apart}
 use Rattle.judge.specs.File.{blockCount, patternOf, certificateOf}
 use mathlib.Core.Logic.{_⊎_, inl, inr, ⊎-elim, _↔_}
 use Rattle.judge.specs.Laid.{Laid, SecretBlock}
-use Rattle.terms.specs.Solve.{Says, says-same}
+use Rattle.terms.specs.Decisions.{Says, says-same}
 use Rattle.terms.specs.Decide.{answer}
 use Rattle.judge.proofs.ListedLaws.{answer-says}
 use Rattle.judge.specs.Listed.{HoldsAt, TermPart, SharesListed, IsSecret, slotFor, slotBy, slotAt, FlaggedAt, FlaggedMore, SecretSlot, RootsOf, NoRoot}

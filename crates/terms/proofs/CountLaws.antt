@@ -15,7 +15,7 @@ use Rattle.terms.specs.Entry.{Symbol, atomSymbol, pairSymbol, encryption
 use Rattle.terms.specs.Entry.{withZero, termsOf}
 use Rattle.terms.specs.Each.{Each, none-left, one-more}
 use Rattle.terms.specs.OneTerm.{OneTerm, HasSymbol}
-use Rattle.terms.specs.Solve.{Says, says-same}
+use Rattle.terms.specs.Decisions.{Says, says-same}
 use Rattle.terms.specs.Reading.{none≢some, never-empty, one-reads}
 use Rattle.terms.specs.Count.{tagsOf, areTerms}
 use Rattle.terms.proofs.AnswerLaws.{says-eq}

@@ -19,8 +19,7 @@ use Rattle.terms.specs.Entry.{tagAt, valueAt, from}
 use Rattle.terms.specs.Each.{EntryIs}
 use Rattle.terms.specs.TermEntry.{MayStand, EntryRight, AskedBy, Asked, asked, tagRight, rightAt?, wrongEntry}
 use Rattle.terms.specs.First.{fails, holds}
-use Rattle.terms.specs.Decisions.{pick}
-use Rattle.terms.specs.Solve.{Says, says-same}
+use Rattle.terms.specs.Decisions.{pick, Says, says-same}
 use Rattle.terms.specs.EntryTables.{listedKind, plainLimit, markedLimit, limitsOf, leastKinds, ByTables}
 use Rattle.terms.proofs.AnswerLaws.{says-yes, says-no}
 use Rattle.terms.proofs.FirstLaws.{first-only}

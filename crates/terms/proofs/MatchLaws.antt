@@ -11,7 +11,7 @@ use lib.Seq.{getD-set-same, getD-set-other}
 use Rattle.terms.specs.Term.{Term, variable, atom, pair, encrypted, Sort, plain, marked, Variable, named, replace}
 use Rattle.terms.specs.Tag.{plainTag, markedTag, sortTag, variables, SymbolTag, childrenOf}
 use Rattle.terms.specs.Entry.{size, termOf, Begins, tagAt, valueAt, from}
-use Rattle.terms.specs.Solve.{Says, says-same}
+use Rattle.terms.specs.Decisions.{Says, says-same}
 use Rattle.terms.specs.Decide.{answer}
 use Rattle.terms.specs.Reading.{First, first-atom, first-pair, first-encrypted, first-variable, first}
 use Rattle.terms.specs.Slot.{slotCount, slotIn, slotOf, inSlot}

@@ -21,7 +21,7 @@ use Rattle.terms.specs.TermEntry.{MayStand, TagRight, atomEntry, pairEnt
 use Rattle.terms.specs.TermEntry.{wrongEntry}
 use Rattle.terms.specs.OneTerm.{Numbered, OneTerm, HasSymbol, IsEncryption}
 use Rattle.terms.specs.Occurs.{Occurs}
-use Rattle.terms.specs.Solve.{Says, says-same}
+use Rattle.terms.specs.Decisions.{Says, says-same}
 use Rattle.terms.specs.Reading.{First, first-atom, first-pair, first-encrypted, first-variable, none≢some, first, never-empty, entriesAll, AllOf}
 use Rattle.terms.specs.Reading.{read-entries, one-reads}
 use Rattle.terms.proofs.AnswerLaws.{says-eq}

@@ -13,7 +13,7 @@ use Rattle.terms.specs.Instance.{Matches, Share}
 use Rattle.terms.specs.Tag.{SymbolTag, childrenOf}
 use Rattle.terms.specs.Entry.{termOf, Begins, tagAt, from}
 use Rattle.terms.specs.Occurs.{replace-twice}
-use Rattle.terms.specs.Solve.{Says, says-same}
+use Rattle.terms.specs.Decisions.{Says, says-same}
 use Rattle.terms.specs.Decide.{answer, variable?, term?, match?}
 use Rattle.terms.specs.Slot.{slotCount}
 use Rattle.terms.specs.Front.{Front, Takes, SameFirst, Alike, Ran, Goes, Ready, Made}
