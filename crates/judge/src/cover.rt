@@ -9,7 +9,7 @@ ghost use Rattle.blocks.specs.Kinds.{secretKind, goodKind};
 ghost use Rattle.blocks.specs.Block.{firstEntries, secondEntries};
 ghost use Rattle.terms.specs.Entry.{Begins, termOf, size};
 ghost use Rattle.terms.specs.Instance.{Matches};
-ghost use Rattle.terms.specs.Solve.{Says};
+ghost use Rattle.terms.specs.Decisions.{Says};
 ghost use Rattle.terms.specs.TermGraph.{SizesOf};
 ghost use Rattle.judge.specs.Listed.{rootSlots};
 ghost use Rattle.judge.specs.CoverEntries.{entryFlags};

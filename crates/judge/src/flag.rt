@@ -2,7 +2,7 @@
 ghost use mathlib.Core.Path.{_≡_};
 ghost use Prim.Native.Nat.{_≤_};
 ghost use lib.ListN.{length};
-ghost use Rattle.terms.specs.Solve.{Says};
+ghost use Rattle.terms.specs.Decisions.{Says};
 ghost use Rattle.terms.specs.First.{FirstNot};
 ghost use Rattle.judge.specs.CoverEntries.{entryFlags};
 ghost use Rattle.judge.specs.CoverEntries.{On, flagOf, putOff, toldOf, Renewed, Painted, Cleared, SomeOn};

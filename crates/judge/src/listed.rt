@@ -11,7 +11,7 @@ ghost use Rattle.terms.specs.Instance.{Matches, Share};
 ghost use Rattle.terms.specs.Entry.{Begins, termOf};
 ghost use Rattle.terms.specs.OneTerm.{IsEncryption};
 ghost use Rattle.terms.specs.TermGraph.{SizesOf};
-ghost use Rattle.terms.specs.Solve.{Says};
+ghost use Rattle.terms.specs.Decisions.{Says};
 ghost use Rattle.terms.specs.Decide.{answer};
 ghost use Rattle.judge.specs.Certificate.{Secret, inverse};
 ghost use Rattle.judge.specs.File.{blockCount, certificateOf};

@@ -5,7 +5,7 @@ use Prim.Native.Nat.{ℕ, _<_}
 use native.Mathlib.Omega.{arith}
 use lib.Dec.{eqb, ltb}
 use borrow.Author.Tests.{eqb-true, eqb-false, ltb-true, ltb-false}
-use Rattle.terms.specs.Solve.{Says}
+use Rattle.terms.specs.Decisions.{Says}
 use Rattle.terms.specs.Decide.{answer}
 
 -- What holds is answered by yes, what does not by no.

@@ -12,13 +12,13 @@ use lib.Seq.{getD-drop}
 use borrow.Rule.Slice.PartAt.{part-to-end}
 use Rattle.terms.specs.declared.valid.Found.the-variants.{Nothing, At}
 use Rattle.terms.specs.Atom.{principalKind, nonceKind, publicKind, privateKind, symmetricKind, Atom, atomsOf, atomAt, atomKind, knownOf, partnerOf, IsKey}
-use Rattle.terms.specs.Atom.{isPublic, isPrivate, key-kind, NamedBack, PartnerRight, principal, nonce, publicKey, privateKey, symmetricKey, AtomRight}
-use Rattle.terms.specs.Atom.{Wanted, partner-wanted, partner-right, atomRight?, wrongAtom}
+use Rattle.terms.specs.Atom.{key-kind, NamedBack, PartnerRight, principal, nonce, publicKey, privateKey, symmetricKey, AtomRight, Wanted, partner-wanted}
+use Rattle.terms.specs.Atom.{partner-right, atomRight?, wrongAtom}
 use Rattle.terms.specs.Entry.{tagAt, valueAt, from}
 use Rattle.terms.specs.First.{fails, holds}
-use Rattle.terms.specs.Solve.{Says, says-same}
+use Rattle.terms.specs.Decisions.{Says, says-same}
 use Rattle.terms.proofs.AnswerLaws.{says-eq}
-use Rattle.terms.proofs.FirstLaws.{first-only, first-none}
+use Rattle.terms.proofs.FirstLaws.{first-only}
 
 -- A key is listed.
 pub key-listed : {atoms : List Atom} {n : ℕ} → IsKey atoms n → n < length atoms
@@ -30,23 +30,6 @@ key-listed {atoms} {n} k = elim (decLt n (length atoms)) [
   where
     away : atomKind atoms n ≡ 0 → ⊥
     away z = let b = key-kind k in omega arith
-
--- Nothing found: each is right.
-pub all-right : (atoms : List Atom) → wrongAtom atoms ≡ Nothing → (n : ℕ) → n < length atoms → AtomRight atoms n
-unfolding wrongAtom
-all-right atoms nothing = first-none (atomRight? atoms) nothing
-
--- A key's partner is a key, and names it back.
-pub partner-key : {atoms : List Atom} {n : ℕ} → AtomRight atoms n → IsKey atoms n
-    → IsKey atoms (partnerOf atoms n) × (partnerOf atoms (partnerOf atoms n) ≡ n)
-partner-key {atoms} {n} w key = go (w .partner)
-  where
-    go : PartnerRight atoms n → IsKey atoms (partnerOf atoms n) × (partnerOf atoms (partnerOf atoms n) ≡ n)
-    go (principal k p) = let b = key-kind key in absurd (omega arith)
-    go (nonce k p) = let b = key-kind key in absurd (omega arith)
-    go (publicKey k p) = (isPrivate (p .kind), p .back)
-    go (privateKey k p) = (isPublic (p .kind), p .back)
-    go (symmetricKey k p) = (rw p key, rw (p, p) refl)
 
 -- What the bytes say of the entry of a number.
 pub length-atoms : (b : List ℕ) → length (atomsOf b) ≡ length b / 4
@@ -138,7 +121,8 @@ module _ (b : List ℕ) (n : ℕ) (inside : n < length b / 4) where
     unfolding Wanted
     atom-private k r says = by-kind known privateKind k r says
 
-  pub atom-no-kind : (getD b (4 * n) 0 ≡ principalKind → ⊥) → (getD b (4 * n) 0 ≡ nonceKind → ⊥) → (getD b (4 * n) 0 ≡ publicKind → ⊥) → (getD b (4 * n) 0 ≡ privateKind → ⊥)
+  pub atom-no-kind : (getD b (4 * n) 0 ≡ principalKind → ⊥) → (getD b (4 * n) 0 ≡ nonceKind → ⊥) → (getD b (4 * n) 0 ≡ publicKind → ⊥)
+      → (getD b (4 * n) 0 ≡ privateKind → ⊥)
       → (getD b (4 * n) 0 ≡ symmetricKind → ⊥) → ¬ AtomRight (atomsOf b) n
   atom-no-kind one two three four five w = go (w .partner)
     where

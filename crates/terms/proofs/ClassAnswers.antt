@@ -87,8 +87,8 @@ module _ {s t c : List ℕ} {a b : ℕ} (w : TwoNames s t c a b) where
 
 -- What is said of the names of two classes, said of two of their nodes.
 module _ {s t c : List ℕ} (linked : Linked s t c) {i j a b : ℕ} (ea : a ≡ nameOf c i) (eb : b ≡ nameOf c j) where
-  pub same-answer : a ≡ b → Outcome (nodeOf s t) Any (nameOf c) (nameOf c) (λ v. v i ≡ v j) true
-  same-answer e = done (one-class s t (nameOf c) (classes-of linked) i j ea eb e)
+  pub one-class-answer : a ≡ b → Outcome (nodeOf s t) Any (nameOf c) (nameOf c) (λ v. v i ≡ v j) true
+  one-class-answer e = done (one-class s t (nameOf c) (classes-of linked) i j ea eb e)
 
   pub found-names : AtHome s t i → AtHome s t j → b < a → TwoNames s t c a b
   found-names first second above = record {

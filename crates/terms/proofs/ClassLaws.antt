@@ -1,63 +1,19 @@
 -- Laws of uniting two classes, branch by branch: i's class is named a, j's class b.
 use mathlib.Core.Path.{_≡_, refl, sym, ap, ap₂, _∙_, subst}
-use mathlib.Core.Bool.{Bool, true, false, true≢false, false≢true}
+use mathlib.Core.Bool.{Bool, true, false, true≢false}
 use mathlib.Core.List.{List}
 use Prim.Native.Nat.{ℕ, _<_}
 use native.Mathlib.Omega.{arith}
 use Rattle.terms.specs.Term.{variable, atom, pair, encrypted, Message}
 use Rattle.terms.specs.Tag.{atomTag, pairTag, encryptionTag, Tagged, isAtom, isPair, isEncryption, isVariable, isNone, tagged, freeBy, freeTag}
+use Rattle.terms.specs.Solve.{form}
 use Rattle.terms.specs.Graph.{atomNode, pairNode, encryptionNode, IsSymbol, made, Valid, Classes, ClassStep, Clash, Outcome, Any}
 use Rattle.terms.specs.TermGraph.{variableNodes, nodeFor, nodeBy, nodeTag, nodeValue, firstChild, secondChild, nodeOf, AtHome}
 use Rattle.terms.specs.Meeting.{Symbols}
 use Rattle.terms.proofs.GraphLaws.{merge, stay, done, already, united, united-clash, apart-clash, united-classes}
-use Rattle.terms.proofs.NodeLaws.{home-symbol}
+use Rattle.terms.proofs.NodeLaws.{node-by, not-symbol, symbol-tag, is-symbol, home-symbol}
 
-module _ (s t : List ℕ) where
-  -- What stands at a node, by its tag.
-  pub node-by : (i : ℕ) {n : ℕ} → nodeTag s t i ≡ n → nodeOf s t i ≡ nodeBy n (nodeValue s t i) (firstChild s t i) (secondChild s t i)
-  unfolding nodeOf
-  node-by i e = ap (λ (m : ℕ). nodeBy m (nodeValue s t i) (firstChild s t i) (secondChild s t i)) e
-
-  free-node : {n : ℕ} (w : Tagged n) (v l r : ℕ) → freeBy w ≡ true → IsSymbol (nodeFor w v l r) → ⊥
-  free-node (isAtom e) v l r f is = false≢true f
-  free-node (isPair e) v l r f is = false≢true f
-  free-node (isEncryption e) v l r f is = false≢true f
-  free-node (isVariable s e) v l r f is = is
-  free-node (isNone e) v l r f is = is
-
-  symbol-node : {n : ℕ} (w : Tagged n) (v l r : ℕ) → freeBy w ≡ false → IsSymbol (nodeFor w v l r)
-  symbol-node (isAtom e) v l r f = tt
-  symbol-node (isPair e) v l r f = tt
-  symbol-node (isEncryption e) v l r f = tt
-  symbol-node (isVariable s e) v l r f = absurd (true≢false f)
-  symbol-node (isNone e) v l r f = absurd (true≢false f)
-
-  pub not-symbol : (i : ℕ) → freeTag (nodeTag s t i) ≡ true → IsSymbol (nodeOf s t i) → ⊥
-  unfolding nodeOf nodeBy freeTag
-  not-symbol i f is = free-node (tagged (nodeTag s t i)) (nodeValue s t i) (firstChild s t i) (secondChild s t i) f is
-
-  symbol-by : {n : ℕ} (w : Tagged n) (v l r : ℕ) → IsSymbol (nodeFor w v l r) → freeBy w ≡ false
-  symbol-by (isAtom e) v l r is = refl
-  symbol-by (isPair e) v l r is = refl
-  symbol-by (isEncryption e) v l r is = refl
-  symbol-by (isVariable s e) v l r is = absurd is
-  symbol-by (isNone e) v l r is = absurd is
-
-  pub symbol-tag : (i : ℕ) → IsSymbol (nodeOf s t i) → freeTag (nodeTag s t i) ≡ false
-  unfolding nodeOf nodeBy freeTag
-  symbol-tag i is = symbol-by (tagged (nodeTag s t i)) (nodeValue s t i) (firstChild s t i) (secondChild s t i) is
-
-  pub is-symbol : (i : ℕ) → freeTag (nodeTag s t i) ≡ false → IsSymbol (nodeOf s t i)
-  unfolding nodeOf nodeBy freeTag
-  is-symbol i f = symbol-node (tagged (nodeTag s t i)) (nodeValue s t i) (firstChild s t i) (secondChild s t i) f
-
--- The form of a message and the number in it: its root's tag and value as an entry.
-unfoldable pub form : Message → ℕ
-form (variable x) = 0
-form (atom a) = atomTag
-form (pair m n) = pairTag
-form (encrypted k m) = encryptionTag
-
+-- The number in a message: its root's value as an entry.
 unfoldable pub number : Message → ℕ
 number (variable x) = 0
 number (atom a) = a

@@ -15,7 +15,7 @@ use Rattle.terms.specs.Entry.{Symbol, atomSymbol, pairSymbol, encryption
 use Rattle.terms.specs.Entry.{withZero, termsOf}
 use Rattle.terms.specs.Each.{Each, none-left, one-more}
 use Rattle.terms.specs.OneTerm.{OneTerm, HasSymbol}
-use Rattle.terms.specs.Solve.{Says, says-same}
+use Rattle.terms.specs.Decisions.{Says, says-same}
 use Rattle.terms.specs.Reading.{none≢some, never-empty, one-reads}
 use Rattle.terms.specs.Count.{tagsOf, areTerms}
 use Rattle.terms.proofs.AnswerLaws.{says-eq}
@@ -68,7 +68,9 @@ count-up s none need r = absurd (none≢some _ (r .are))
 count-up (atomSymbol a) (some l) need r =
     let c : length (r .terms) ≡ length l = cc in let d = r .many in record { terms = atom a ∷ l; are = refl; many = omega arith }
 count-up (variableSymbol (named s x)) (some l) need r =
-    let c : length (r .terms) ≡ length l = cc in let d = r .many in record { terms = variable (named s x) ∷ l; are = refl; many = omega (arith, sort-childless s) }
+    let c : length (r .terms) ≡ length l = cc in
+    let d = r .many in
+    record { terms = variable (named s x) ∷ l; are = refl; many = omega (arith, sort-childless s) }
 count-up pairSymbol (some []) need r =
     let c : length (r .terms) ≡ 0 = cc in let d = r .many in absurd (omega arith)
 count-up pairSymbol (some (t ∷ [])) need r =
@@ -104,7 +106,8 @@ count-tags (one-more {tag} {zeroByte} {low} {high} {rest} p each) (suc need) =
 -- One term is one term still to come.
 pub count-one : {e : List ℕ} → Each HasSymbol e → ((i : ℕ) → getD e i 0 < 256) → {tags : List ℕ} → tags ≡ tagsOf e
     → {b : Bool} → b ≡ areTerms tags 1 → Says b (OneTerm e)
-count-one {e} each all same {b} is = says-same {P = Count (termsOf e) 1} b (λ c. reads-one (record { is = c .are ∙ ap some (single (c .terms) (c .many) .1) }) all)
+count-one {e} each all same {b} is = says-same {P = Count (termsOf e) 1} b
+    (λ c. reads-one (record { is = c .are ∙ ap some (single (c .terms) (c .many) .1) }) all)
     (λ o. record { terms = o .term ∷ []; are = one-reads o .is; many = refl }) (rw (is, same) (count-tags each 1))
   where
     single : (l : List (Term Variable)) → length l ≡ 1 → (t : Term Variable) × (l ≡ t ∷ [])

@@ -17,10 +17,10 @@ use Rattle.terms.specs.TermGraph.{OwnEntry, HasChild}
 use Rattle.terms.specs.Names.{nameOf, Linked}
 use Rattle.terms.specs.Ending.{ChildrenEnd, ParentEnds, Sound, Below, ChildrenBelow, zeros, MarksKept, Walked, EachFrom}
 use Rattle.terms.proofs.GraphLaws.{child-symbol, falls}
-use Rattle.terms.proofs.NodeLaws.{past-free, symbol-inside, home-symbol}
+use Rattle.terms.proofs.NodeLaws.{node-by, past-free, symbol-inside, home-symbol}
 use Rattle.terms.proofs.NameLaws.{name-named, name-home}
-use Rattle.terms.proofs.ClassLaws.{node-by}
 
+-- P holds of none; and of one more, below.
 pub each-none : (P : ℕ → Type 0) (low : ℕ) → EachFrom P low low
 each-none P low = record { each = λ k h g. absurd (omega arith) }
 
@@ -148,7 +148,8 @@ module _ {s t c m n : List ℕ} {a : ℕ} (low : a < variableNodes) (inside : a 
     ];
   }
 
-  pub closed : (i : ℕ) → a ≡ nameOf c i → ChildrenEnd s t c a × MarksKept s t c (set m a 1) n → Walked s t c m (set n a 2) (Finite (nodeOf s t) (nameOf c) i) true
+  pub closed : (i : ℕ) → a ≡ nameOf c i → ChildrenEnd s t c a × MarksKept s t c (set m a 1) n
+      → Walked s t c m (set n a 2) (Finite (nodeOf s t) (nameOf c) i) true
   closed i is done = yes-kept (rw length-set long) (closed-kept (done .0) (done .1)) (class-ends i is (done .0))
 
 -- ---- at the children of node a
@@ -179,8 +180,8 @@ module _ {s t c : List ℕ} {a : ℕ} where
   unfolding nodeBy
   content-below three is all = rw is (all .child (firstChild s t a) (subst (Child (firstChild s t a)) (sym (node-by s t a three)) refl))
 
-  pub no-children : (nodeTag s t a ≡ pairTag → ⊥) → (nodeTag s t a ≡ encryptionTag → ⊥) → ChildrenEnd s t c a
-  no-children no-pair no-encryption = record { child = λ j child. absurd (childless s t a no-pair no-encryption j child) }
+  pub no-children-end : (nodeTag s t a ≡ pairTag → ⊥) → (nodeTag s t a ≡ encryptionTag → ⊥) → ChildrenEnd s t c a
+  no-children-end no-pair no-encryption = record { child = λ j child. absurd (childless s t a no-pair no-encryption j child) }
 
   pub content-ends : {x : ℕ} → nodeTag s t a ≡ encryptionTag → x ≡ firstChild s t a → Finite (nodeOf s t) (nameOf c) x → ChildrenEnd s t c a
   content-ends three is first = record { child = λ j child. subst (Finite (nodeOf s t) (nameOf c)) (is ∙ sym (content-children s t a three j child)) first }
@@ -195,7 +196,8 @@ module _ {s t c : List ℕ} {a : ℕ} where
 
   -- The first half has ended; the second half answers for both.
   pub halves-walked : {m n o : List ℕ} {x y : ℕ} {r : Bool} → nodeTag s t a ≡ pairTag → x ≡ firstChild s t a → y ≡ secondChild s t a
-      → Finite (nodeOf s t) (nameOf c) x × MarksKept s t c m n → Walked s t c n o (Finite (nodeOf s t) (nameOf c) y) r → Walked s t c m o (ChildrenEnd s t c a) r
+      → Finite (nodeOf s t) (nameOf c) x × MarksKept s t c m n → Walked s t c n o (Finite (nodeOf s t) (nameOf c) y) r
+      → Walked s t c m o (ChildrenEnd s t c a) r
   halves-walked two is-first is-second first w = record {
     long = w .long;
     ends = λ e. (halves-end two is-first is-second (first .0) (w .ends e .0), kept-both (first .1) (w .ends e .1));

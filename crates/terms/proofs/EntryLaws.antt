@@ -1,5 +1,5 @@
 -- Laws of entries: what stands first, and what is left after it.
-use mathlib.Core.Path.{_≡_, refl, ap, _∙_}
+use mathlib.Core.Path.{_≡_, refl, sym, ap, _∙_}
 use mathlib.Core.List.{List, [], _∷_}
 use mathlib.Core.Option.{some}
 use Prim.Native.Nat.{ℕ, zero, suc, _+_, _*_, _<_, _≤_, _-_}
@@ -12,6 +12,7 @@ use Rattle.terms.specs.Tag.{atomTag, pairTag, encryptionTag, sortTag, va
 use Rattle.terms.specs.Entry.{size, symbolOf, withZero, termsOf, firstOf, termOf, Reads, Begins, tagAt, valueAt, from}
 use Rattle.terms.specs.Reading.{First, first-atom, first-pair, first-encrypted, first-variable, none≢some, nothing-read, first, entry-zero, never-empty}
 
+-- The second byte of an entry is zero.
 pub zero-byte : {e : List ℕ} {t : Term Variable} {l : List (Term Variable)} → Reads e (t ∷ l) → getD e 1 0 ≡ 0
 unfolding termsOf
 zero-byte {e} {t} {l} r = go e (r .is)
@@ -39,6 +40,9 @@ four {e} {t} {l} r = go e (r .is)
 pub termOf-reads : {e : List ℕ} {t : Term Variable} {l : List (Term Variable)} → Reads e (t ∷ l) → termOf e ≡ t
 unfolding termOf
 termOf-reads r = ap firstOf (r .is)
+
+pub term-reads : {e : List ℕ} {t : Term Variable} (b : Begins e) → termOf e ≡ t → Reads e (t ∷ b .others)
+term-reads b is = let same = sym (termOf-reads (b .reads)) ∙ is in rw same at (b .reads)
 
 -- Reading a term of a known shape: tag, value, and what is left.
 module _ {e : List ℕ} {l : List (Term Variable)} where
@@ -213,10 +217,10 @@ right-begins {e} p {r} is =
     rw part-to-end (rw (drop-drop, there) at (past (p .left) here))
 
 -- How many entries a pair, an encryption has.
-pub pair-size : {e : List ℕ} → Begins e → tagAt e ≡ pairTag → {r s : ℕ} → r ≡ size (termOf (from 4 e)) → s ≡ size (termOf (from (4 * (1 + r)) e))
+pub pair-walked : {e : List ℕ} → Begins e → tagAt e ≡ pairTag → {r s : ℕ} → r ≡ size (termOf (from 4 e)) → s ≡ size (termOf (from (4 * (1 + r)) e))
     → (1 + r + s ≡ size (termOf e)) × (4 * (1 + r + s) ≤ length e)
 unfolding size
-pair-size {e} b is {r} {s} left right =
+pair-walked {e} b is {r} {s} left right =
     let p = pair-first b is in
     let l : r ≡ size (p .left) = left ∙ ap size (termOf-reads (p .below)) in
     let q : s ≡ size (p .right) = right ∙ ap size (termOf-reads (right-begins p left)) in
@@ -224,9 +228,10 @@ pair-size {e} b is {r} {s} left right =
     let room : 4 * (1 + (size (p .left) + size (p .right))) ≤ length e = fits (pair (p .left) (p .right)) (p .whole) in
     (omega arith, omega arith)
 
-pub encryption-size : {e : List ℕ} → Begins e → tagAt e ≡ encryptionTag → {r : ℕ} → r ≡ size (termOf (from 4 e)) → (1 + r ≡ size (termOf e)) × (4 * (1 + r) ≤ length e)
+pub encryption-walked : {e : List ℕ} → Begins e → tagAt e ≡ encryptionTag → {r : ℕ} → r ≡ size (termOf (from 4 e))
+    → (1 + r ≡ size (termOf e)) × (4 * (1 + r) ≤ length e)
 unfolding size
-encryption-size {e} b is {r} below =
+encryption-walked {e} b is {r} below =
     let p = encryption-first b is in
     let l : r ≡ size (p .content) = below ∙ ap size (termOf-reads (p .below)) in
     let whole : size (termOf e) ≡ 1 + size (p .content) = ap size (termOf-reads (p .whole)) in

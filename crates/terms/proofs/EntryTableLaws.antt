@@ -1,7 +1,7 @@
 -- Laws of the tables: an entry is right (number 7) if and only if the tables say so.
 use mathlib.Core.Path.{_≡_, refl, ap}
 use mathlib.Core.Bool.{Bool, true, false}
-use mathlib.Core.List.{List, [], _∷_}
+use mathlib.Core.List.{List}
 use mathlib.Core.Logic.{_⊎_, inl, inr}
 use Prim.Native.Nat.{ℕ, _*_, _/_, _≤_, _<_}
 use native.Mathlib.Decide.{ℕ-discrete}
@@ -19,8 +19,7 @@ use Rattle.terms.specs.Entry.{tagAt, valueAt, from}
 use Rattle.terms.specs.Each.{EntryIs}
 use Rattle.terms.specs.TermEntry.{MayStand, EntryRight, AskedBy, Asked, asked, tagRight, rightAt?, wrongEntry}
 use Rattle.terms.specs.First.{fails, holds}
-use Rattle.terms.specs.Decisions.{pick}
-use Rattle.terms.specs.Solve.{Says, says-same}
+use Rattle.terms.specs.Decisions.{pick, Says, says-same}
 use Rattle.terms.specs.EntryTables.{listedKind, plainLimit, markedLimit, limitsOf, leastKinds, ByTables}
 use Rattle.terms.proofs.AnswerLaws.{says-yes, says-no}
 use Rattle.terms.proofs.FirstLaws.{first-only}
@@ -30,7 +29,9 @@ use Rattle.terms.proofs.AtomLaws.{key-listed, length-atoms, kind-byte}
 module _ (b : List ℕ) (n : ℕ) where
   pub kind-away : length b / 4 ≤ n → 0 ≡ listedKind (atomsOf b) n
   unfolding listedKind atomAt
-  kind-away far = let none-there : atomKind (atomsOf b) n ≡ 0 = ap (λ (a : Atom). a .kind) (List·getD-eq-default (atomsOf b) _ (omega (arith, length-atoms b))) in
+  kind-away far =
+      let none-there : atomKind (atomsOf b) n ≡ 0 =
+      ap (λ (a : Atom). a .kind) (List·getD-eq-default (atomsOf b) _ (omega (arith, length-atoms b))) in
       rw none-there
 
   pub kind-low : n < length b / 4 → getD b (4 * n) 0 < 6 → getD b (4 * n) 0 ≡ listedKind (atomsOf b) n
@@ -164,8 +165,8 @@ module _ {atoms : List Atom} {limits least e : List ℕ} {tag : ℕ} (is-tag : t
       pub less-kind : k < getD least tag 0 → ¬ ByTables atoms limits least e
       less-kind low w = let h = w .kept in let l = rw (is-kind, is-tag, is-value) at low in omega arith
 
-      pub within : getD e 1 0 ≡ 0 → n < getD limits tag 0 → getD least tag 0 ≤ k → ByTables atoms limits least e
-      within blank below kept =
+      pub by-tables : getD e 1 0 ≡ 0 → n < getD limits tag 0 → getD least tag 0 ≤ k → ByTables atoms limits least e
+      by-tables blank below kept =
           record { blank = blank; below = rw (is-tag, is-value) at below; kept = rw (is-kind, is-tag, is-value) at kept }
 
 -- The first entry that is not right.

@@ -1,4 +1,4 @@
--- The first number of which a claim does not hold is what `firstNot` finds, and nothing else is.
+-- Laws of the first number of which a claim does not hold: `firstNot` finds it, and nothing else is it.
 use mathlib.Core.Path.{_≡_, refl}
 use Prim.Native.Nat.{ℕ, zero, suc, _+_, _<_}
 use native.Mathlib.Omega.{arith}
@@ -7,8 +7,8 @@ use Rattle.terms.specs.declared.valid.Found.{Found}
 use Rattle.terms.specs.declared.valid.Found.the-variants.{At, Nothing}
 use Rattle.terms.specs.First.{FirstNot, fails, holds, firstFrom, firstNot}
 
--- It has that meaning.
 module _ {P : ℕ → Type 0} (P? : (n : ℕ) → Dec (P n)) where
+  -- What is found has the meaning.
   from-is : (i left : ℕ) → ((k : ℕ) → k < i → P k) → FirstNot P (i + left) (firstFrom P? i left)
   unfolding firstFrom
   from-is i zero all = holds refl (λ k h. all k (omega arith))

@@ -252,9 +252,9 @@ module _ (need : ℕ) {e f : List ℕ} (left : Front need e) (right : Front need
         off (record { tag = cc; value = cc })
 
 -- No term is left.
-pub none-left : {need : ℕ} (by : Variable → Term Variable) (e f : List ℕ) → need ≡ 0 → Takes by need e f
+pub none-compared : {need : ℕ} (by : Variable → Term Variable) (e f : List ℕ) → need ≡ 0 → Takes by need e f
 unfolding frontOf
-none-left by e f is = record { same = rw is refl }
+none-compared by e f is = record { same = rw is refl }
 
 -- The first term, where the entries begin with one.
 pub front-few : {n : ℕ} {e : List ℕ} → Begins e → n ≤ 1 → Front n e

@@ -87,7 +87,8 @@ module _ (node : ℕ → Node) (Q : (ℕ → Message) → Type 0) where
   stay cs = record { classes = cs; forth = λ v x r q. r; back = λ v r. r; holds = λ v r q. tt; closes = λ v r c. c }
 
   module _ {name mid : ℕ → ℕ} {P : (ℕ → Message) → Type 0} where
-    pub both : {next : ℕ → ℕ} {P′ : (ℕ → Message) → Type 0} → ClassStep node Q name mid P → ClassStep node Q mid next P′ → ClassStep node Q name next (λ v. P v × P′ v)
+    pub both : {next : ℕ → ℕ} {P′ : (ℕ → Message) → Type 0} → ClassStep node Q name mid P → ClassStep node Q mid next P′
+        → ClassStep node Q name next (λ v. P v × P′ v)
     both s t = record {
       classes = t .classes;
       forth = λ v x r q. t .forth v x (s .forth v x r (q .0)) (q .1);

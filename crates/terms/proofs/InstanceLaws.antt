@@ -5,8 +5,6 @@ use Rattle.terms.specs.Place.{left, right}
 use Rattle.terms.specs.Instance.{Matches, Share}
 use Rattle.terms.specs.Occurs.{replace-twice}
 
--- Replacements.
-
 -- A message holds no variable, so a replacement leaves it as it is.
 pub replace-message : (by : ⊥ → Message) (m : Message) → replace by m ≡ m
 unfolding replace

@@ -27,9 +27,9 @@ pub mod NameLaws
 pub mod ClassLaws
 pub mod ClassAnswers
 pub mod MeetingLaws
-pub mod Roots
+pub mod RootLaws
 pub mod EndingLaws
-pub mod ShareGraph
+pub mod ShareLaws
 -- Cases, decided by computation.
 pub mod DecideTries
 pub mod ValidTries

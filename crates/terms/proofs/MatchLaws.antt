@@ -8,22 +8,18 @@ use native.Mathlib.Omega.{arith}
 use native.Mathlib.Decide.{ℕ-discrete}
 use lib.ListN.{length, getD, set, drop, replicate, getD-replicate}
 use lib.Seq.{getD-set-same, getD-set-other}
-use borrow.Rule.Slice.PartAt.{part-to-end}
-use Rattle.blocks.specs.Limits.{mostTermBytes}
 use Rattle.terms.specs.Term.{Term, variable, atom, pair, encrypted, Sort, plain, marked, Variable, named, replace}
-use Rattle.terms.specs.Instance.{Matches}
 use Rattle.terms.specs.Tag.{plainTag, markedTag, sortTag, variables, SymbolTag, childrenOf}
 use Rattle.terms.specs.Entry.{size, termOf, Begins, tagAt, valueAt, from}
-use Rattle.terms.specs.Solve.{Says, says-same}
-use Rattle.terms.specs.Decide.{answer, variable?, term?, match?}
+use Rattle.terms.specs.Decisions.{Says, says-same}
+use Rattle.terms.specs.Decide.{answer}
 use Rattle.terms.specs.Reading.{First, first-atom, first-pair, first-encrypted, first-variable, first}
 use Rattle.terms.specs.Slot.{slotCount, slotIn, slotOf, inSlot}
 use Rattle.terms.specs.Front.{Front, Takes, SameFirst, Bound, Agrees, Comparable, Bindable, Ready, Made}
-use Rattle.terms.proofs.AnswerLaws.{yes-of, no-of, says-answer}
+use Rattle.terms.proofs.AnswerLaws.{yes-of, no-of}
 use Rattle.terms.proofs.EntryLaws.{termOf-reads, fits, from-from, from-length}
 use Rattle.terms.proofs.SlotLaws.{slot-in, slot-of-slot}
-use Rattle.terms.proofs.FrontLaws.{next, front-begins, opened, parted, KeepsFirst, next-term, next-symbol, other-symbol, none-left, front-few}
-use Rattle.terms.proofs.SameLaws.{one-term, same-term}
+use Rattle.terms.proofs.FrontLaws.{next, front-begins, opened, parted, KeepsFirst, next-term, next-symbol, other-symbol, none-compared}
 
 -- The slot of a term that stands first, by its tag and value.
 pub record Slotted (tag n : ℕ) (t : Term Variable) : Type 0 where
@@ -151,7 +147,7 @@ module _ (t bound : List ℕ) (x at : ℕ) (slot : x < slotCount) (long : x < le
 
 -- Nothing is left to compare.
 pub made-none : {p t bound : List ℕ} {at need : ℕ} → need ≡ 0 → Made p t at need bound
-made-none {p} {t} {bound} {at} is = record { by = bindings t bound; agrees = bindings-agree t bound; takes = none-left _ p (from (4 * at) t) is }
+made-none {p} {t} {bound} {at} is = record { by = bindings t bound; agrees = bindings-agree t bound; takes = none-compared _ p (from (4 * at) t) is }
 
 module _ {p t bound : List ℕ} {at need : ℕ} (r : Ready p t at need bound) (some-left : ¬ (need ≡ 0)) where
   pub pattern-begins : Begins p
@@ -259,30 +255,3 @@ module _ {p t bound : List ℕ} {at need : ℕ} (r : Ready p t at need bound) (s
 
     pub symbol-clash : ¬ SameFirst p (from (4 * at) t) → ¬ Made p t at need bound
     symbol-clash off m = other-symbol need (r .pattern) (r .subject) some-left (m .by) (keeps (m .by)) off (m .takes)
-
--- From the first entry on, with nothing bound: the pattern matches.
-from-none : (e : List ℕ) → from (4 * 0) e ≡ e
-from-none e = part-to-end e 0
-
-pub match-ready : {p t : List ℕ} {need : ℕ} → Begins p → Begins t → length t ≤ mostTermBytes → need ≤ 1 → Ready p t 0 need (replicate slotCount 255)
-match-ready {p} {t} b d small few = record {
-  pattern = front-few b few;
-  subject = rw (from-none t) (front-few d few);
-  held = λ i h. absurd (none-bound i h);
-  inside = omega (arith, d .room);
-  small = small;
-}
-
-match-made : {p t : List ℕ} → Begins p → Begins t → Made p t 0 1 (replicate slotCount 255) ↔ Matches (termOf p) (termOf t)
-match-made {p} {t} b d = (
-  λ m. record { by = m .by; same = one-term b d (m .by) .0 (rw (from-none t) at (m .takes)) },
-  λ m. record { by = m .by; agrees = record { held = λ i h. absurd (none-bound i h) }; takes = rw (from-none t) (one-term b d (m .by) .1 (m .same)) },
-)
-
--- The answers of the walks are those of the decisions.
-pub match-answer : {p t : List ℕ} → Begins p → Begins t → (b : Bool) → Says b (Made p t 0 1 (replicate slotCount 255))
-    → b ≡ answer (match? variable? variable? (termOf p) (termOf t))
-match-answer b d r says = let m = match-made b d in says-answer r (says-same r (m .0) (m .1) says) (match? variable? variable? _ _)
-
-pub same-answer : {e f : List ℕ} → Begins e → Begins f → (b : Bool) → Says b (Takes variable 1 e f) → b ≡ answer (term? variable? (termOf e) (termOf f))
-same-answer b d r says = let m = same-term b d in says-answer r (says-same r (m .0) (m .1) says) (term? variable? _ _)

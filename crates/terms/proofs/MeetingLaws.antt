@@ -1,6 +1,5 @@
 -- Laws of the walk over two terms side by side.
 use mathlib.Core.Path.{_≡_, refl, sym, ap, _∙_}
-use mathlib.Core.Bool.{Bool, true, false}
 use mathlib.Core.List.{List}
 use mathlib.Core.Logic.{_↔_}
 use Prim.Native.Nat.{ℕ, zero, suc, _+_, _*_, _-_, _<_, _≤_}
@@ -201,7 +200,8 @@ slot-variable (encrypted k t) low = absurd (omega arith)
 pub distinct-none : (s m : List ℕ) → Distinct s m 0
 distinct-none s m = record { variables = λ k h. absurd (omega arith); apart = λ j k h l. absurd (omega arith) }
 
-pub distinct-more : {s m : List ℕ} {k : ℕ} → Distinct s m k → notedSlot s m k < slotCount → ((j : ℕ) → j < k → ¬ (notedSlot s m j ≡ notedSlot s m k)) → Distinct s m (k + 1)
+pub distinct-more : {s m : List ℕ} {k : ℕ} → Distinct s m k → notedSlot s m k < slotCount → ((j : ℕ) → j < k → ¬ (notedSlot s m j ≡ notedSlot s m k))
+    → Distinct s m (k + 1)
 distinct-more {s} {m} {k} d low new = record {
   variables = λ j h. elim (ℕ-discrete j k) [ yes e ↦ rw e low | no off ↦ d .variables j (omega arith) ];
   apart = λ i j h l. elim (ℕ-discrete j k) [ yes e ↦ rw e (new i (omega arith)) | no off ↦ d .apart i j h (omega arith) ];

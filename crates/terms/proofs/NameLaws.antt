@@ -36,25 +36,25 @@ unfolding nameOf
 name-own c i e = after-own allNodes c i e
 
 -- Node k is on the way from node i to its class's name, with n links at most left to follow.
-pub record OnTheWay (c : List ℕ) (i n k : ℕ) : Type 0 where
+pub record WayToName (c : List ℕ) (i n k : ℕ) : Type 0 where
   pub leads : after n c k ≡ nameOf c i
 
-pub way-starts : (c : List ℕ) (i : ℕ) → OnTheWay c i allNodes i
+pub way-starts : (c : List ℕ) (i : ℕ) → WayToName c i allNodes i
 unfolding nameOf
 way-starts c i = record { leads = refl }
 
-pub way-ends : {c : List ℕ} {i n k : ℕ} → OnTheWay c i n k → n ≡ 0 → k ≡ nameOf c i
+pub way-ends : {c : List ℕ} {i n k : ℕ} → WayToName c i n k → n ≡ 0 → k ≡ nameOf c i
 unfolding after
 way-ends {c} {i} {n} {k} way none = (rw none at (way .leads))
 
-module _ {c : List ℕ} {i n k x : ℕ} (way : OnTheWay c i n k) (inside : k < length c) (read : x ≡ getD c k 0) where
+module _ {c : List ℕ} {i n k x : ℕ} (way : WayToName c i n k) (inside : k < length c) (read : x ≡ getD c k 0) where
   link-read : linkOf c k ≡ x
   link-read = getD-any c k k 0 inside ∙ sym read
 
   pub way-arrives : x ≡ k → k ≡ nameOf c i
   way-arrives own = sym (after-own n c k (link-read ∙ own)) ∙ way .leads
 
-  pub way-goes-on : 0 < n → OnTheWay c i (n - 1) x
+  pub way-goes-on : 0 < n → WayToName c i (n - 1) x
   unfolding after
   way-goes-on some = record { leads = go n some (way .leads) }
     where

@@ -1,5 +1,6 @@
 -- Laws of nodes: what stands at a node, by the part of the graph that it lies in, and where its children are.
 use mathlib.Core.Path.{_≡_, refl, sym, ap, _∙_, subst}
+use mathlib.Core.Bool.{true, false, true≢false, false≢true}
 use mathlib.Core.List.{List}
 use mathlib.Core.Logic.{_⊎_, inl, inr, ⊎-elim}
 use Prim.Native.Nat.{ℕ, zero, suc, _+_, _*_, _-_, _%_, _<_, _≤_}
@@ -9,7 +10,7 @@ use lib.ListN.{length, getD}
 use borrow.Author.Tests.{lt-ltb, le-ltb}
 use Rattle.terms.specs.Term.{Sort, plain, marked}
 use Rattle.terms.specs.Tag.{pairTag, encryptionTag, plainTag, markedTag, sortTag, variables, Tagged, isAtom, isPair, isEncryption, isVariable, isNone}
-use Rattle.terms.specs.Tag.{tagged}
+use Rattle.terms.specs.Tag.{tagged, freeBy, freeTag}
 use Rattle.terms.specs.Entry.{Begins}
 use Rattle.terms.specs.Graph.{free, IsSymbol}
 use Rattle.terms.specs.TermGraph.{rightNodes, variableNodes, rightVariables, tagIn, valueIn, homeFor, homeBy, home, rightIn, nodeFor, nodeBy, nodeTag}
@@ -69,6 +70,45 @@ module _ (s t : List ℕ) {i : ℕ} where
   unfolding nodeValue
   right-value l h = rw (le-ltb i rightNodes l, lt-ltb i variableNodes h)
 
+module _ (s t : List ℕ) where
+  -- What stands at a node, by its tag.
+  pub node-by : (i : ℕ) {n : ℕ} → nodeTag s t i ≡ n → nodeOf s t i ≡ nodeBy n (nodeValue s t i) (firstChild s t i) (secondChild s t i)
+  unfolding nodeOf
+  node-by i e = ap (λ (m : ℕ). nodeBy m (nodeValue s t i) (firstChild s t i) (secondChild s t i)) e
+
+  free-node : {n : ℕ} (w : Tagged n) (v l r : ℕ) → freeBy w ≡ true → IsSymbol (nodeFor w v l r) → ⊥
+  free-node (isAtom e) v l r f is = false≢true f
+  free-node (isPair e) v l r f is = false≢true f
+  free-node (isEncryption e) v l r f is = false≢true f
+  free-node (isVariable s e) v l r f is = is
+  free-node (isNone e) v l r f is = is
+
+  symbol-node : {n : ℕ} (w : Tagged n) (v l r : ℕ) → freeBy w ≡ false → IsSymbol (nodeFor w v l r)
+  symbol-node (isAtom e) v l r f = tt
+  symbol-node (isPair e) v l r f = tt
+  symbol-node (isEncryption e) v l r f = tt
+  symbol-node (isVariable s e) v l r f = absurd (true≢false f)
+  symbol-node (isNone e) v l r f = absurd (true≢false f)
+
+  pub not-symbol : (i : ℕ) → freeTag (nodeTag s t i) ≡ true → IsSymbol (nodeOf s t i) → ⊥
+  unfolding nodeOf nodeBy freeTag
+  not-symbol i f is = free-node (tagged (nodeTag s t i)) (nodeValue s t i) (firstChild s t i) (secondChild s t i) f is
+
+  symbol-by : {n : ℕ} (w : Tagged n) (v l r : ℕ) → IsSymbol (nodeFor w v l r) → freeBy w ≡ false
+  symbol-by (isAtom e) v l r is = refl
+  symbol-by (isPair e) v l r is = refl
+  symbol-by (isEncryption e) v l r is = refl
+  symbol-by (isVariable s e) v l r is = absurd is
+  symbol-by (isNone e) v l r is = absurd is
+
+  pub symbol-tag : (i : ℕ) → IsSymbol (nodeOf s t i) → freeTag (nodeTag s t i) ≡ false
+  unfolding nodeOf nodeBy freeTag
+  symbol-tag i is = symbol-by (tagged (nodeTag s t i)) (nodeValue s t i) (firstChild s t i) (secondChild s t i) is
+
+  pub is-symbol : (i : ℕ) → freeTag (nodeTag s t i) ≡ false → IsSymbol (nodeOf s t i)
+  unfolding nodeOf nodeBy freeTag
+  is-symbol i f = symbol-node (tagged (nodeTag s t i)) (nodeValue s t i) (firstChild s t i) (secondChild s t i) f
+
 -- Nodes past the entries are free.
 pub past-free : (s t : List ℕ) (i : ℕ) → variableNodes ≤ i → nodeOf s t i ≡ free
 unfolding nodeOf nodeBy
@@ -123,7 +163,8 @@ home-left s t k both fit =
 
 pub home-right : (s t : List ℕ) (k : ℕ) → TwoTerms s t → 4 * (k + 1) ≤ length t → AtHome s t (home t rightNodes rightVariables k)
 home-right s t k both fit =
-    let there = home-there (nodeOf s t) t rightNodes rightVariables (both .right-short) (right-side s t) (both .right) k (omega arith) (omega arith) (omega arith) fit in
+    let there =
+    home-there (nodeOf s t) t rightNodes rightVariables (both .right-short) (right-side s t) (both .right) k (omega arith) (omega arith) (omega arith) fit in
     record { small = there .0; is = there .1 }
 
 -- Where the children of a pair or an encryption at entry k stand.

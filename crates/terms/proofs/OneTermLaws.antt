@@ -1,4 +1,4 @@
--- What is known of a block's term after numbers 7 and 8.
+-- Laws of exactly one term: what is known of a block's term after numbers 7 and 8.
 use mathlib.Core.Path.{_≡_, refl, sym, ap, _∙_, ap₂}
 use mathlib.Core.List.{List, [], _∷_, _++_, append-assoc, append-nil}
 use mathlib.Core.Option.{some}
@@ -21,7 +21,7 @@ use Rattle.terms.specs.TermEntry.{MayStand, TagRight, atomEntry, pairEnt
 use Rattle.terms.specs.TermEntry.{wrongEntry}
 use Rattle.terms.specs.OneTerm.{Numbered, OneTerm, HasSymbol, IsEncryption}
 use Rattle.terms.specs.Occurs.{Occurs}
-use Rattle.terms.specs.Solve.{Says, says-same}
+use Rattle.terms.specs.Decisions.{Says, says-same}
 use Rattle.terms.specs.Reading.{First, first-atom, first-pair, first-encrypted, first-variable, none≢some, first, never-empty, entriesAll, AllOf}
 use Rattle.terms.specs.Reading.{read-entries, one-reads}
 use Rattle.terms.proofs.AnswerLaws.{says-eq}
@@ -29,6 +29,7 @@ use Rattle.terms.proofs.EntryLaws.{termOf-reads, reads-encrypted, begin
 use Rattle.terms.proofs.EachLaws.{each-of, each-map}
 use Rattle.terms.proofs.FirstLaws.{first-none}
 
+-- Bytes that are read as one term are exactly one term.
 pub reads-one : {e : List ℕ} {t : Term Variable} → Reads e (t ∷ []) → ((i : ℕ) → getD e i 0 < 256) → OneTerm e
 unfolding AllOf entriesAll
 reads-one {e} {t} r all =
@@ -63,14 +64,6 @@ one-termOf o = termOf-reads (one-reads o)
 
 pub one-alone : {e : List ℕ} → OneTerm e → termsOf e ≡ some (termOf e ∷ [])
 one-alone o = one-reads o .is ∙ ap (λ (t : Term Variable). some (t ∷ [])) (sym (one-termOf o))
-
--- Encoding and decoding are inverse to each other: a term's entries are read as it, and bytes are exactly one term if
--- and only if they are read as one.
-pub entries-alone : (t : Term Variable) → Numbered t → termsOf (termEntries t) ≡ some (t ∷ [])
-entries-alone t n = one-reads (record { term = t; numbers = n; is = refl }) .is
-
-pub one-iff-read : {e : List ℕ} → ((i : ℕ) → getD e i 0 < 256) → OneTerm e ↔ ((t : Term Variable) × (termsOf e ≡ some (t ∷ [])))
-one-iff-read all = (λ o. (o .term, one-reads o .is), λ r. reads-one (record { is = r .1 }) all)
 
 -- Where each entry has a symbol, the entries of any term are exactly one term: its variables are 0 to 7.
 each-first : {P : ℕ → ℕ → ℕ → Type 0} {a b c d : ℕ} {e : List ℕ} → Each P (a ∷ b ∷ c ∷ d ∷ e) → P a b (c + 256 * d) × Each P e
@@ -170,8 +163,8 @@ one-whole {e} o =
     ap (λ (t : Term Variable). 4 * size t) term ∙ sym (entries-length (o .term)) ∙ ap length (sym (o .is))
 
 -- The root's tag.
-pub encryption-tag : {e : List ℕ} → Begins e → Says (eqb (tagAt e) encryptionTag) (IsEncryption (termOf e))
-encryption-tag {e} w = says-same (eqb (tagAt e) encryptionTag)
+pub says-encryption : {e : List ℕ} → Begins e → Says (eqb (tagAt e) encryptionTag) (IsEncryption (termOf e))
+says-encryption {e} w = says-same (eqb (tagAt e) encryptionTag)
     (λ t. (let f = encryption-first w t in record { key = valueAt e; content = f .content; is = termOf-reads (f .whole) }))
     (λ r. (let same : w .term ≡ encrypted (r .key) (r .content) = sym (termOf-reads (w .reads)) ∙ r .is in
     reads-encrypted (rw same at (w .reads)) .0)) (says-eq (tagAt e) encryptionTag)

@@ -8,8 +8,7 @@ use Rattle.terms.specs.Term.{Term, variable, atom, pair, encrypted, repl
 use Rattle.terms.specs.Place.{Turn, left, right, inside, Place, subtermAt, StrictlyAbove, AtOrAbove}
 use Rattle.terms.specs.Turns.{by-turns}
 
--- Places.
-
+-- What follows the same beginning is the same.
 pub append-cancel : (q : Place) {r r′ : Place} → q ++ r ≡ q ++ r′ → r ≡ r′
 append-cancel [] e = e
 append-cancel (a ∷ q) {r} {r′} e = append-cancel q (let tails : q ++ r ≡ q ++ r′ = cc in tails)
@@ -52,6 +51,7 @@ strictly-above-from o {q} {p} x =
 pub at-or-above-from : (o : Place) {q p : Place} → AtOrAbove (o ++ q) (o ++ p) → AtOrAbove q p
 at-or-above-from o {q} {p} x = record { rest = x .rest; split = append-cancel o (cc (append-assoc o q (x .rest))) }
 
+-- What stands below a place stands below the subterm there.
 pub subtermAt-append : {X : Type 0} (q r : Place) (t : Term X) {u : Term X} → subtermAt q t ≡ some u →
     subtermAt (q ++ r) t ≡ subtermAt r u
 unfolding subtermAt

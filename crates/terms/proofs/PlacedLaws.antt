@@ -13,7 +13,7 @@ use lib.Seq.{drop-drop}
 use borrow.Author.Tests.{lt-ltb, le-ltb}
 use borrow.Rule.Slice.PartAt.{part-to-end}
 use Rattle.terms.specs.Term.{Term, variable, atom, pair, encrypted, Variable}
-use Rattle.terms.specs.Place.{Turn, left, right, inside, Place, subtermAt, StrictlyAbove, AtOrAbove, Spot, spots}
+use Rattle.terms.specs.Place.{Turn, left, right, inside, Place, subtermAt, StrictlyAbove, AtOrAbove, Spot, down, spots}
 use Rattle.terms.specs.Entry.{size, termOf, Reads, Begins, entryAt, Placed, from}
 use Rattle.terms.specs.Turns.{by-turns}
 use Rattle.terms.proofs.PlaceLaws.{subtermAt-append}
@@ -219,9 +219,6 @@ element-map f [] k {a} e = absurd (Option·none-ne-some a e)
 element-map f (x ∷ l) zero e = let same = e in cc
 element-map f (x ∷ l) (suc k) e = element-map f l k e
 
-abbrev under : {X : Type 0} → Turn → Spot X → Spot X
-under a w = (a ∷ w .0, w .1)
-
 pub spots-length : {X : Type 0} (t : Term X) → length (spots t) ≡ size t
 unfolding spots size
 spots-length (variable x) = refl
@@ -229,13 +226,13 @@ spots-length (atom a) = refl
 spots-length (pair t u) =
     omega (
       arith,
-      length-append (map (under left) (spots t)) (map (under right) (spots u)),
-      length-map (spots t) (under left),
-      length-map (spots u) (under right),
+      length-append (map (down left) (spots t)) (map (down right) (spots u)),
+      length-map (spots t) (down left),
+      length-map (spots u) (down right),
       spots-length t,
       spots-length u,
     )
-spots-length (encrypted k t) = omega (arith, length-map (spots t) (under inside), spots-length t)
+spots-length (encrypted k t) = omega (arith, length-map (spots t) (down inside), spots-length t)
 
 root-spot : {X : Type 0} (t : Term X) → getElem? (spots t) 0 ≡ some ([], t)
 unfolding spots
@@ -248,10 +245,10 @@ entry-spot : {X : Type 0} (p : Place) (t : Term X) {s : Term X} → subtermAt p 
 unfolding spots entryAt
 entry-spot {X} =
     by-turns (λ (p : Place) (t s : Term X). getElem? (spots t) (entryAt p t) ≡ some (p, s)) root-spot
-    (λ p t u s h. element-left (map (under left) (spots t)) (map (under right) (spots u)) (entryAt p t) (element-map (under left) (spots t) (entryAt p t) h))
-    (λ p t u s h. let here : length (map (under left) (spots t)) ≡ size t = length-map (spots t) (under left) ∙ spots-length t in
-    rw (← here) (element-right (map (under left) (spots t)) (map (under right) (spots u)) (entryAt p u) ∙ element-map (under right) (spots u) (entryAt p u) h))
-    (λ p k t s h. element-map (under inside) (spots t) (entryAt p t) h)
+    (λ p t u s h. element-left (map (down left) (spots t)) (map (down right) (spots u)) (entryAt p t) (element-map (down left) (spots t) (entryAt p t) h))
+    (λ p t u s h. let here : length (map (down left) (spots t)) ≡ size t = length-map (spots t) (down left) ∙ spots-length t in
+    rw (← here) (element-right (map (down left) (spots t)) (map (down right) (spots u)) (entryAt p u) ∙ element-map (down right) (spots u) (entryAt p u) h))
+    (λ p k t s h. element-map (down inside) (spots t) (entryAt p t) h)
 
 element-is : {A : Type 0} (l : List A) (k : ℕ) {a : A} (d : A) → getElem? l k ≡ some a → getD l k d ≡ a
 element-is [] k {a} d e = absurd (Option·none-ne-some a e)

@@ -13,15 +13,15 @@ use Rattle.terms.specs.Instance.{Matches, Share}
 use Rattle.terms.specs.Tag.{SymbolTag, childrenOf}
 use Rattle.terms.specs.Entry.{termOf, Begins, tagAt, from}
 use Rattle.terms.specs.Occurs.{replace-twice}
-use Rattle.terms.specs.Solve.{Says, says-same}
+use Rattle.terms.specs.Decisions.{Says, says-same}
 use Rattle.terms.specs.Decide.{answer, variable?, term?, match?}
 use Rattle.terms.specs.Slot.{slotCount}
 use Rattle.terms.specs.Front.{Front, Takes, SameFirst, Alike, Ran, Goes, Ready, Made}
 use Rattle.terms.proofs.AnswerLaws.{says-answer}
 use Rattle.terms.proofs.EntryLaws.{from-from, from-length}
 use Rattle.terms.proofs.FrontLaws.{next, front-begins, opened, KeepsFirst, next-symbol, alike-symbol, alike-other, front-few}
-use Rattle.terms.proofs.SameLaws.{one-term, alike-one, same-clash}
-use Rattle.terms.proofs.MatchLaws.{symbol-slot, none-bound, same-answer}
+use Rattle.terms.proofs.SameLaws.{one-term, alike-one, same-clash, same-answer}
+use Rattle.terms.proofs.MatchLaws.{symbol-slot, none-bound}
 use Rattle.terms.proofs.TermGraphLaws.{tag-in}
 
 -- Nothing has been compared yet.
@@ -138,7 +138,8 @@ run-ready {e} {f} {k} {left} r small = record {
   small = small;
 }
 
-pub run-answer : {e f : List ℕ} {k left : ℕ} → Begins e → Begins f → Ran 1 e f k left → (b : Bool) → Says b (Made (from (4 * k) e) f k left (replicate slotCount 255))
+pub run-answer : {e f : List ℕ} {k left : ℕ} → Begins e → Begins f → Ran 1 e f k left → (b : Bool)
+    → Says b (Made (from (4 * k) e) f k left (replicate slotCount 255))
     → b ≡ answer (match? variable? variable? (termOf e) (termOf f))
 run-answer {e} {f} {k} {left} b d r t says = says-answer t (says-same t to back says) (match? variable? variable? _ _)
   where
@@ -156,6 +157,7 @@ run-answer {e} {f} {k} {left} b d r t says = says-answer t (says-same t to back 
 pub first-differs : {e f : List ℕ} → Begins e → Begins f → ¬ SameFirst e f → false ≡ answer (term? variable? (termOf e) (termOf f))
 first-differs b d off = same-answer b d false (same-clash (front-few b (omega arith), front-few d (omega arith)) (omega arith) off)
 
-pub run-same : {e f : List ℕ} {k left : ℕ} → Begins e → Begins f → Ran 1 e f k left → (b : Bool) → Says b (Takes variable left (from (4 * k) e) (from (4 * k) f))
+pub run-same : {e f : List ℕ} {k left : ℕ} → Begins e → Begins f → Ran 1 e f k left → (b : Bool)
+    → Says b (Takes variable left (from (4 * k) e) (from (4 * k) f))
     → b ≡ answer (term? variable? (termOf e) (termOf f))
 run-same b d r t says = same-answer b d t (says-same t (r .takes variable .1) (r .takes variable .0) says)

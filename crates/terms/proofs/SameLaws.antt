@@ -11,23 +11,26 @@ use Rattle.terms.specs.Term.{Term, variable, Variable, replace}
 use Rattle.terms.specs.Tag.{childrenOf}
 use Rattle.terms.specs.Entry.{termOf, Begins, tagAt, valueAt, from}
 use Rattle.terms.specs.Occurs.{replace-none}
-use Rattle.terms.specs.Solve.{Says, says-same}
+use Rattle.terms.specs.Decisions.{Says, says-same}
+use Rattle.terms.specs.Decide.{answer, variable?, term?}
 use Rattle.terms.specs.Front.{frontOf, Front, Takes, SameFirst, Word, Alike}
+use Rattle.terms.proofs.AnswerLaws.{says-answer}
 use Rattle.terms.proofs.EntryLaws.{zero-byte}
-use Rattle.terms.proofs.FrontLaws.{opened, next-term, next-symbol, other-symbol, alike-term, none-left, front-few}
+use Rattle.terms.proofs.FrontLaws.{opened, next-term, next-symbol, other-symbol, alike-term, none-compared, front-few}
 
 -- One term against one.
 pub one-term : {e f : List ℕ} → Begins e → Begins f → (by : Variable → Term Variable) → Takes by 1 e f ↔ (replace by (termOf e) ≡ termOf f)
 one-term b d by =
     let n = next-term 1 (front-few b (omega arith)) (front-few d (omega arith)) (omega arith) by in
-    (λ h. n .0 h .0, λ h. n .1 (h, none-left by _ _ refl))
+    (λ h. n .0 h .0, λ h. n .1 (h, none-compared by _ _ refl))
 
 -- One term against one, with replacements on both sides.
 pub alike-none : (by by′ : Variable → Term Variable) (e f : List ℕ) {need : ℕ} → need ≡ 0 → Alike by by′ need e f
 unfolding frontOf
 alike-none by by′ e f is = record { same = rw is refl }
 
-pub alike-one : {e f : List ℕ} → Begins e → Begins f → (by by′ : Variable → Term Variable) → Alike by by′ 1 e f ↔ (replace by (termOf e) ≡ replace by′ (termOf f))
+pub alike-one : {e f : List ℕ} → Begins e → Begins f → (by by′ : Variable → Term Variable)
+    → Alike by by′ 1 e f ↔ (replace by (termOf e) ≡ replace by′ (termOf f))
 alike-one b d by by′ =
     let n = alike-term 1 (front-few b (omega arith)) (front-few d (omega arith)) (omega arith) by by′ in
     (λ h. n .0 h .0, λ h. n .1 (h, alike-none by by′ _ _ refl))
@@ -37,6 +40,10 @@ pub same-term : {e f : List ℕ} → Begins e → Begins f → Takes variable 1 
 same-term {e} b d =
     let n = one-term b d variable in
     (λ h. sym (replace-none (termOf e)) ∙ n .0 h, λ h. n .1 (replace-none (termOf e) ∙ h))
+
+-- The answer of the walk is that of the decision.
+pub same-answer : {e f : List ℕ} → Begins e → Begins f → (b : Bool) → Says b (Takes variable 1 e f) → b ≡ answer (term? variable? (termOf e) (termOf f))
+same-answer b d r says = let m = same-term b d in says-answer r (says-same r (m .0) (m .1) says) (term? variable? _ _)
 
 -- Entries of terms are the same if they are the same number: their second bytes are zero.
 pub same-word : {e f : List ℕ} → Begins e → Begins f → (a b : ℕ) → Word e a → Word f b → Says (eqb a b) (SameFirst e f)

@@ -14,11 +14,10 @@ use borrow.Rule.Slice.PartAt.{part-to-end}
 use Rattle.blocks.specs.Limits.{mostTermBytes, mostTermEntries}
 use Rattle.terms.specs.Term.{Term, encrypted, Variable}
 use Rattle.terms.specs.Tag.{pairTag, encryptionTag}
-use Rattle.terms.specs.Entry.{size, termOf, Reads, Begins, tagAt, valueAt, from}
-use Rattle.terms.specs.Reading.{First, first-atom, first-pair, first-encrypted, first-variable, first}
+use Rattle.terms.specs.Entry.{size, termOf, Reads, Begins, from}
 use Rattle.terms.specs.TermGraph.{tagIn, valueIn, rightIn, sizeIn, SizesOf}
 use Rattle.terms.specs.Sizes.{SizedFrom, KeptBelow}
-use Rattle.terms.proofs.EntryLaws.{four, termOf-reads, fits, suffix, pair-first, encryption-first}
+use Rattle.terms.proofs.EntryLaws.{four, termOf-reads, fits, suffix, pair-first, encryption-first, leaf-first}
 use Rattle.terms.proofs.TermGraphLaws.{tag-in, value-in, PairIn, pair-in, EncryptionIn, encryption-in}
 
 -- An entry with a tag lies before the end.
@@ -74,18 +73,8 @@ encryption-size {e} k b g =
     size-read (p .whole) ∙ sym (ap (λ (x : ℕ). 1 + x) (size-read (q .content)))
 
 pub leaf-size : {e : List ℕ} (k : ℕ) → Begins e → 4 * k < length e → (tagIn e k ≡ pairTag → ⊥) → (tagIn e k ≡ encryptionTag → ⊥) → sizeIn e k ≡ 1
-unfolding size
-leaf-size {e} k b inside no-pair no-encryption = let there = suffix k b inside in go there (first (there .reads))
-  where
-    tag : {n : ℕ} → tagAt (drop (4 * k) e) ≡ n → tagIn e k ≡ n
-    tag g = tag-in e k ∙ g
-
-    go : (there : Begins (drop (4 * k) e)) → First (tagAt (drop (4 * k) e)) (valueAt (drop (4 * k) e)) (drop 4 (drop (4 * k) e)) (there .term ∷ there .others)
-        → sizeIn e k ≡ 1
-    go there (first-atom g q r) = size-read (there .reads) ∙ (cc)
-    go there (first-pair g n q r) = absurd (no-pair (tag g))
-    go there (first-encrypted g q r) = absurd (no-encryption (tag g))
-    go there (first-variable g v n q r) = size-read (there .reads) ∙ (cc)
+leaf-size {e} k b inside no-pair no-encryption =
+    sym (leaf-first (suffix k b inside) (λ g. no-pair (tag-in e k ∙ g)) (λ g. no-encryption (tag-in e k ∙ g)))
 
 -- Where an entry begins, all of it is there.
 pub whole-entry : {e : List ℕ} (k : ℕ) → Begins e → 4 * k < length e → 4 * (k + 1) ≤ length e

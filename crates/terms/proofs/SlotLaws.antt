@@ -9,7 +9,6 @@ use Rattle.terms.specs.Term.{variable, Sort, plain, marked, named}
 use Rattle.terms.specs.Tag.{variables}
 use Rattle.terms.specs.Slot.{slotCount, slotIn, slotOf, inHalf, inSlot}
 
--- A variable has a slot, and is the variable of that slot.
 pub slot-small : (s : Sort) {x : ℕ} → x < variables → slotIn s x < slotCount
 unfolding slotIn
 slot-small plain small = omega arith

@@ -5,6 +5,7 @@ use Rattle.terms.specs.Term.{Sort}
 use Rattle.terms.specs.Tag.{pairTag, encryptionTag, sortTag, Tagged, isAtom, isPair, isEncryption, isVariable, isNone, tagged, childrenBy, childrenOf}
 use Rattle.terms.specs.Tag.{sort-tagged}
 
+-- A variable has none.
 pub sort-childless : (s : Sort) → childrenOf (sortTag s) ≡ 0
 unfolding childrenOf
 sort-childless s = rw (sort-tagged s) refl

@@ -1,5 +1,5 @@
--- The graph of two terms has a valid valuation that gives both roots one message if and only if the terms share an
--- instance.
+-- Laws of the graph of two terms, side by side: where a term's entries stand, and the messages that a valid valuation gives
+-- their nodes.
 use mathlib.Core.Path.{_≡_, refl, sym, ap, ap₂, _∙_, subst}
 use mathlib.Core.Bool.{Bool, true, false}
 use mathlib.Core.List.{List, _∷_}
@@ -172,7 +172,8 @@ module _ (node : ℕ → Node) (e : List ℕ) (base slots : ℕ) (short : length
           → v (home e base slots k) ≡ replace by (termOf (drop (4 * k) e))
       own-value k h g q = ap v (home-tag k g ∙ q) ∙ own k h
 
-      pub home-value : (k : ℕ) (t : Term Variable) {l : List (Term Variable)} → k < rightNodes → Reads (drop (4 * k) e) (t ∷ l) → v (home e base slots k) ≡ replace by t
+      pub home-value : (k : ℕ) (t : Term Variable) {l : List (Term Variable)} → k < rightNodes → Reads (drop (4 * k) e) (t ∷ l)
+          → v (home e base slots k) ≡ replace by t
       unfolding replace homeBy
       home-value k (variable x) h r = variable-value k x r
       home-value k (atom a) h r = own-value k h (tag-in e k ∙ reads-atom r .0) refl ∙ ap (replace by) (termOf-reads r)
@@ -208,11 +209,13 @@ module _ (node : ℕ → Node) (e : List ℕ) (base slots : ℕ) (short : length
               absurd (subst IsSymbol (node-tag h past-end) is)
 
 -- The two sides.
-pub left-side : (s t : List ℕ) (k : ℕ) → k < rightNodes → nodeOf s t (0 + k) ≡ nodeBy (tagIn s k) (valueIn s k) (home s 0 variableNodes (k + 1)) (home s 0 variableNodes (rightIn s k))
+pub left-side : (s t : List ℕ) (k : ℕ) → k < rightNodes
+    → nodeOf s t (0 + k) ≡ nodeBy (tagIn s k) (valueIn s k) (home s 0 variableNodes (k + 1)) (home s 0 variableNodes (rightIn s k))
 unfolding nodeOf nodeTag nodeValue firstChild secondChild
 left-side s t k h = rw zero-add (simp (lt-ltb k rightNodes h))
 
-pub right-side : (s t : List ℕ) (k : ℕ) → k < rightNodes → nodeOf s t (rightNodes + k) ≡ nodeBy (tagIn t k) (valueIn t k) (home t rightNodes rightVariables (k + 1)) (home t rightNodes rightVariables (rightIn t k))
+pub right-side : (s t : List ℕ) (k : ℕ) → k < rightNodes
+    → nodeOf s t (rightNodes + k) ≡ nodeBy (tagIn t k) (valueIn t k) (home t rightNodes rightVariables (k + 1)) (home t rightNodes rightVariables (rightIn t k))
 unfolding nodeOf nodeTag nodeValue firstChild secondChild
 right-side s t k h =
     let back : rightNodes + k - rightNodes ≡ k = omega arith in

@@ -8,7 +8,8 @@ use Rattle.terms.specs.Term.{Term, variable, replace}
 use Rattle.terms.specs.Instance.{Share}
 use Rattle.terms.specs.Occurs.{replace-twice}
 use Rattle.terms.specs.Unify.{unify}
-use Rattle.terms.specs.Solve.{Says, says-same, unify-says}
+use Rattle.terms.specs.Decisions.{Says, says-same}
+use Rattle.terms.specs.Solve.{unify-says}
 
 -- Variables of two sides, told apart.
 unfoldable pub either? : {X Y : Type 0} → Discrete X → Discrete Y → Discrete (X ⊎ Y)

@@ -7,7 +7,7 @@ use native.Mathlib.Decide.{ℕ-discrete}
 use Rattle.terms.specs.Term.{Term, Term-discrete, Sort-discrete, Variable, Variable-discrete, replace}
 use Rattle.terms.specs.Instance.{Matches, Share}
 use Rattle.terms.specs.Seek.{found, found-is}
-use Rattle.terms.specs.Solve.{decided}
+use Rattle.terms.specs.Decisions.{decided}
 use Rattle.terms.specs.Apart.{meet, meet-says}
 
 -- The answer of a decision.

@@ -1,4 +1,4 @@
--- What the decisions below are made of: decisions put together. All of these compute.
+-- What an answer says, and decisions put together. All of these compute.
 use mathlib.Core.Bool.{Bool, true, false}
 use mathlib.Core.Logic.{_⊎_, inl, inr}
 
@@ -6,6 +6,21 @@ use mathlib.Core.Logic.{_⊎_, inl, inr}
 abbrev pub pick : {A : Type 0} → Bool → A → A → A
 pick true x y = x
 pick false x y = y
+
+-- An answer says that the claim holds, or that it does not.
+abbrev pub Says : Bool → Type 0 → Type 0
+Says true P = P
+Says false P = ¬ P
+
+-- A true answer is a decision.
+abbrev pub decided : {P : Type 0} (b : Bool) → Says b P → Dec P
+decided true p = yes p
+decided false n = no n
+
+-- Claims that follow from each other are answered alike.
+pub says-same : {P Q : Type 0} (b : Bool) → (P → Q) → (Q → P) → Says b P → Says b Q
+says-same true f g p = f p
+says-same false f g n = λ q. n (g q)
 
 -- Decisions put together: the second question is asked only if the first leaves it open.
 unfoldable pub dec-map : {A B : Type 0} → (A → B) → (B → A) → Dec A → Dec B

@@ -22,6 +22,7 @@ MeetAs s t a b Differ =
     Symbols s t a b × ((nodeTag s t a ≡ nodeTag s t b → ⊥) ⊎
     ((nodeTag s t a ≡ nodeTag s t b) × (nodeTag s t a ≡ pairTag → ⊥) × (nodeValue s t a ≡ nodeValue s t b → ⊥)))
 MeetAs s t a b Atoms =
-    Symbols s t a b × (nodeTag s t a ≡ nodeTag s t b) × (nodeTag s t a ≡ pairTag → ⊥) × (nodeTag s t a ≡ encryptionTag → ⊥) × (nodeValue s t a ≡ nodeValue s t b)
+    Symbols s t a b × (nodeTag s t a ≡ nodeTag s t b) × (nodeTag s t a ≡ pairTag → ⊥) × (nodeTag s t a ≡ encryptionTag → ⊥)
+    × (nodeValue s t a ≡ nodeValue s t b)
 MeetAs s t a b Encryptions = Symbols s t a b × (nodeTag s t a ≡ nodeTag s t b) × (nodeTag s t a ≡ encryptionTag) × (nodeValue s t a ≡ nodeValue s t b)
 MeetAs s t a b Pairs = Symbols s t a b × (nodeTag s t a ≡ nodeTag s t b) × (nodeTag s t a ≡ pairTag)

@@ -5,7 +5,7 @@ use lib.Dec.{ltb}
 use Rattle.terms.specs.Term.{Term, variable, atom, pair, encrypted, Sort, plain, marked, Variable, named}
 use Rattle.terms.specs.Tag.{variables}
 
--- How many slotCount there are.
+-- How many slots there are.
 abbrev pub slotCount : ℕ
 slotCount = 16
 

@@ -1,32 +1,18 @@
 -- What `share?` needs: the solving of equations says truly whether messages solve them.
 use mathlib.Core.Path.{_≡_, refl, sym, ap, ap₂, _∙_, subst, fun-ext}
 use mathlib.Core.HLevel.{Discrete}
-use mathlib.Core.Bool.{Bool, true, false}
+use mathlib.Core.Bool.{false}
 use mathlib.Core.Logic.{inl, inr, ⊎-elim, _↔_}
-use mathlib.Core.List.{List, _∷_, _++_, List·Memᴰ, List·Memᴰ·head, List·Memᴰ·tail, List·Memᴰ·cases-cons}
-use mathlib.Core.List.{Memᴰ·append-left, Memᴰ·append-right}
+use mathlib.Core.List.{List, _∷_, _++_, List·Memᴰ, List·Memᴰ·head, List·Memᴰ·tail, List·Memᴰ·cases-cons, Memᴰ·append-left, Memᴰ·append-right}
 use lib.ListN.{length}
 use Prim.Native.Nat.{ℕ, zero, suc, _≤_, _<_}
 use native.Mathlib.Omega.{arith}
 use native.Mathlib.Decide.{ℕ-discrete}
 use Rattle.terms.specs.Term.{Term, variable, atom, pair, encrypted, Message, replace}
+use Rattle.terms.specs.Tag.{atomTag, pairTag, encryptionTag}
+use Rattle.terms.specs.Decisions.{Says, says-same}
 use Rattle.terms.specs.Occurs.{Occurs, occurs?, replace-on, replace-twice, replace-none, comes, Self, no-cycle}
 use Rattle.terms.specs.Unify.{Equations, clash, done, more, put, equate, single, without, solve, names, unify}
-
--- An answer says that the claim holds, or that it does not.
-abbrev pub Says : Bool → Type 0 → Type 0
-Says true P = P
-Says false P = ¬ P
-
--- A true answer is a decision.
-abbrev pub decided : {P : Type 0} (b : Bool) → Says b P → Dec P
-decided true p = yes p
-decided false n = no n
-
--- Claims that follow from each other are answered alike.
-pub says-same : {P Q : Type 0} (b : Bool) → (P → Q) → (Q → P) → Says b P → Says b Q
-says-same true f g p = f p
-says-same false f g n = λ q. n (g q)
 
 -- The messages for the variables solve the equations.
 unfoldable pub Solves : {Z : Type 0} → (Z → Message) → Equations Z → Type 0
@@ -39,12 +25,12 @@ pub record Solvable {Z : Type 0} (e : Equations Z) : Type 0 where
   pub by : Z → Message
   pub solves : Solves by e
 
--- The form of a message, by a number.
-form : Message → ℕ
+-- The form of a message: its root's tag as an entry.
+unfoldable pub form : Message → ℕ
 form (variable x) = 0
-form (atom a) = 1
-form (pair m n) = 2
-form (encrypted k m) = 3
+form (atom a) = atomTag
+form (pair m n) = pairTag
+form (encrypted k m) = encryptionTag
 
 -- Messages of different forms are never the same.
 never : {m n : Message} {P : Type 0} → ¬ (form m ≡ form n) → ⊥ ↔ ((m ≡ n) × P)

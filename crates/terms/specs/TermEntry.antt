@@ -1,13 +1,14 @@
 -- Term entries, and what number 7 asks of them (document 01, "Term entry").
-use mathlib.Core.Path.{_≡_, refl}
+use mathlib.Core.Path.{_≡_}
 use mathlib.Core.List.{List}
-use Prim.Native.Nat.{ℕ, zero, suc, _*_, _/_, _<_}
+use Prim.Native.Nat.{ℕ, _*_, _/_, _<_}
 use native.Mathlib.Decide.{ℕ-discrete, decLt}
 use lib.ListN.{length, getD, drop}
 use Rattle.blocks.specs.Kinds.{secretKind, goodKind}
 use Rattle.terms.specs.declared.valid.Found.{Found}
 use Rattle.terms.specs.Term.{Sort, plain, marked}
-use Rattle.terms.specs.Tag.{atomTag, pairTag, encryptionTag, sortTag, variables, Tagged, isAtom, isPair, isEncryption, isVariable, isNone, tagged, sort-tagged}
+use Rattle.terms.specs.Tag.{atomTag, pairTag, encryptionTag, sortTag, variables, Tagged, isAtom, isPair, isEncryption, isVariable, isNone, tagged}
+use Rattle.terms.specs.Tag.{sort-tagged}
 use Rattle.terms.specs.Entry.{tagAt, valueAt}
 use Rattle.terms.specs.Atom.{Atom, IsKey, isKey?}
 use Rattle.terms.specs.Decisions.{dec-map, dec-not, dec-and}

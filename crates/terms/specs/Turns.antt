@@ -14,8 +14,6 @@ nothing-above-root {q} x = go q (x .split)
     go [] e = let z : _≡_ {A = ℕ} 0 1 = cc in omega arith
     go (a ∷ q) e = let z : _≡_ {A = ℕ} 0 1 = cc in omega arith
 
--- What stands at a place.
-
 -- To prove something of a place, a term and the subterm there: prove it at the root, and carry it up one turn.
 pub by-turns : {X : Type 0} (P : Place → Term X → Term X → Type 0) →
     ((t : Term X) → P [] t t) →

@@ -8,7 +8,7 @@ ghost use Rattle.terms.specs.Term.{variable};
 ghost use Rattle.terms.specs.Entry.{Begins, termOf};
 ghost use Rattle.terms.specs.Instance.{Share};
 ghost use Rattle.terms.specs.Entry.{from};
-ghost use Rattle.terms.specs.Solve.{Says};
+ghost use Rattle.terms.specs.Decisions.{Says};
 ghost use Rattle.terms.specs.Decide.{answer, variable?, term?, match?};
 ghost use Rattle.terms.specs.Slot.{slotCount, slotOf};
 ghost use Rattle.terms.specs.Front.{SameFirst, Word, Comparable, Bindable, Front, Takes, Ready, Made, Ran, Goes};

@@ -1,5 +1,5 @@
 // Tags of term entries (document 01, "Term entry"), and what code has to know of one.
-ghost use Rattle.terms.specs.Solve.{Says};
+ghost use Rattle.terms.specs.Decisions.{Says};
 ghost use Rattle.terms.specs.Tag.{VariableTag};
 
 pub const PAIR: u8 = 2;

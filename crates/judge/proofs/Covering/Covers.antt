@@ -23,7 +23,7 @@ use Rattle.terms.specs.Reading.{first}
 use Rattle.terms.proofs.EntryLaws.{termOf-reads, suffix}
 use Rattle.terms.proofs.EntryLaws.{reads-variable}
 use Rattle.terms.specs.Entry.{from}
-use Rattle.terms.specs.Solve.{Says, says-same}
+use Rattle.terms.specs.Decisions.{Says, says-same}
 use Rattle.terms.proofs.AnswerLaws.{answer-yes, answer-no}
 use Rattle.terms.specs.First.{FirstNot, fails, holds}
 use Rattle.terms.proofs.FirstLaws.{first-only}
@@ -41,7 +41,7 @@ use Rattle.judge.specs.CoverEntries.{subAt, On, Cleared, Flags, Standing
 use Rattle.judge.specs.CoverEntries.{RiskyEntry, Wanted, isSecret, isRisky, WantedEntry, FineEntry, Concluded}
 use Rattle.judge.proofs.Covering.Flags.{RaisedBelow}
 use Rattle.judge.proofs.Stages.ListedLaws.{risky-is, dead-is}
-use Rattle.judge.proofs.Covering.Marks.{term-reads}
+use Rattle.terms.proofs.EntryLaws.{term-reads}
 use Rattle.judge.proofs.Covering.Hats.{hat-place}
 use Rattle.judge.proofs.Covering.Opens.{open-place}
 

@@ -10,7 +10,7 @@ use lib.Dec.{eqb}
 use borrow.Author.Tests.{eqb-true, eqb-false}
 use lib.ListN.{length, getD, set, length-set, replicate, length-replicate, getD-replicate, List·getD-eq-default}
 use lib.Seq.{getD-set-same, getD-set-other}
-use Rattle.terms.specs.Solve.{Says}
+use Rattle.terms.specs.Decisions.{Says}
 use Rattle.judge.specs.CoverEntries.{On, Bits, flagOf, putOff, Painted, Raised, Cleared, SomeOn}
 
 -- Nothing is painted yet; one more flag is.

@@ -30,7 +30,8 @@ use Rattle.judge.specs.Cover.{SureHat}
 use Rattle.judge.specs.Listed.{listedOf, AnyListed, HoldsAt, Searching, SharesListed}
 use Rattle.judge.specs.CoverEntries.{subAt, On, Raised, Cleared, SomeOn, Flags, MarkOver, Laying, Standing, HatOver, HatBelow}
 use Rattle.judge.proofs.Covering.Flags.{raised-none, raised-as, raised-twice, zero-off, zero-bits, cleared-none, cleared-as, cleared-twice}
-use Rattle.judge.proofs.Covering.Marks.{term-reads, mark-inside, mark-place}
+use Rattle.terms.proofs.EntryLaws.{term-reads}
+use Rattle.judge.proofs.Covering.Marks.{mark-inside, mark-place}
 use Rattle.judge.proofs.Stages.Listing.{one-found, none-found}
 use Rattle.judge.proofs.Stages.ListedLaws.{not-bad-is}
 

@@ -12,7 +12,7 @@ use Rattle.blocks.proofs.KindLaws.{secret-lists}
 use Rattle.terms.specs.Entry.{Begins, termOf}
 use Rattle.terms.specs.Entry.{from}
 use Rattle.terms.proofs.AnswerLaws.{says-eq}
-use Rattle.terms.specs.Solve.{Says, says-same}
+use Rattle.terms.specs.Decisions.{Says, says-same}
 use Rattle.judge.specs.File.{blockCount, patternOf, certificateOf}
 use Rattle.judge.specs.Laid.{Laid}
 use Rattle.judge.specs.Listed.{slotAt, RootsOf, IsSecret, HoldsAt}

@@ -13,7 +13,7 @@ use Rattle.terms.specs.Place.{Turn, Place, left, right, inside, subtermAt}
 use Rattle.terms.specs.Instance.{Matches}
 use Rattle.terms.specs.Entry.{size, termOf, tagAt, valueAt, Reads, Begins}
 use Rattle.terms.specs.Reading.{First, first-atom, first-pair, first-encrypted, first-variable, first}
-use Rattle.terms.proofs.EntryLaws.{termOf-reads, begins, fits, PairFirst, pair-first, right-begins, EncryptionFirst, encryption-first, from-length}
+use Rattle.terms.proofs.EntryLaws.{termOf-reads, term-reads, begins, fits, PairFirst, pair-first, right-begins, EncryptionFirst, encryption-first, from-length}
 use Rattle.terms.specs.Entry.{from, entryAt}
 use Rattle.terms.specs.OneTerm.{IsEncryption}
 use Rattle.terms.specs.TermGraph.{rightIn}
@@ -141,10 +141,6 @@ mark-inside {good} {u} {h} {k} is match m =
     let room = within (placed (inner .place) content (inner .under)) in
     let l = inner .low in let g = inner .high in let whole : size u ≡ 1 + size content = ap size term in
     (omega arith, omega arith)
-
--- The term that entries begin with, and the others.
-pub term-reads : {e : List ℕ} {t : Term Variable} (b : Begins e) → termOf e ≡ t → Reads e (t ∷ b .others)
-term-reads b is = let same = sym (termOf-reads (b .reads)) ∙ is in rw same at (b .reads)
 
 from-reads : (e : List ℕ) (n : ℕ) {l : List (Term Variable)} → Reads (drop n e) l → Reads (from n e) l
 from-reads e n r = rw part-to-end r

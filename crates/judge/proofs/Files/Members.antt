@@ -11,7 +11,7 @@ use lib.Dec.{eqb}
 use lib.ListN.{length, getD}
 use Rattle.blocks.specs.Block.{blockAt, kindOf}
 use Rattle.terms.proofs.AnswerLaws.{says-eq}
-use Rattle.terms.specs.Solve.{Says}
+use Rattle.terms.specs.Decisions.{Says}
 use Rattle.judge.specs.File.{blocksFrom, blocksOf, ofKind, blockCount}
 use Rattle.judge.specs.Meaning.{HasKind, Every}
 use Rattle.judge.specs.File.{kindCount}

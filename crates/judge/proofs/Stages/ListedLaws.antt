@@ -9,7 +9,7 @@ use Rattle.blocks.specs.Kinds.{secretKind, goodKind, badKind}
 use Rattle.terms.specs.Term.{Term, Message, Variable, variable, atom, replace, asTerm}
 use Rattle.terms.specs.Instance.{Matches, Share}
 use Rattle.terms.proofs.InstanceLaws.{replace-message, replace-asTerm}
-use Rattle.terms.specs.Solve.{Says}
+use Rattle.terms.specs.Decisions.{Says}
 use Rattle.terms.specs.Decide.{answer}
 use Rattle.judge.specs.Certificate.{Certificate, Rule, Secret}
 use Rattle.judge.specs.Cover.{NoHat, sharesNoGood, isBad, Risky, isVariable, sharesSecret, Dead, AtOpenPlace}

@@ -17,7 +17,7 @@ use Rattle.terms.proofs.InstanceLaws.{replace-asTerm}
 use Rattle.terms.specs.Entry.{Begins, termOf}
 use Rattle.terms.specs.Entry.{from}
 use Rattle.terms.proofs.EntryLaws.{from-length}
-use Rattle.terms.specs.Solve.{Says, says-same}
+use Rattle.terms.specs.Decisions.{Says, says-same}
 use Rattle.terms.proofs.AnswerLaws.{says-yes, answer-yes, answer-no}
 use Rattle.terms.specs.Decide.{answer}
 use Rattle.judge.specs.File.{blockCount, blocksOf, ofKind, patternOf, secretOf, certificateOf}

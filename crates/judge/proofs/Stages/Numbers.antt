@@ -22,7 +22,7 @@ use Rattle.terms.specs.Atom.{Atom, atomsOf, atomAt, knownOf}
 use Rattle.terms.proofs.AtomLaws.{length-atoms}
 use Rattle.terms.proofs.AtomLaws.{known-byte, partner-bytes}
 use Rattle.terms.specs.OneTerm.{IsEncryption}
-use Rattle.terms.specs.Solve.{Says, says-same}
+use Rattle.terms.specs.Decisions.{Says, says-same}
 use Rattle.terms.proofs.AnswerLaws.{says-eq, says-yes, says-no}
 use Rattle.terms.specs.Decide.{answer}
 use Rattle.terms.proofs.AnswerLaws.{answer-yes, answer-no}

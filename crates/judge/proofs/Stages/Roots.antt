@@ -25,11 +25,11 @@ use Rattle.terms.specs.Entry.{Begins, termOf, tagAt, valueAt}
 use Rattle.terms.specs.Reading.{First, first, first-atom, first-pair, first-encrypted, first-variable}
 use Rattle.terms.proofs.EntryLaws.{termOf-reads, begins, pair-first, from-length}
 use Rattle.terms.specs.Entry.{from}
-use Rattle.terms.proofs.Roots.{tags-apart, values-apart}
+use Rattle.terms.proofs.RootLaws.{tags-apart, values-apart}
 use Rattle.judge.specs.File.{blockCount, patternOf, certificateOf}
 use mathlib.Core.Logic.{_⊎_, inl, inr, ⊎-elim, _↔_}
 use Rattle.judge.specs.Laid.{Laid, SecretBlock}
-use Rattle.terms.specs.Solve.{Says, says-same}
+use Rattle.terms.specs.Decisions.{Says, says-same}
 use Rattle.terms.specs.Decide.{answer}
 use Rattle.judge.proofs.Stages.ListedLaws.{answer-says}
 use Rattle.judge.specs.Listed.{pairRoots, encryptionRoots, variableRoots, rootSlots}

@@ -5,7 +5,7 @@ use mathlib.Core.Logic.{inl, inr}
 use Rattle.terms.proofs.GraphLaws.{moved, both-answer, failed, first-clash}
 use Rattle.terms.specs.Names.{classCount}
 use Rattle.terms.proofs.ClassAnswers.{two-names, met-as, differ-answer, names-linked, names-fewer, free-answer, atoms-answer, contents-answer}
-use Rattle.terms.proofs.ClassAnswers.{halves-answer, same-answer, found-names, nodes-answer, turned}
+use Rattle.terms.proofs.ClassAnswers.{halves-answer, one-class-answer, found-names, nodes-answer, turned}
 use borrow.Author.Needs.{needs}
 use native.Mathlib.Omega.{arith}
 use Prim.Native.Nat.{ℕ, _<_, _*_, _+_}
@@ -69,7 +69,7 @@ pub +unite+unite-halves+unite-names-spec : {M : Type 1} → statement M
     (λ c κs. let pre = c .before .before .before .before .before .pre in (pre .1 .3 .long, pre .1 .4 .small))  -- unite-find-requires
     (λ c κs. let pre = c .before .before .before .before .before .before .before .pre in (pre .1 .3 .long, pre .1 .5 .small))  -- unite-find-requires-2
     (λ c. let pre = c .before .before .before .before .before .before .before .before .before .pre in
-    (pre .1 .3, search needs, same-answer (pre .1 .3) (c .before .before .before .find .ensures .0) (c .before .find2 .ensures .0) (c .if1 .taken)))  -- unite-returns
+    (pre .1 .3, search needs, one-class-answer (pre .1 .3) (c .before .before .before .find .ensures .0) (c .before .find2 .ensures .0) (c .if1 .taken)))  -- unite-returns
     (λ c κs. let pre = c .before .before .before .before .before .before .before .before .before .before .before .pre in let found2 = c .before .before .before in
     let w = found-names (pre .1 .3) (found2 .before .before .find .ensures .0) (found2 .find2 .ensures .0) (pre .1 .4) (pre .1 .5) (c .before .if2 .taken) in
     (omega (arith, pre .0), (pre .1 .0, pre .1 .1, pre .1 .2, pre .1 .3, w .first, w .second, w .first-named, w .second-named, w .above)))  -- unite-unite-names-requires

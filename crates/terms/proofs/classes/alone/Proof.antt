@@ -1,9 +1,8 @@
 -- `terms::classes::alone` meets its contract: the nodes before node k lead to themselves. Assumes nothing.
-use lib.ListN.{length-set}
+use lib.ListN.{length-set, length, getD}
 use Rattle.terms.proofs.NameLaws.{stored}
 use mathlib.Core.Path.{_≡_}
 use Prim.Native.Nat.{ℕ, _≤_, _<_, _-_}
-use lib.ListN.{length, getD}
 use borrow.Author.Needs.{needs}
 use Rattle.terms.proofs.classes.alone.Statement.{statement}
 use Rattle.terms.proofs.classes.alone.Tie as tie

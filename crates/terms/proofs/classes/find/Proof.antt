@@ -4,12 +4,12 @@ use mathlib.Core.Path.{_≡_}
 use Prim.Native.Nat.{_<_, _≤_}
 use lib.ListN.{length}
 use borrow.Author.Needs.{needs}
-use Rattle.terms.proofs.NameLaws.{OnTheWay, way-starts, way-arrives, way-goes-on, way-ends}
+use Rattle.terms.proofs.NameLaws.{WayToName, way-starts, way-arrives, way-goes-on, way-ends}
 use Rattle.terms.proofs.classes.find.Statement.{statement}
 use Rattle.terms.proofs.classes.find.Tie as tie
 
 abbrev Inv-loop : tie.InvT-loop
-Inv-loop c i k₀ left₀ k left = (k < 256) × (left ≤ 256) × (length c ≡ 256) × OnTheWay c i left k
+Inv-loop c i k₀ left₀ k left = (k < 256) × (left ≤ 256) × (length c ≡ 256) × WayToName c i left k
 
 abbrev μ-loop : tie.MeasureT-loop
 μ-loop c i k₀ left₀ k left = left

@@ -6,7 +6,7 @@ use lib.ListN.{getD, length-set}
 use Rattle.terms.proofs.NodeLaws.{symbol-inside}
 use Rattle.terms.specs.Ending.{zeros}
 use Rattle.terms.proofs.EndingLaws.{fewer-zeros, yes-at-once, no-way, answer-map, past-ends, class-ends, back-again, open-sound, open-below, closed}
-use Rattle.terms.proofs.EndingLaws.{below-kept, first-below, second-below, content-below, no-children, content-ends, halves-walked, symbol-there}
+use Rattle.terms.proofs.EndingLaws.{below-kept, first-below, second-below, content-below, no-children-end, content-ends, halves-walked, symbol-there}
 use borrow.Author.Needs.{needs}
 use native.Mathlib.Omega.{arith}
 use Prim.Native.Nat.{ℕ, _<_, _*_, _+_}
@@ -122,7 +122,7 @@ pub +children-end+ends-spec : {M : Type 1} → statement M
     answer-map (content-ends three (c .before .first-child2 .ensures .0)) (c .ends3 .ensures))  -- children-end-returns-3
     (λ c. let there = c .before .before in let pre = there .before .before .before .before .before .pre in
     let tag = there .tag-at .ensures in
-    yes-at-once (pre .1 .4) (pre .1 .6) (no-children (λ e. c .before .if1 .left (tag ∙ e)) (λ e. c .if3 .left (tag ∙ e))))  -- children-end-returns-4
+    yes-at-once (pre .1 .4) (pre .1 .6) (no-children-end (λ e. c .before .if1 .left (tag ∙ e)) (λ e. c .if3 .left (tag ∙ e))))  -- children-end-returns-4
     ) λ t. ends-lts.spec (find-reads.Asked, find-reads.Learnt, children-end-below t, children-end.Post) (ends-at t) ends.Post
     (λ c κs. let pre = c .before .before .before .before .pre in (pre .1 .3 .long, pre .1 .5 .small))  -- ends-find-requires
     (λ c. let start = c .before .before .before .before .before .before in let pre = start .pre in

@@ -1,7 +1,7 @@
 -- `terms::entry::term_size` meets its contract; the measure is the length. Assumes nothing.
 use borrow.Author.Needs.{needs}
 use lib.ListN.{length}
-use Rattle.terms.proofs.EntryLaws.{begins, pair-first, encryption-first, leaf-first, right-begins, pair-size, encryption-size}
+use Rattle.terms.proofs.EntryLaws.{begins, pair-first, encryption-first, leaf-first, right-begins, pair-walked, encryption-walked}
 use Prim.Native.Nat.{ℕ, _<_}
 use borrow.Fn.Kinds.{In}
 use borrow.Fn.PlainCycle.{Measures, is, falls, and}
@@ -43,7 +43,7 @@ pub +term-size-spec : {M : Type 1} → statement M
     (search needs, begins (encryption-first (pre .1) (c .before .if2 .taken) .below)))  -- term-size-term-size-requires-3
     (λ c. search needs)  -- term-size-add-result-2
     (λ c. let pre = c .before .before .before .before .before .before .before .pre in let if1 = c .before .before .before .before .if1 in
-    pair-size (pre .1) (if1 .taken) (c .before .before .term-size .ensures .0) (c .term-size2 .ensures .0))  -- term-size-returns
+    pair-walked (pre .1) (if1 .taken) (c .before .before .term-size .ensures .0) (c .term-size2 .ensures .0))  -- term-size-returns
     (λ c. let pre = c .before .before .before .before .before .before .pre in
-    encryption-size (pre .1) (c .before .before .if2 .taken) (c .term-size3 .ensures .0))  -- term-size-returns-2
+    encryption-walked (pre .1) (c .before .before .if2 .taken) (c .term-size3 .ensures .0))  -- term-size-returns-2
     (λ c. (leaf-first (c .before .before .before .before .pre .1) (c .before .if1 .left) (c .if2 .left), search needs))  -- term-size-returns-3

@@ -1,7 +1,7 @@
 -- `terms::matching::same_front` meets its contract; the measure is the length. Assumes nothing.
 use borrow.Author.Needs.{needs}
 use lib.ListN.{length}
-use Rattle.terms.proofs.FrontLaws.{front-begins, none-left}
+use Rattle.terms.proofs.FrontLaws.{front-begins, none-compared}
 use Rattle.terms.proofs.SameLaws.{same-below, same-step, same-clash, said, denied}
 use Prim.Native.Nat.{ℕ, _<_}
 use borrow.Fn.Kinds.{In}
@@ -50,7 +50,7 @@ pub +same-front-spec : {M : Type 1} → statement M
     let if1 = c .before .before .before .before .before .before .if1 in let same-entry = c .before .before .before .before .before .same-entry in
     let if2 = c .before .before .before .before .if2 in
     (search needs, same-below (pre .1) (if1 .left) (said (if2 .taken) (same-entry .ensures)) (c .children .ensures .0)))  -- same-front-same-front-requires
-    (λ c. none-left _ _ _ (c .if1 .taken))  -- same-front-returns
+    (λ c. none-compared _ _ _ (c .if1 .taken))  -- same-front-returns
     (λ c. let pre = c .before .before .before .before .before .before .before .before .before .before .pre in
     let if1 = c .before .before .before .before .before .before .before .if1 in
     let same-entry = c .before .before .before .before .before .before .same-entry in let if2 = c .before .before .before .before .before .if2 in

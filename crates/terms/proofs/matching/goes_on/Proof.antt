@@ -2,7 +2,7 @@
 use borrow.Author.Needs.{needs}
 use native.Mathlib.Omega.{arith}
 use Rattle.terms.proofs.AnswerLaws.{says-yes, says-no}
-use Rattle.terms.specs.Solve.{says-same}
+use Rattle.terms.specs.Decisions.{says-same}
 use Rattle.terms.proofs.FrontLaws.{front-begins}
 use Rattle.terms.proofs.RunLaws.{front-room, tag-from}
 use Rattle.terms.proofs.matching.goes_on.Statement.{statement}

@@ -1,9 +1,8 @@
 -- `terms::sharing::meet` and `note` meet their contracts; the measure is twice the number of entries left, one more for `meet`.
 -- Assumes nothing.
 use borrow.Author.Needs.{needs}
-use Rattle.terms.specs.Entry.{termOf}
+use Rattle.terms.specs.Entry.{termOf, from}
 use Rattle.terms.proofs.EntryLaws.{size-positive}
-use Rattle.terms.specs.Entry.{from}
 use Rattle.terms.proofs.FrontLaws.{front-begins}
 use Rattle.terms.proofs.RunLaws.{tag-from}
 use Rattle.terms.proofs.SizeLaws.{size-at}

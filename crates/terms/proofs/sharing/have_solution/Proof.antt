@@ -1,7 +1,7 @@
 -- `terms::sharing::have_solution` meets its contract. Assumes nothing.
 use borrow.Author.Needs.{needs}
 use Rattle.terms.proofs.NameLaws.{alone-linked, names-alone}
-use Rattle.terms.proofs.ShareGraph.{clash-answer, ending-answer}
+use Rattle.terms.proofs.ShareLaws.{clash-answer, ending-answer}
 use Rattle.terms.proofs.sharing.have_solution.Statement.{statement}
 use Rattle.terms.proofs.sharing.have_solution.Tie as tie
 

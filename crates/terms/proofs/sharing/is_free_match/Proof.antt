@@ -6,9 +6,8 @@ use native.Mathlib.Omega.{arith}
 use lib.ListN.{length, length-set}
 use borrow.Author.Needs.{needs}
 use borrow.Rule.Slice.PartAt.{part-to-end}
-use Rattle.terms.specs.Entry.{termOf}
+use Rattle.terms.specs.Entry.{termOf, from}
 use Rattle.terms.proofs.EntryLaws.{suffix}
-use Rattle.terms.specs.Entry.{from}
 use Rattle.terms.specs.Slot.{slotOf}
 use Rattle.terms.specs.Meetings.{Distinct}
 use Rattle.terms.proofs.MeetingLaws.{Seen, distinct-none, distinct-more, seen-new, seen-more}

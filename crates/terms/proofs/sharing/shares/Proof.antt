@@ -5,7 +5,7 @@ use Rattle.terms.specs.Decide.{share?, variable?}
 use Rattle.terms.proofs.AnswerLaws.{answer-yes}
 use Rattle.terms.specs.Meetings.{WalkSays}
 use Rattle.terms.proofs.MeetingLaws.{roots-apart, walking-start, noted-in, free-match}
-use Rattle.terms.proofs.ShareGraph.{apart-answer}
+use Rattle.terms.proofs.ShareLaws.{apart-answer}
 use Rattle.terms.proofs.sharing.shares.Statement.{statement}
 use Rattle.terms.proofs.sharing.shares.Tie as tie
 

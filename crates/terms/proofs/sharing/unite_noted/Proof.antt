@@ -4,15 +4,14 @@ use Prim.Native.Nat.{_≤_, _-_}
 use native.Mathlib.Omega.{arith}
 use borrow.Author.Tests.{not-false, not-true}
 use borrow.Author.Needs.{needs}
-use Rattle.terms.specs.Graph.{ClassStep}
-use Rattle.terms.specs.Graph.{Any}
+use Rattle.terms.specs.Graph.{ClassStep, Any}
 use Rattle.terms.proofs.GraphLaws.{done, failed}
 use Rattle.terms.specs.TermGraph.{nodeOf, home, AtHome}
 use Rattle.terms.proofs.NodeLaws.{home-left, home-right}
 use Rattle.terms.specs.Names.{nameOf, Linked}
 use Rattle.terms.proofs.NameLaws.{classes-of}
 use Rattle.terms.specs.Meetings.{AllEqual}
-use Rattle.terms.proofs.ShareGraph.{united-none, united-more, united-clash}
+use Rattle.terms.proofs.ShareLaws.{united-none, united-more, united-noted-clash}
 use Rattle.terms.proofs.sharing.unite_noted.Statement.{statement}
 use Rattle.terms.proofs.sharing.unite_noted.Tie as tie
 
@@ -46,7 +45,7 @@ unite-noted-spec = tie.close (tie.spec Inv-loop μ-loop
     ))  -- unite-requires
     (λ c. let args = c .before .before .before .before .before .before .before .before .before .before .before .before .before .before .before .args in let loop = c .before .before .before .before .before .before .before .before .before .before .loop in let u = c .before .unite in (
       u .ensures .0,
-      failed (united-clash _ _ (args .m .now) (loop .k) (loop .inv .2) (c .before .before .before .before .before .before .home .ensures .0 ∙ ap (home (args .s .now) 0 128) (c .before .before .before .before .before .before .before .wide .ensures .0))
+      failed (united-noted-clash _ _ (args .m .now) (loop .k) (loop .inv .2) (c .before .before .before .before .before .before .home .ensures .0 ∙ ap (home (args .s .now) 0 128) (c .before .before .before .before .before .before .before .wide .ensures .0))
           (c .before .before .before .home2 .ensures .0 ∙ ap (home (args .t .now) 64 144) (c .before .before .before .before .wide2 .ensures .0)) (c .before .before .before .before .before .before .before .before .before .loop-test .taken)
           (u .ensures .2 .clashed (not-true (u .result) (c .if1 .taken)))),
     ))  -- returns

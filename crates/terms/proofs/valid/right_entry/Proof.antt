@@ -1,5 +1,5 @@
 -- `terms::valid::right_entry` meets its contract. Assumes nothing.
-use Rattle.terms.proofs.EntryTableLaws.{past-tables, past-limit, less-kind, within}
+use Rattle.terms.proofs.EntryTableLaws.{past-tables, past-limit, less-kind, by-tables}
 use borrow.Author.Needs.{needs}
 use Rattle.terms.proofs.valid.right_entry.Statement.{statement}
 use Rattle.terms.proofs.valid.right_entry.Tie as tie
@@ -20,6 +20,6 @@ right-entry-spec = tie.close (tie.spec
     (λ c. let kind = c .before .before in let value = kind .before .before .before in
     less-kind (value .before .before .wide .ensures .0) (value .value .ensures .0) (kind .listed-kind .ensures) (c .if4 .taken))  -- returns-4
     (λ c. let kind = c .before .before in let value = kind .before .before .before in let wide = value .before .before in
-    within (wide .wide .ensures .0) (value .value .ensures .0) (kind .listed-kind .ensures) (wide .before .before .if1 .left)
+    by-tables (wide .wide .ensures .0) (value .value .ensures .0) (kind .listed-kind .ensures) (wide .before .before .if1 .left)
     (kind .before .if3 .left) (c .if4 .left))  -- returns-5
     )

@@ -9,8 +9,9 @@ use Rattle.terms.specs.Instance.{Share}
 use Rattle.terms.specs.Tag.{SymbolTag}
 use Rattle.terms.specs.Entry.{termOf, Begins, tagAt, valueAt}
 use Rattle.terms.specs.Reading.{First, first-atom, first-pair, first-encrypted, first-variable, first}
+use Rattle.terms.specs.Solve.{form}
 use Rattle.terms.proofs.EntryLaws.{termOf-reads}
-use Rattle.terms.proofs.ClassLaws.{form, number}
+use Rattle.terms.proofs.ClassLaws.{number}
 
 -- Replacing variables leaves a symbol at the root as it is.
 record Root (tag value : ℕ) (t : Term Variable) : Type 0 where

@@ -17,8 +17,7 @@ use Rattle.terms.specs.Instance.{Share}
 use Rattle.terms.specs.Tag.{variables}
 use Rattle.terms.specs.Entry.{termOf, Begins, from}
 use Rattle.terms.specs.Occurs.{replace-twice, replace-none}
-use Rattle.terms.specs.Decisions.{pick}
-use Rattle.terms.specs.Solve.{Says}
+use Rattle.terms.specs.Decisions.{pick, Says}
 use Rattle.terms.specs.Decide.{answer, variable?, share?}
 use Rattle.terms.specs.Slot.{slotIn, inSlot}
 use Rattle.terms.specs.Graph.{free, IsSymbol, made, Valid, Respects, Classes, ClassStep, Clash, Outcome, Finite, Any}
@@ -38,7 +37,8 @@ read v slots (named s x) = v (slots + slotIn s x)
 -- The valuation of two replacements.
 abbrev given : List ℕ → List ℕ → (Variable → Message) → (Variable → Message) → ℕ → Message
 given s t f g i =
-    region i (replace f (termOf (drop (4 * i) s))) (replace g (termOf (drop (4 * (i - rightNodes)) t))) (pick (ltb i rightVariables) (f (inSlot (i - variableNodes))) (g (inSlot (i - rightVariables))))
+    region i (replace f (termOf (drop (4 * i) s))) (replace g (termOf (drop (4 * (i - rightNodes)) t)))
+    (pick (ltb i rightVariables) (f (inSlot (i - variableNodes))) (g (inSlot (i - rightVariables))))
 
 -- A message read as a term, and back.
 unread : (m : Message) → replace (λ (x : Variable). atom 0) (asTerm m) ≡ m
@@ -119,7 +119,8 @@ module _ (s t : List ℕ) (bs : Begins s) (bt : Begins t) (ss : length s ≤ mos
         past-entries : (i : ℕ) → ltb i rightNodes ≡ false → ltb i variableNodes ≡ false → nodeOf s t i ≡ free
         past-entries i p q = simp (p, q)
 
-        go : (i : ℕ) → IsSymbol (nodeOf s t i) → (a b : Bool) → ltb i rightNodes ≡ a → ltb i variableNodes ≡ b → given s t f g i ≡ made (given s t f g) (nodeOf s t i)
+        go : (i : ℕ) → IsSymbol (nodeOf s t i) → (a b : Bool) → ltb i rightNodes ≡ a → ltb i variableNodes ≡ b
+            → given s t f g i ≡ made (given s t f g) (nodeOf s t i)
         go i is true b p q = (rw zero-add at (on-left i (ltb-true i rightNodes p))) is
         go i is false true p q =
             let low = ltb-false i rightNodes p in
@@ -157,7 +158,8 @@ module _ (s t : List ℕ) (bs : Begins s) (bt : Begins t) (ss : length s ≤ mos
         given-left-value f g _ (r .noted .left k l) ∙ equal-down f g _ _ (all .each k l .same) ∙ sym (given-right-value f g _ (r .noted .right k l))
 
     -- What uniting and the test for finite classes answer, together.
-    sharing-yes : {next : ℕ → ℕ} → ClassStep (nodeOf s t) Any (λ i. i) next (AllEqual s t m n) → ((i : ℕ) → Finite (nodeOf s t) next i) → Share (termOf s) (termOf t)
+    sharing-yes : {next : ℕ → ℕ} → ClassStep (nodeOf s t) Any (λ i. i) next (AllEqual s t m n) → ((i : ℕ) → Finite (nodeOf s t) next i)
+        → Share (termOf s) (termOf t)
     sharing-yes step ends =
         let w = valued (step .classes) ends in
         let closed = step .closes (w .v) (w .respects) (record { makes = λ i is. refl }) in
@@ -196,7 +198,8 @@ module _ {s t m : List ℕ} {n : ℕ} (two : TwoTerms s t) (r : Reduced s t m n)
       said false holds fails = fails refl
 
 -- The walk came to different symbols.
-pub apart-answer : (t u : Term Variable) → ((by by′ : Variable → Term Variable) → ¬ (replace by t ≡ replace by′ u)) → false ≡ answer (share? variable? variable? t u)
+pub apart-answer : (t u : Term Variable) → ((by by′ : Variable → Term Variable) → ¬ (replace by t ≡ replace by′ u))
+    → false ≡ answer (share? variable? variable? t u)
 apart-answer t u off = says-answer false (λ h. off _ _ (share-alike h)) (share? variable? variable? t u)
 
 -- ---- uniting the noted entries, one after the other
@@ -220,5 +223,5 @@ module _ (s t m : List ℕ) (k : ℕ) {name mid : ℕ → ℕ} (step : ClassStep
     pub united-more : {next : ℕ → ℕ} → ClassStep (nodeOf s t) Any mid next (λ v. v i ≡ v j) → ClassStep (nodeOf s t) Any name next (AllEqual s t m (k + 1))
     united-more more = restate (λ v x all. split v all) (λ v q all. joined v all) (both (nodeOf s t) Any step more)
 
-    pub united-clash : {n : ℕ} → k < n → Clash (nodeOf s t) mid (λ v. v i ≡ v j) → Clash (nodeOf s t) name (AllEqual s t m n)
-    united-clash low clash = restate-clash (λ v x all. split v (λ l h. all l (omega arith))) (second-clash (nodeOf s t) Any step clash)
+    pub united-noted-clash : {n : ℕ} → k < n → Clash (nodeOf s t) mid (λ v. v i ≡ v j) → Clash (nodeOf s t) name (AllEqual s t m n)
+    united-noted-clash low clash = restate-clash (λ v x all. split v (λ l h. all l (omega arith))) (second-clash (nodeOf s t) Any step clash)
