@@ -8,12 +8,12 @@ use native.Mathlib.Omega.{arith}
 use native.Mathlib.Decide.{ℕ-discrete}
 use lib.ListN.{length, getD, set, drop, replicate, getD-replicate}
 use lib.Seq.{getD-set-same, getD-set-other}
-use Rattle.terms.specs.Term.{Term, variable, atom, pair, encrypted, Sort, plain, marked, Variable, named, replace}
+use Rattle.terms.specs.Term.{Term, variable, atom, pair, Sort, plain, marked, Variable, named, replace, wrapped}
 use Rattle.terms.specs.Tag.{plainTag, markedTag, sortTag, variables, SymbolTag, childrenOf}
 use Rattle.terms.specs.Entry.{size, termOf, Begins, tagAt, valueAt, from}
 use Rattle.terms.specs.Decisions.{Says, says-same}
 use Rattle.terms.specs.Decide.{answer}
-use Rattle.terms.specs.Reading.{First, first-atom, first-pair, first-encrypted, first-variable, first}
+use Rattle.terms.specs.Reading.{First, first-atom, first-pair, first-wrapped, first-variable, first}
 use Rattle.terms.specs.Slot.{slotCount, slotIn, slotOf, inSlot}
 use Rattle.terms.specs.Front.{Front, Takes, SameFirst, Bound, Agrees, Comparable, Bindable, Ready, Made}
 use Rattle.terms.proofs.AnswerLaws.{yes-of, no-of}
@@ -64,8 +64,8 @@ slot-first {e} b = go (first (b .reads))
         (symbol-slotted (tagAt e) (valueAt e) (atom (valueAt e)) (omega arith) refl (λ x h. (let z : _≡_ {A = ℕ} 0 1 = cc in omega arith)))
     go (first-pair {t} {u} g n q k) = rw (termOf-reads (rw q at (b .reads)))
         (symbol-slotted (tagAt e) (valueAt e) (pair t u) (omega arith) refl (λ x h. (let z : _≡_ {A = ℕ} 0 1 = cc in omega arith)))
-    go (first-encrypted {t} g q k) = rw (termOf-reads (rw q at (b .reads)))
-        (symbol-slotted (tagAt e) (valueAt e) (encrypted (valueAt e) t) (omega arith) refl (λ x h. (let z : _≡_ {A = ℕ} 0 1 = cc in omega arith)))
+    go (first-wrapped {w = w} {t = t} i g q k) = rw (termOf-reads (rw q at (b .reads)))
+        (symbol-slotted (tagAt e) (valueAt e) (wrapped w (valueAt e) t) (omega arith) refl (λ x h. (let z : _≡_ {A = ℕ} 0 1 = cc in omega arith)))
     go (first-variable {s = s} g v n q k) = rw (termOf-reads (rw q at (b .reads)), g) (variable-slotted s (valueAt e) n)
 
 -- A symbol stands first: it is no variable.
