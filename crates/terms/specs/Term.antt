@@ -1,13 +1,13 @@
 -- Messages and terms (document 01, "Messages, intruder, runs").
 use Prim.Native.Nat.{ℕ, _≤_}
 
--- What may be put around one term, with a number: encryption, whose number is the key's.
+-- What is put around a term, with a number: encryption, whose number is that of the key.
 pub data Wrapping : Type 0 where
   encryption : Wrapping
   deriving Discrete as Wrapping-discrete
 
--- A term over the variables X: a variable, an atom by its number, a pair (t, u), or {t}k, t encrypted under the key
--- atom k. Any number may stand as an atom or as a key: that only makes what is proved of runs stronger, and changes no
+-- A term over the variables X: a variable, an atom by its number, a pair (t, u), or a term with something around it, which
+-- is {t}k, t encrypted under the key atom k. Any number may stand as an atom or as a key: that only makes what is proved of runs stronger, and changes no
 -- answer on shared instances (`built-answer` of proofs/BuiltLaws.antt).
 pub data Term (X : Type 0) : Type 0 where
   variable : X → Term X
