@@ -46,7 +46,7 @@ countsOf file = record {
   rules = kindCount ruleKind file;
 }
 
--- The atoms of a file: those of its first block.
+-- The atoms of a file: "1 atoms (first block, only one)".
 unfoldable pub fileAtoms : List ℕ → List Atom
 fileAtoms file = atomsOf (firstEntries (blockAt file 0))
 
@@ -74,9 +74,9 @@ ruleOf b = record { premise = premiseBy (eqb (firstCount b) 0) (termOf (firstEnt
 
 -- The certificate: atoms in block 0, secrets of kind 2, good patterns of kind 3, bad ones of kind 4, rules of kind 5.
 unfoldable pub certificateOf : List ℕ → Certificate
-unfolding blocksOf ofKind patternOf secretOf ruleOf
+unfolding blocksOf ofKind patternOf secretOf ruleOf fileAtoms
 certificateOf file = record {
-  atoms = atomsOf (firstEntries (blockAt file 0));
+  atoms = fileAtoms file;
   secrets = map secretOf (ofKind secretKind (blocksOf file));
   goods = map patternOf (ofKind goodKind (blocksOf file));
   bads = map patternOf (ofKind badKind (blocksOf file));
