@@ -8,9 +8,9 @@ use native.Mathlib.Decide.{decLe}
 use lib.Dec.{ltb}
 use borrow.Author.Tests.{lt-ltb, le-ltb, le-leb, lt-leb}
 use lib.ListN.{length, take, drop, length-drop}
-use lib.Seq.{getD-take, getD-drop, take-nil, take-take, drop-drop, take-add, length-take-le}
+use lib.Seq.{take-nil, take-take, drop-drop, take-add, length-take-le}
 use Rattle.blocks.specs.Limits.{blockSize}
-use Rattle.blocks.specs.Block.{HasBlock, hasBlock, blockAt, byteAt, entriesOf, firstEntries, secondEntries, firstCount, secondCount, Fitting}
+use Rattle.blocks.specs.Block.{HasBlock, hasBlock, blockAt, entriesOf, firstEntries, secondEntries, firstCount, secondCount, Fitting}
 
 -- What is left of the first m elements after n are dropped.
 drop-take : (n m : ℕ) (l : List ℕ) → drop n (take m l) ≡ take (m - n) (drop n l)
@@ -47,11 +47,6 @@ has-block file i = go (decLe (blockSize * i + blockSize) (length file))
         let above : length file / blockSize ≤ i = omega arith in
         let more : length file < blockSize * i + blockSize = omega arith in
         le-ltb _ _ above ∙ sym (lt-leb _ _ more)
-
--- A byte of a block is a byte of the file.
-pub block-byte : (file : List ℕ) (i k : ℕ) → k < blockSize → byteAt (blockAt file i) k ≡ byteAt file (blockSize * i + k)
-unfolding blockAt
-block-byte file i k h = rw (getD-take, getD-drop)
 
 module _ (b : List ℕ) (fits : Fitting b) where
   pub first-entries : firstEntries b ≡ take (4 * firstCount b) (drop 4 b)

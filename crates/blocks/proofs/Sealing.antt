@@ -105,11 +105,6 @@ module _ (b : List ℕ) (size : length b ≡ blockSize) where
       let b′ : wordAt (sealed b) 510 ≡ checkB (sealed b) = omega (arith, tail-byte 2, tail-byte 3, sealed-b) in
       right-check (sealed b) (record { size = sealed-length; holds-a = a; holds-b = b′ })
 
-  -- Sealing a sealed block changes nothing.
-  pub sealed-sealed : sealed (sealed b) ≡ sealed b
-  unfolding sealed
-  sealed-sealed = rw (sealed-a, sealed-b, sealed-head)
-
 -- The answer of the code for other than 512 bytes.
 pub seal-refused : (b : List ℕ) → (length b ≡ blockSize → ⊥)
     → (WrongLength ≡ sealing b) × ((valuesOf WrongLength ≡ sealingValues b) × (b ≡ afterSealing b))

@@ -1,11 +1,10 @@
 -- Cover (document 01, "Hats and cover").
 use mathlib.Core.Path.{_≡_}
-use mathlib.Core.List.{[]}
 use mathlib.Core.Option.{some}
 use Prim.Native.Nat.{ℕ}
-use lib.ListN.{getD}
 use Rattle.terms.specs.Term.{Term, variable, encrypted, Message, Variable, asTerm}
-use Rattle.terms.specs.Place.{Place, subtermAt, StrictlyAbove, Spot, spots}
+use Rattle.terms.specs.Place.{Place, subtermAt, StrictlyAbove}
+use Rattle.terms.specs.Entry.{Placed}
 use Rattle.terms.specs.Instance.{Matches, Share}
 use Rattle.judge.specs.Certificate.{Rule, Certificate, Secret, Good, Bad}
 use Rattle.judge.specs.Hat.{Mark}
@@ -66,12 +65,7 @@ pub data Passes (certificate : Certificate) (rule : Rule) : Type 0 where
   covered : ((p : Place) (t : Term Variable) → subtermAt p (rule .conclusion) ≡ some t → Risky certificate t →
       Covered certificate rule p t) → Passes certificate rule
 
--- Place k of a term, with the subterm there: the places in the order of the entries.
-unfoldable pub spotAt : Term Variable → ℕ → Spot Variable
-spotAt t k = getD (spots t) k ([], t)
-
--- Place k of the conclusion is covered if it is risky.
+-- A place of the conclusion that stands at entry k is covered if it is risky.
 abbrev pub FineAt : Certificate → Rule → ℕ → Type 0
 FineAt certificate rule k =
-    Risky certificate (spotAt (rule .conclusion) k .1)
-    → Covered certificate rule (spotAt (rule .conclusion) k .0) (spotAt (rule .conclusion) k .1)
+    (p : Place) (t : Term Variable) → Placed (rule .conclusion) k p t → Risky certificate t → Covered certificate rule p t

@@ -25,6 +25,10 @@ use Rattle.judge.specs.Decisions.{NotBad}
 abbrev pub subAt : List ℕ → ℕ → Term Variable
 subAt e k = termOf (from (4 * k) e)
 
+-- Room for the flags of a term.
+abbrev pub entryFlags : ℕ
+entryFlags = 64
+
 -- A flag for each of 64 entries; it is on if it is 1.
 abbrev pub On : List ℕ → ℕ → Type 0
 On flags k = getD flags k 0 ≡ 1
@@ -50,13 +54,13 @@ toldOf false = 2
 -- What is remembered of a claim about the subterms at e's entries is so. (Which answers are remembered is left open: one
 -- that is missing is asked for.)
 pub record Remembered (P : Term Variable → Type 0) (e memo : List ℕ) : Type 0 where
-  pub long : length memo ≡ 64
+  pub long : length memo ≡ entryFlags
   pub holds : (k : ℕ) → getD memo k 0 ≡ 1 → P (subAt e k)
   pub fails : (k : ℕ) → getD memo k 0 ≡ 2 → ¬ P (subAt e k)
 
 -- It stays as it is, or nothing is known any more.
 pub record Forgotten (memo : List ℕ) : Type 0 where
-  pub long : length memo ≡ 64
+  pub long : length memo ≡ entryFlags
   pub none : (k : ℕ) → getD memo k 0 ≡ 0
 
 abbrev pub Renewed : Bool → List ℕ → List ℕ → Type 0
@@ -65,19 +69,19 @@ Renewed false old new = Forgotten new
 
 -- The flags from entry `low` up to entry `high` have this value, and the others are as they were.
 pub record Painted (old new : List ℕ) (low high value : ℕ) : Type 0 where
-  pub long : length new ≡ 64
+  pub long : length new ≡ entryFlags
   pub inside : (k : ℕ) → low ≤ k → k < high → getD new k 0 ≡ value
   pub outside : (k : ℕ) → ¬ ((low ≤ k) × (k < high)) → getD new k 0 ≡ getD old k 0
 
 -- The flags that were on, and those of which P holds, are on.
 pub record Raised (old new : List ℕ) (P : ℕ → Type 0) : Type 0 where
-  pub long : length new ≡ 64
+  pub long : length new ≡ entryFlags
   pub bits : Bits old → Bits new
   pub on : (k : ℕ) → On new k ↔ (On old k ⊎ P k)
 
 -- Of the flags that were on, those of which P does not hold are on.
 pub record Cleared (old new : List ℕ) (P : ℕ → Type 0) : Type 0 where
-  pub long : length new ≡ 64
+  pub long : length new ≡ entryFlags
   pub bits : Bits old → Bits new
   pub kept : (k : ℕ) → On new k → On old k × ¬ P k
   pub gone : (k : ℕ) → On old k → ¬ On new k → P k
@@ -131,7 +135,7 @@ pub record HatBelow (certificate : Certificate) (e : List ℕ) (n k : ℕ) : Typ
 
 -- The flags are on where P holds.
 pub record Flags (flags : List ℕ) (P : ℕ → Type 0) : Type 0 where
-  pub long : length flags ≡ 64
+  pub long : length flags ≡ entryFlags
   pub bits : Bits flags
   pub on : (k : ℕ) → On flags k ↔ P k
 
@@ -149,7 +153,7 @@ pub record OpenBelow (certificate : Certificate) (e : List ℕ) (n k : ℕ) : Ty
 
 -- The entries strictly below entry h are closed, if it is an encryption that no open place may have above it.
 pub record ClosedBelow (certificate : Certificate) (old new e : List ℕ) (h : ℕ) : Type 0 where
-  pub long : length new ≡ 64
+  pub long : length new ≡ entryFlags
   pub bits : Bits old → Bits new
   pub on : (k : ℕ) → On new k ↔ (On old k × (getD e (4 * h) 0 ≡ 3 → h < k → k < h + size (subAt e h) → NoHat certificate (subAt e h)))
 
@@ -166,19 +170,19 @@ pub record OpenHolds (certificate : Certificate) (e : List ℕ) (P : Term Variab
 
 -- The flags are on at the wanted entries that are open as far as the first n entries go; at those that are open.
 pub record OpenAmong (certificate : Certificate) (e wanted : List ℕ) (n : ℕ) (flags : List ℕ) : Type 0 where
-  pub long : length flags ≡ 64
+  pub long : length flags ≡ entryFlags
   pub bits : Bits wanted → Bits flags
   pub on : (k : ℕ) → On flags k ↔ (On wanted k × OpenBelow certificate e n k)
 
 pub record OpenFlags (certificate : Certificate) (e wanted flags : List ℕ) : Type 0 where
-  pub long : length flags ≡ 64
+  pub long : length flags ≡ entryFlags
   pub bits : Bits wanted → Bits flags
   pub on : (k : ℕ) → On flags k ↔ (On wanted k × OpenEntry certificate e k)
 
 -- What a search through flagged entries asks for.
 pub record Flagged (e flags : List ℕ) : Type 0 where
   pub entries : Entries e
-  pub long : length flags ≡ 64
+  pub long : length flags ≡ entryFlags
   pub within : (k : ℕ) → On flags k → 4 * k < length e
 
 -- Entry k is flagged, and P holds of the subterm there.
@@ -199,7 +203,7 @@ pub record IndexedBelow (e flags : List ℕ) (n : ℕ) (index : List ℕ) : Type
   pub noted : (k : ℕ) → k < n → On flags k → ¬ (getD index (slotAt (from (4 * k) e)) 0 ≡ 0)
 
 abbrev pub Indexed : List ℕ → List ℕ → List ℕ → Type 0
-Indexed e flags index = IndexedBelow e flags 64 index
+Indexed e flags index = IndexedBelow e flags entryFlags index
 
 -- Entry k of the conclusion is risky.
 pub record RiskyEntry (certificate : Certificate) (e : List ℕ) (k : ℕ) : Type 0 where
@@ -239,5 +243,5 @@ pub record Repeats (part : List ℕ → List ℕ) (file : List ℕ) (i : ℕ) : 
 
 -- What is remembered before block i is judged: it is about a part of the block before it, if that is a rule.
 pub record Carried (part : List ℕ → List ℕ) (P : Term Variable → Type 0) (file : List ℕ) (i : ℕ) (memo : List ℕ) : Type 0 where
-  pub long : length memo ≡ 64
+  pub long : length memo ≡ entryFlags
   pub known : AfterRule file i → Remembered P (part (blockAt file (i - 1))) memo

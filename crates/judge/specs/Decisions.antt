@@ -13,14 +13,13 @@ use Rattle.terms.specs.Atom.{knownOf, atomAt}
 use Rattle.terms.specs.Place.{Place, subtermAt}
 use Rattle.terms.specs.Decide as decide
 use Rattle.terms.specs.Instance.{Matches, Share}
-use Rattle.terms.specs.Decisions.{dec-map, dec-not, dec-and, dec-or, dec-implies}
+use Rattle.terms.specs.Decisions.{dec-map, dec-not, dec-and, dec-or}
 use Rattle.terms.specs.Search.{any?, all?, member?, any-above?}
-use Rattle.terms.specs.Search.{all-above?, at-or-above?, Stands, any-place?, all-places?}
-use Rattle.terms.specs.Place.{Spot}
+use Rattle.terms.specs.Search.{all-above?, at-or-above?, any-place?}
 use Rattle.judge.specs.Certificate.{Rule, Certificate, Secret, Good, Bad, Known, inverse}
 use Rattle.judge.specs.Hat.{Mark}
 use Rattle.judge.specs.Cover.{SureHat, NoHat, sharesNoGood, isBad, Open, AtOpenPlace, Risky, isVariable}
-use Rattle.judge.specs.Cover.{sharesSecret, Covered, sureHat, inPremise, Dead, Passes, dead, covered}
+use Rattle.judge.specs.Cover.{sharesSecret, Covered, sureHat, inPremise, Dead}
 use Rattle.judge.specs.Conditions.{KnownAtom, WeaklyClosed, KeptKey}
 
 unfoldable pub same-term? : (t u : Term Variable) → Dec (t ≡ u)
@@ -251,22 +250,3 @@ module _ (certificate : Certificate) where
   dead? rule =
       dec-map (λ w. record { secret = w .0; listed = w .1; stands = w .2 }) (λ h. (h .secret, h .listed, h .stands))
       (any? (certificate .secrets) (λ secret. at-open-place? rule (asTerm secret)))
-
-  -- 12
-  unfoldable pub passes? : (rule : Rule) → Dec (Passes certificate rule)
-  unfolding dec-map dec-or dec-implies all-places? dead? risky? covered?
-  passes? rule =
-      dec-map to from (dec-or (dead? rule)
-      (λ n. all-places? (rule .conclusion) (λ w. dec-implies (risky? (w .1)) (λ r. covered? rule (w .0) (w .1)))))
-    where
-      Every : Type 0
-      Every = (w : Spot Variable) → Stands (rule .conclusion) w → Risky certificate (w .1) →
-          Covered certificate rule (w .0) (w .1)
-
-      to : Dead certificate rule ⊎ Every → Passes certificate rule
-      to (inl h) = dead h
-      to (inr h) = covered (λ p t e r. h (p, t) e r)
-
-      from : Passes certificate rule → Dead certificate rule ⊎ Every
-      from (dead h) = inl h
-      from (covered h) = inr (λ w e r. h (w .0) (w .1) e r)

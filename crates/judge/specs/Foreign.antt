@@ -1,6 +1,6 @@
 -- Foreign atoms (document 01: "Foreign atoms, numbered from 1,000 up, are in no file. All are nonces and known"): which atoms
 -- and keys the terms of a certificate hold, and cover by messages over the listed and the foreign atoms alone, with listed
--- keys. That this is the same cover is `same-cover` of proofs/ForeignLaws.antt.
+-- keys. That this is the same cover is `same-cover` of proofs/Files/ForeignLaws.antt.
 use mathlib.Core.Path.{_≡_}
 use mathlib.Core.Logic.{_↔_}
 use mathlib.Core.Option.{some}

@@ -1,5 +1,5 @@
 -- What a certificate claims and why, in the order of document 01: certificates and files, the intruder and runs, hats
--- and cover, the conditions; each decided; the verdict, and what it means.
+-- and cover, the conditions; each decided; what a verdict means, and the verdict.
 pub mod Certificate
 pub mod File
 pub mod Run
@@ -8,8 +8,8 @@ pub mod Cover
 pub mod Conditions
 pub mod Foreign
 pub mod Decisions
-pub mod Verdict
 pub mod Meaning
+pub mod Verdict
 -- What is made of a verdict: number, block and place, the refused part, the tally, the line.
 pub mod Answer
 pub mod Values

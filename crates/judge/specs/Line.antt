@@ -39,7 +39,7 @@ unfoldable pub readFrom : ℕ → List ℕ → ℕ
 readFrom v [] = v
 readFrom v (d ∷ l) = readFrom (v * 10 + (d - 48)) l
 
--- A text is n in decimal: bytes "0" to "9" that read as n, "without leading zeros". (`decimal` of proofs/Digits.antt
+-- A text is n in decimal: bytes "0" to "9" that read as n, "without leading zeros". (`decimal` of proofs/Answering/Digits.antt
 -- says it of `digitsOf`.)
 pub record Decimal (n : ℕ) (l : List ℕ) : Type 0 where
   pub digits : (i : ℕ) → i < length l → (48 ≤ getD l i 0) × (getD l i 0 ≤ 57)

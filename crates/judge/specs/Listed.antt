@@ -1,9 +1,8 @@
 -- What the blocks of one kind list, and what is asked of them.
 use mathlib.Core.Path.{_≡_}
-use mathlib.Core.Bool.{Bool, true, false}
+use mathlib.Core.Bool.{true, false}
 use mathlib.Core.List.{List, [], map, List·Memᴰ}
 use mathlib.Core.Logic.{_⊎_, inl, inr}
-use mathlib.Core.Option.{Option, none, some}
 use Prim.Native.Nat.{ℕ, zero, suc, _+_, _*_, _%_, _<_, _≤_}
 use lib.Dec.{eqb}
 use lib.ListN.{length, getD, drop}
@@ -19,9 +18,6 @@ use Rattle.terms.specs.TermGraph.{SizesOf}
 use Rattle.terms.specs.Entry.{from}
 use Rattle.terms.specs.Decisions.{dec-map}
 use Rattle.terms.specs.Search.{any?}
-use Rattle.terms.specs.declared.valid.Found.{Found}
-use Rattle.terms.specs.declared.valid.Found.the-variants.{At, Nothing}
-use Rattle.judge.specs.declared.verdict.Fault.{Fault}
 use Rattle.judge.specs.Certificate.{Certificate}
 use Rattle.judge.specs.File.{patternOf, blockCount}
 use Rattle.judge.specs.Laid.{Laid}
@@ -94,16 +90,28 @@ pub record SizeOf (e : List ℕ) (n : ℕ) : Type 0 where
   pub is : n ≡ size (termOf e)
   pub fits : 4 * n ≤ length e
 
--- The slot of a root, by its tag, its value and the value of the entry after it. Atoms, pairs and encryptions have 128
--- slots each, by the root's value; for a pair by that of its left half's root, which is the entry after it. Variables have
--- 16.
+-- Slots of roots: for atoms, pairs and encryptions 128 each, for variables 16.
+abbrev pub pairRoots : ℕ
+pairRoots = 128
+
+abbrev pub encryptionRoots : ℕ
+encryptionRoots = 256
+
+abbrev pub variableRoots : ℕ
+variableRoots = 384
+
+abbrev pub rootSlots : ℕ
+rootSlots = variableRoots + slotCount
+
+-- The slot of a root, by its tag, its value and the value of the entry after it: by the root's value; for a pair by that of
+-- its left half's root, which is the entry after it.
 abbrev pub slotFor : {tag : ℕ} → Tagged tag → ℕ → ℕ → ℕ
-slotFor (isAtom e) n left = n % 128
-slotFor (isPair e) n left = 128 + left % 128
-slotFor (isEncryption e) n left = 256 + n % 128
-slotFor (isVariable s e) n left = 384 + n % slotCount
-slotFor (isNone (inl low)) n left = n % 128
-slotFor (isNone (inr high)) n left = 384 + n % slotCount
+slotFor (isAtom e) n left = n % pairRoots
+slotFor (isPair e) n left = pairRoots + left % pairRoots
+slotFor (isEncryption e) n left = encryptionRoots + n % pairRoots
+slotFor (isVariable s e) n left = variableRoots + n % slotCount
+slotFor (isNone (inl low)) n left = n % pairRoots
+slotFor (isNone (inr high)) n left = variableRoots + n % slotCount
 
 unfoldable pub slotBy : ℕ → ℕ → ℕ → ℕ
 unfolding tagged
@@ -118,7 +126,7 @@ FlaggedAt roots e = getD roots (slotAt e) 0 ≡ 1
 
 -- Flags stay, and the root of block i's term is flagged if it is a secret's.
 pub record FlaggedMore (file : List ℕ) (i : ℕ) (old new : List ℕ) : Type 0 where
-  pub long : length new ≡ 400
+  pub long : length new ≡ rootSlots
   pub kept : (k : ℕ) → getD old k 0 ≡ 1 → getD new k 0 ≡ 1
   pub here : kindOf (blockAt file i) ≡ secretKind → FlaggedAt new (firstEntries (blockAt file i))
   pub bits : ((k : ℕ) → getD old k 0 ≤ 1) → (k : ℕ) → getD new k 0 ≤ 1
@@ -134,7 +142,7 @@ pub record SecretSlot (file : List ℕ) (n slot : ℕ) : Type 0 where
 
 -- The root of every secret is flagged, and nothing else; a flag is 0 or 1.
 pub record RootsOf (file roots : List ℕ) : Type 0 where
-  pub long : length roots ≡ 400
+  pub long : length roots ≡ rootSlots
   pub flagged : (i : ℕ) → i < blockCount file → kindOf (blockAt file i) ≡ secretKind → FlaggedAt roots (firstEntries (blockAt file i))
   pub bits : (k : ℕ) → getD roots k 0 ≤ 1
   pub only : (k : ℕ) → getD roots k 0 ≡ 1 → SecretSlot file (blockCount file) k
@@ -145,9 +153,13 @@ pub record NoRoot (roots e : List ℕ) : Type 0 where
   pub left-symbol : tagAt e ≡ pairTag → SymbolTag (tagAt (drop 4 e))
   pub absent : getD roots (slotAt e) 0 ≡ 0
 
+-- Room for the sizes of the terms of all blocks: 64 for each.
+abbrev pub listedSizes : ℕ
+listedSizes = 4096
+
 -- The table has the sizes of the terms that the first n blocks list, those of block i from 64 * i on.
 pub record SizesBelow (file : List ℕ) (n : ℕ) (sizes : List ℕ) : Type 0 where
-  pub long : length sizes ≡ 4096
+  pub long : length sizes ≡ listedSizes
   pub at : (i : ℕ) → i < n → ListsTerm (kindOf (blockAt file i)) → SizesOf (firstEntries (blockAt file i)) (from (64 * i) sizes)
 
 -- It has those of all blocks.
@@ -160,16 +172,3 @@ pub record TermPart (file : List ℕ) (i : ℕ) (e : List ℕ) : Type 0 where
   pub term : Begins e
   pub whole : 4 * size (termOf e) ≡ length e
   pub short : length e ≤ mostTermBytes
-
--- A fault, if a test tells of one.
-abbrev pub faultIf : Bool → Fault → Option Fault
-faultIf t f = elim t [ true ↦ some f | false ↦ none ]
-
--- The block that a search for a fault finds, as the fault that the verdict names; and that it is a block of the file.
-abbrev pub faultFound : (ℕ → Fault) → Found → Option Fault
-faultFound fault (At i) = some (fault i)
-faultFound fault Nothing = none
-
-abbrev pub FoundBelow : ℕ → Found → Type 0
-FoundBelow count (At i) = i < count
-FoundBelow count Nothing = Unit {0}

@@ -1,5 +1,5 @@
 -- What acceptance and each refusal mean (document 01, "Verdicts"). That `verdictOf` says just this is proved in
--- proofs/Verdicts.antt.
+-- proofs/Files/Verdicts.antt.
 use mathlib.Core.Path.{_≡_}
 use mathlib.Core.List.{List}
 use Prim.Native.Nat.{ℕ, suc, _+_, _%_, _<_, _≤_}
@@ -9,7 +9,10 @@ use Rattle.blocks.specs.Limits.{blockSize, mostBytes}
 use Rattle.blocks.specs.Block.{blockAt, kindOf, firstCount, secondCount, firstEntries, secondEntries}
 use Rattle.blocks.specs.Check.{CheckRight}
 use Rattle.blocks.specs.Layout.{LayoutRight}
-use Rattle.terms.specs.Entry.{termOf, size}
+use Rattle.terms.specs.Term.{Term, Variable}
+use Rattle.terms.specs.Place.{Place}
+use Rattle.terms.specs.Entry.{Placed}
+use Rattle.terms.specs.Entry.{termOf}
 use Rattle.terms.specs.Atom.{Atom, atomsOf, AtomRight}
 use Rattle.terms.specs.TermEntry.{EntryRight}
 use Rattle.terms.specs.Each.{EntryIs}
@@ -21,7 +24,7 @@ use Rattle.judge.specs.Certificate.{Certificate, Rule}
 use Rattle.judge.specs.File.{blockCount, patternOf, secretOf, ruleOf, certificateOf}
 use Rattle.judge.specs.Cover.{Risky, Covered, Dead, Passes}
 use Rattle.judge.specs.Conditions.{KnownAtom, WeaklyClosed, KeptKey}
-use Rattle.judge.specs.Cover.{spotAt, FineAt}
+use Rattle.judge.specs.Cover.{FineAt}
 use Rattle.judge.specs.File.{fileAtoms, usedEntries}
 
 -- 1: not length 0, a multiple of 512, not above 32,768.
@@ -131,13 +134,15 @@ RootKeyKept certificate b = KeptKey certificate (patternOf b)
 abbrev pub Passing : Certificate → List ℕ → Type 0
 Passing certificate b = Passes certificate (ruleOf b)
 
--- The first uncovered place of a rule that is not dead: place k of the conclusion, in the order of the entries. (Entry k
--- stands at that place and begins the subterm there: `spot-entry` of proofs/Spots.antt.)
+-- The first uncovered place of a rule that is not dead: it stands at entry k of the conclusion, and no place at an entry
+-- before is uncovered. (The entries from k on begin with the subterm there: `placed-entry` of proofs/Files/Spots.antt.)
 pub record FirstUncovered (certificate : Certificate) (rule : Rule) (k : ℕ) : Type 0 where
   pub alive : ¬ Dead certificate rule
-  pub inside : k < size (rule .conclusion)
-  pub risky : Risky certificate (spotAt (rule .conclusion) k .1)
-  pub bare : ¬ Covered certificate rule (spotAt (rule .conclusion) k .0) (spotAt (rule .conclusion) k .1)
+  pub place : Place
+  pub subterm : Term Variable
+  pub stands : Placed (rule .conclusion) k place subterm
+  pub risky : Risky certificate subterm
+  pub bare : ¬ Covered certificate rule place subterm
   pub before : (m : ℕ) → m < k → FineAt certificate rule m
 
 -- Accepted: every condition of document 01 holds.

@@ -2,11 +2,11 @@
 -- rising, premise before conclusion); then 4; then 9, 10, 11, 12, each over all blocks in file order". `none` is: no
 -- fault here.
 use mathlib.Core.Bool.{Bool, true, false, _&&_}
-use mathlib.Core.List.{List}
+use mathlib.Core.List.{List, []}
 use mathlib.Core.Option.{Option, none, some}
 use Prim.Native.Nat.{ℕ, zero, suc, _+_, _%_}
 use lib.Dec.{eqb, leb}
-use lib.ListN.{length}
+use lib.ListN.{length, getD}
 use Rattle.blocks.specs.Kinds.{atomsKind, secretKind, goodKind, badKind, ruleKind}
 use Rattle.blocks.specs.Limits.{blockSize, mostBytes}
 use Rattle.blocks.specs.Block.{blockAt, kindOf, firstCount, entriesOf, firstEntries, secondEntries}
@@ -20,18 +20,22 @@ use Rattle.terms.specs.TermEntry.{wrongEntry}
 use Rattle.terms.specs.OneTerm.{encryption?}
 use Rattle.terms.specs.Reading.{oneTerm?}
 use Rattle.terms.specs.First.{firstNot}
-use Rattle.terms.specs.Decisions.{dec-implies}
-use Rattle.terms.specs.Place.{spots}
+use Rattle.terms.specs.Decisions.{dec-implies, dec-not}
+use Rattle.terms.specs.Term.{Term, Variable}
+use Rattle.terms.specs.Place.{Spot, spots}
 use Rattle.terms.specs.Decide.{answer}
 use Rattle.judge.specs.declared.verdict.Fault.{Fault}
 use Rattle.judge.specs.declared.verdict.Fault.the-variants.{Length, Check, Kind, Missing, Layout, AtomEntry, TermEntry}
 use Rattle.judge.specs.declared.verdict.Fault.the-variants.{NotOneTerm, KnownSecret, NotClosed, KeyNotKept, Uncovered}
+use Rattle.judge.specs.declared.listed.Condition.{Condition}
+use Rattle.judge.specs.declared.listed.Condition.the-variants.{Unknown, Closed, Kept}
 use Rattle.judge.specs.declared.verdict.Verdict.{Verdict}
 use Rattle.judge.specs.declared.verdict.Verdict.the-variants.{Accepted, Refused}
 use Rattle.judge.specs.Certificate.{Certificate, Rule}
 use Rattle.judge.specs.File.{blockCount, blocksFrom, blocksOf, ofKind, patternOf, secretOf, ruleOf, certificateOf}
 use Rattle.judge.specs.File.{fileAtoms, usedEntries, kindCount, countsOf}
-use Rattle.judge.specs.Cover.{spotAt, FineAt}
+use Rattle.judge.specs.Cover.{Risky, Covered}
+use Rattle.judge.specs.Meaning.{SecretNotKnown, SecretClosed, RootKeyKept}
 use Rattle.judge.specs.Decisions.{known-atom?, weakly-closed?, kept-key?, risky?, covered?, dead?}
 
 -- ---- number 1
@@ -132,19 +136,47 @@ onKind kind judged file i = elim (eqb (kindOf (blockAt file i)) kind) [ true ↦
 unfoldable pub kindFault : ℕ → (ℕ → List ℕ → Option Fault) → List ℕ → Option Fault
 kindFault kind judged file = firstFault (onKind kind judged file) 0 (blockCount file)
 
--- 9: "a secret is a known atom".
-unfoldable pub knownSecret : Certificate → ℕ → List ℕ → Option Fault
-knownSecret certificate i b = elim (answer (known-atom? certificate (secretOf b))) [ true ↦ some (KnownSecret i) | false ↦ none ]
+-- 9, 10 and 11: the kind of block that each asks, what it asks of a block, and its fault at block i: "a secret is a known
+-- atom", "secret not weakly closed", "inverse of a good pattern's root key is not a listed secret".
+abbrev pub kindAsked : Condition → ℕ
+kindAsked Unknown = secretKind
+kindAsked Closed = secretKind
+kindAsked Kept = goodKind
 
--- 10: "secret not weakly closed".
-unfoldable pub unclosedSecret : Certificate → ℕ → List ℕ → Option Fault
-unclosedSecret certificate i b = elim (answer (weakly-closed? certificate (secretOf b))) [ true ↦ none | false ↦ some (NotClosed i) ]
+abbrev pub Meets : Condition → Certificate → List ℕ → Type 0
+Meets Unknown certificate b = SecretNotKnown certificate b
+Meets Closed certificate b = SecretClosed certificate b
+Meets Kept certificate b = RootKeyKept certificate b
 
--- 11: "inverse of a good pattern's root key is not a listed secret".
-unfoldable pub unkeptKey : Certificate → ℕ → List ℕ → Option Fault
-unkeptKey certificate i b = elim (answer (kept-key? certificate (patternOf b))) [ true ↦ none | false ↦ some (KeyNotKept i) ]
+unfoldable pub meets? : (condition : Condition) (certificate : Certificate) (b : List ℕ) → Dec (Meets condition certificate b)
+unfolding dec-not known-atom? weakly-closed? kept-key?
+meets? Unknown certificate b = dec-not (known-atom? certificate (secretOf b))
+meets? Closed certificate b = weakly-closed? certificate (secretOf b)
+meets? Kept certificate b = kept-key? certificate (patternOf b)
 
-unfoldable pub fine? : (certificate : Certificate) (rule : Rule) (k : ℕ) → Dec (FineAt certificate rule k)
+abbrev pub faultOn : Condition → ℕ → Fault
+faultOn Unknown i = KnownSecret i
+faultOn Closed i = NotClosed i
+faultOn Kept i = KeyNotKept i
+
+unfoldable pub conditionAt : Condition → Certificate → ℕ → List ℕ → Option Fault
+conditionAt condition certificate i b = elim (answer (meets? condition certificate b)) [ true ↦ none | false ↦ some (faultOn condition i) ]
+
+unfoldable pub conditionFault : Condition → Certificate → List ℕ → Option Fault
+conditionFault condition certificate file = kindFault (kindAsked condition) (conditionAt condition certificate) file
+
+-- A place of a term, with the subterm there, by its number: the places in the order of the entries.
+unfoldable pub spotAt : Term Variable → ℕ → Spot Variable
+spotAt t k = getD (spots t) k ([], t)
+
+-- The place of this number in the conclusion is covered if it is risky. (That is `FineAt`: `fine-spot` of
+-- proofs/Files/Spots.antt.)
+abbrev pub FineSpot : Certificate → Rule → ℕ → Type 0
+FineSpot certificate rule k =
+    Risky certificate (spotAt (rule .conclusion) k .1)
+    → Covered certificate rule (spotAt (rule .conclusion) k .0) (spotAt (rule .conclusion) k .1)
+
+unfoldable pub fine? : (certificate : Certificate) (rule : Rule) (k : ℕ) → Dec (FineSpot certificate rule k)
 fine? certificate rule k =
     dec-implies (risky? certificate (spotAt (rule .conclusion) k .1))
     (λ r. covered? certificate rule (spotAt (rule .conclusion) k .0) (spotAt (rule .conclusion) k .1))
@@ -161,25 +193,16 @@ unfoldable pub uncoveredRule : Certificate → ℕ → List ℕ → Option Fault
 uncoveredRule certificate i b =
     elim (uncovered certificate (ruleOf b)) [ At k ↦ some (Uncovered i (firstCount b + k)) | Nothing ↦ none ]
 
-unfoldable pub knownFault : Certificate → List ℕ → Option Fault
-knownFault certificate file = kindFault secretKind (knownSecret certificate) file
-
-unfoldable pub closedFault : Certificate → List ℕ → Option Fault
-closedFault certificate file = kindFault secretKind (unclosedSecret certificate) file
-
-unfoldable pub keyFault : Certificate → List ℕ → Option Fault
-keyFault certificate file = kindFault goodKind (unkeptKey certificate) file
-
 unfoldable pub ruleFault : Certificate → List ℕ → Option Fault
 ruleFault certificate file = kindFault ruleKind (uncoveredRule certificate) file
 
 -- 9, 10, 11, 12, each over all blocks.
 unfoldable pub certificateFault : Certificate → List ℕ → Option Fault
-certificateFault certificate file = elim (knownFault certificate file) [
+certificateFault certificate file = elim (conditionFault Unknown certificate file) [
   | some f ↦ some f
-  | none ↦ elim (closedFault certificate file) [
+  | none ↦ elim (conditionFault Closed certificate file) [
     | some f ↦ some f
-    | none ↦ elim (keyFault certificate file) [
+    | none ↦ elim (conditionFault Kept certificate file) [
       | some f ↦ some f
       | none ↦ ruleFault certificate file
     ]
@@ -208,7 +231,7 @@ verdictOf file = elim (faultOf file) [ some f ↦ Refused f | none ↦ Accepted 
 -- The same, for theorems by computation: `unfolding computing` opens all that the verdict of a whole file asks.
 unfoldable pub computing : List ℕ → Verdict
 unfolding verdictOf faultOf countsOf lengthFault lengthRight formFault formFrom missingFault certificateFault
-    knownFault closedFault keyFault ruleFault kindFault onKind firstFault knownSecret unclosedSecret unkeptKey uncoveredRule
+    conditionFault conditionAt meets? dec-not ruleFault kindFault onKind firstFault uncoveredRule
     uncovered fine? spotAt blockFault kindRight fileAtoms usedEntries entriesFault atomFault entryFault termFault
     patternFault rulePartsFault conclusionFault rootRight kindCount
     blocksOf blocksFrom ofKind patternOf secretOf ruleOf certificateOf

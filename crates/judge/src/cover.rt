@@ -1,4 +1,4 @@
-// Number 12, on the entries of a rule: entry k stands at the k-th place, and the subterm there is the part from it on.
+// Number 12, on the entries of a rule: the subterm of a place is the part from its entry on.
 // Flags are 0 or 1, and contracts say which are on. What is remembered is so (`Remembered`); which answers are remembered is
 // left open, since one that is missing is asked for.
 ghost use mathlib.Core.Path.{_≡_};
@@ -11,6 +11,8 @@ ghost use Rattle.terms.specs.Entry.{Begins, termOf, size};
 ghost use Rattle.terms.specs.Instance.{Matches};
 ghost use Rattle.terms.specs.Decisions.{Says};
 ghost use Rattle.terms.specs.TermGraph.{SizesOf};
+ghost use Rattle.judge.specs.Listed.{rootSlots};
+ghost use Rattle.judge.specs.CoverEntries.{entryFlags};
 ghost use Rattle.judge.specs.File.{blockCount, certificateOf, ruleOf};
 ghost use Rattle.judge.specs.Laid.{Laid, RuleBlock};
 ghost use Rattle.judge.specs.Cover.{NoHat, Risky};
@@ -19,73 +21,74 @@ ghost use Rattle.judge.specs.Listed.{HoldsAt, AnyListed, Searching, IsSe
 ghost use Rattle.judge.specs.CoverEntries.{subAt, On, Raised, Cleared, MarkOver, Laying, Standing, HatOver, HatBelow, Flags, Entries, OpenAmong, OpenFlags};
 ghost use Rattle.judge.specs.CoverEntries.{ClosedBelow, Flagged, FlaggedWith, SomeFlagged, IndexedBelow, Indexed, Remembered, RiskyEntry, Wanted, WantedEntry, Concluded};
 use crate::flag;
+use crate::flag::FLAGS;
 use crate::listed;
+use crate::listed::LISTED_SIZES;
+use crate::listed::ROOT_SLOTS;
 use blocks::kinds;
 use blocks::limits;
+use blocks::wide;
 use terms::entry;
+use terms::entry::SIZES;
 use terms::matching;
+use terms::tag::ENCRYPTION;
+use terms::tag::MARKED;
+use terms::tag::PAIR;
 use terms::valid::Found;
 
-// A byte, wider.
-fn wide(x: u8) -> usize
-    ensures { λ r. ⌜ (r ≡ x) × (r ≤ 255) ⌝ }
-{
-    x as usize
-}
-
-// Lays the pattern p on the term at entry h: every entry at or below one of its marks is covered.
-fn mark_cover(p: &[u8], e: &[u8], h: usize, cover: &mut [u8; 64])
-    requires { ⌜ Laying (now p) (now e) h × (length (now cover) ≡ 64) ⌝ }
-    ensures { λ _. ⌜ Raised (now (cover .entry)) (now (cover .exit)) (MarkOver (termOf (now (p .entry))) (subAt (now (e .entry)) h) h) ⌝ }
+// Lays the pattern p on the term at entry h: every entry at or below one of its marks is flagged.
+fn mark_cover(p: &[u8], e: &[u8], h: usize, marked: &mut [u8; FLAGS])
+    requires { ⌜ Laying (now p) (now e) h × (length (now marked) ≡ entryFlags) ⌝ }
+    ensures { λ _. ⌜ Raised (now (marked .entry)) (now (marked .exit)) (MarkOver (termOf (now (p .entry))) (subAt (now (e .entry)) h) h) ⌝ }
 {
     let tag = p[0];
-    if tag == 2 {
-        mark_cover(&p[4..], e, h + 1, cover);
+    if tag == PAIR {
+        mark_cover(&p[4..], e, h + 1, marked);
         let past = 1 + entry::term_size(&p[4..]);
         let right = h + 1 + entry::term_size(&e[4 * (h + 1)..]);
-        mark_cover(&p[4 * past..], e, right, cover);
-    } else if tag == 3 {
-        mark_cover(&p[4..], e, h + 1, cover);
-    } else if tag == 5 {
-        flag::paint(cover, h, h + entry::term_size(&e[4 * h..]), 1);
+        mark_cover(&p[4 * past..], e, right, marked);
+    } else if tag == ENCRYPTION {
+        mark_cover(&p[4..], e, h + 1, marked);
+    } else if tag == MARKED {
+        flag::paint(marked, h, h + entry::term_size(&e[4 * h..]), 1);
     }
 }
 
 // Lays the pattern of block i, if it is a good one and matches the term at entry h.
-fn lay_good(file: &[u8], i: usize, e: &[u8], h: usize, cover: &mut [u8; 64])
-    requires { ⌜ Standing (now file) (now e) h × (i < blockCount (now file)) × (length (now cover) ≡ 64) ⌝ }
-    ensures { λ _. ⌜ Raised (now (cover .entry)) (now (cover .exit))
+fn lay_good(file: &[u8], i: usize, e: &[u8], h: usize, marked: &mut [u8; FLAGS])
+    requires { ⌜ Standing (now file) (now e) h × (i < blockCount (now file)) × (length (now marked) ≡ entryFlags) ⌝ }
+    ensures { λ _. ⌜ Raised (now (marked .entry)) (now (marked .exit))
         (λ k. HoldsAt (now (file .entry)) goodKind (λ p. Matches p (subAt (now (e .entry)) h) × MarkOver p (subAt (now (e .entry)) h) h k) i) ⌝ }
 {
     let block = blocks::block(file, i);
     if blocks::kind(block) == kinds::GOOD {
         let p = blocks::first_entries(block);
         if matching::matches(p, &e[4 * h..]) {
-            mark_cover(p, e, h, cover);
+            mark_cover(p, e, h, marked);
         }
     }
 }
 
 // Lays every good pattern that matches the term at entry h.
-fn lay_goods(file: &[u8], e: &[u8], h: usize, cover: &mut [u8; 64])
-    requires { ⌜ Standing (now file) (now e) h × (length (now cover) ≡ 64) ⌝ }
-    ensures { λ _. ⌜ Raised (now (cover .entry)) (now (cover .exit))
+fn lay_goods(file: &[u8], e: &[u8], h: usize, marked: &mut [u8; FLAGS])
+    requires { ⌜ Standing (now file) (now e) h × (length (now marked) ≡ entryFlags) ⌝ }
+    ensures { λ _. ⌜ Raised (now (marked .entry)) (now (marked .exit))
         (λ k. AnyListed (certificateOf (now (file .entry))) goodKind (λ p. Matches p (subAt (now (e .entry)) h) × MarkOver p (subAt (now (e .entry)) h) h k)) ⌝ }
 {
     let count = file.len() / limits::BLOCK_SIZE;
     let mut i = 0;
     while i < count {
-        lay_good(file, i, e, h, cover);
+        lay_good(file, i, e, h, marked);
         i += 1;
     }
 }
 
 // The entries at or below a mark of a good pattern that matches the term at entry h.
-fn marked_places(file: &[u8], e: &[u8], h: usize) -> [u8; 64]
+fn marked_places(file: &[u8], e: &[u8], h: usize) -> [u8; FLAGS]
     requires { ⌜ Standing (now file) (now e) h ⌝ }
     ensures { λ r. ⌜ Flags r (λ k. AnyListed (certificateOf (now (file .entry))) goodKind (λ p. Matches p (subAt (now (e .entry)) h) × MarkOver p (subAt (now (e .entry)) h) h k)) ⌝ }
 {
-    let mut marked = [0u8; 64];
+    let mut marked = [0u8; FLAGS];
     lay_goods(file, e, h, &mut marked);
     marked
 }
@@ -93,11 +96,11 @@ fn marked_places(file: &[u8], e: &[u8], h: usize) -> [u8; 64]
 // Does the encryption at entry h share an instance with a bad pattern? The answer is remembered.
 fn shares_bad(
     file: &[u8],
-    sizes: &[u8; 4096],
+    sizes: &[u8; LISTED_SIZES],
     e: &[u8],
-    z: &[u8; 64],
+    z: &[u8; SIZES],
     h: usize,
-    shared: &mut [u8; 64],
+    shared: &mut [u8; FLAGS],
 ) -> bool
     requires { ⌜ Standing (now file) (now e) h × Remembered (SharesBad (certificateOf (now file))) (now e) (now shared) × SizesIn (now file) (now sizes) × SizesOf (now e) (now z) ⌝ }
     ensures answer { λ r. ⌜ Says r (SharesBad (certificateOf (now (file .entry))) (subAt (now (e .entry)) h)) ⌝ }
@@ -119,14 +122,14 @@ fn shares_bad(
 // Puts the flags off for which the encryption at entry h is a sure hat.
 fn take_hat(
     file: &[u8],
-    sizes: &[u8; 4096],
+    sizes: &[u8; LISTED_SIZES],
     e: &[u8],
-    z: &[u8; 64],
+    z: &[u8; SIZES],
     h: usize,
-    shared: &mut [u8; 64],
-    bare: &mut [u8; 64],
+    shared: &mut [u8; FLAGS],
+    bare: &mut [u8; FLAGS],
 )
-    requires { ⌜ Standing (now file) (now e) h × Remembered (SharesBad (certificateOf (now file))) (now e) (now shared) × (length (now bare) ≡ 64) × SizesIn (now file) (now sizes) × SizesOf (now e) (now z) ⌝ }
+    requires { ⌜ Standing (now file) (now e) h × Remembered (SharesBad (certificateOf (now file))) (now e) (now shared) × (length (now bare) ≡ entryFlags) × SizesIn (now file) (now sizes) × SizesOf (now e) (now z) ⌝ }
     ensures memo { λ _. ⌜ Remembered (SharesBad (certificateOf (now (file .entry)))) (now (e .entry)) (now (shared .exit)) ⌝ }
     ensures flags { λ _. ⌜ Cleared (now (bare .entry)) (now (bare .exit)) (HatOver (certificateOf (now (file .entry))) (subAt (now (e .entry)) h) h) ⌝ }
 {
@@ -139,18 +142,18 @@ fn take_hat(
 // The same for any entry h: only an encryption with flags on below it is asked. `z` has the sizes.
 fn take_below(
     file: &[u8],
-    sizes: &[u8; 4096],
+    sizes: &[u8; LISTED_SIZES],
     e: &[u8],
-    z: &[u8; 64],
+    z: &[u8; SIZES],
     h: usize,
-    shared: &mut [u8; 64],
-    bare: &mut [u8; 64],
+    shared: &mut [u8; FLAGS],
+    bare: &mut [u8; FLAGS],
 )
-    requires { ⌜ Standing (now file) (now e) h × SizesOf (now e) (now z) × Remembered (SharesBad (certificateOf (now file))) (now e) (now shared) × (length (now bare) ≡ 64) × SizesIn (now file) (now sizes) ⌝ }
+    requires { ⌜ Standing (now file) (now e) h × SizesOf (now e) (now z) × Remembered (SharesBad (certificateOf (now file))) (now e) (now shared) × (length (now bare) ≡ entryFlags) × SizesIn (now file) (now sizes) ⌝ }
     ensures memo { λ _. ⌜ Remembered (SharesBad (certificateOf (now (file .entry)))) (now (e .entry)) (now (shared .exit)) ⌝ }
     ensures flags { λ _. ⌜ Cleared (now (bare .entry)) (now (bare .exit)) (HatOver (certificateOf (now (file .entry))) (subAt (now (e .entry)) h) h) ⌝ }
 {
-    if e[4 * h] == 3 {
+    if e[4 * h] == ENCRYPTION {
         if flag::some_on(bare, h + 1, entry::end_of(e, z, h)) {
             take_hat(file, sizes, e, z, h, shared, bare);
         }
@@ -158,8 +161,14 @@ fn take_below(
 }
 
 // Puts the flags off for which there is a sure hat.
-fn take_hats(file: &[u8], sizes: &[u8; 4096], e: &[u8], shared: &mut [u8; 64], bare: &mut [u8; 64])
-    requires { ⌜ Concluded (now file) (now e) × Remembered (SharesBad (certificateOf (now file))) (now e) (now shared) × (length (now bare) ≡ 64) × SizesIn (now file) (now sizes) ⌝ }
+fn take_hats(
+    file: &[u8],
+    sizes: &[u8; LISTED_SIZES],
+    e: &[u8],
+    shared: &mut [u8; FLAGS],
+    bare: &mut [u8; FLAGS],
+)
+    requires { ⌜ Concluded (now file) (now e) × Remembered (SharesBad (certificateOf (now file))) (now e) (now shared) × (length (now bare) ≡ entryFlags) × SizesIn (now file) (now sizes) ⌝ }
     ensures memo { λ _. ⌜ Remembered (SharesBad (certificateOf (now (file .entry)))) (now (e .entry)) (now (shared .exit)) ⌝ }
     ensures flags { λ _. ⌜ Cleared (now (bare .entry)) (now (bare .exit)) (HatBelow (certificateOf (now (file .entry))) (now (e .entry)) (size (termOf (now (e .entry))))) ⌝ }
 {
@@ -173,7 +182,7 @@ fn take_hats(file: &[u8], sizes: &[u8; 4096], e: &[u8], shared: &mut [u8; 64], b
 }
 
 // Is the term such that an open place may have it above?
-fn no_hat(file: &[u8], sizes: &[u8; 4096], t: &[u8], z: &[u8]) -> bool
+fn no_hat(file: &[u8], sizes: &[u8; LISTED_SIZES], t: &[u8], z: &[u8]) -> bool
     requires { ⌜ Searching (now file) goodKind (now t) × SizesIn (now file) (now sizes) × SizesOf (now t) (now z) ⌝ }
     ensures { λ r. ⌜ Says r (NoHat (certificateOf (now (file .entry))) (termOf (now (t .entry)))) ⌝ }
 {
@@ -187,11 +196,11 @@ fn no_hat(file: &[u8], sizes: &[u8; 4096], t: &[u8], z: &[u8]) -> bool
 // The same of the encryption at entry h. The answer is remembered.
 fn no_hat_at(
     file: &[u8],
-    sizes: &[u8; 4096],
+    sizes: &[u8; LISTED_SIZES],
     e: &[u8],
-    z: &[u8; 64],
+    z: &[u8; SIZES],
     h: usize,
-    above: &mut [u8; 64],
+    above: &mut [u8; FLAGS],
 ) -> bool
     requires { ⌜ Standing (now file) (now e) h × Remembered (NoHat (certificateOf (now file))) (now e) (now above) × SizesIn (now file) (now sizes) × SizesOf (now e) (now z) ⌝ }
     ensures answer { λ r. ⌜ Says r (NoHat (certificateOf (now (file .entry))) (subAt (now (e .entry)) h)) ⌝ }
@@ -213,15 +222,15 @@ fn no_hat_at(
 // Closes the entries strictly below the encryption at entry h, if no open place may have it above, up to the end of its term.
 fn close_under(
     file: &[u8],
-    sizes: &[u8; 4096],
+    sizes: &[u8; LISTED_SIZES],
     e: &[u8],
-    z: &[u8; 64],
+    z: &[u8; SIZES],
     h: usize,
     end: usize,
-    above: &mut [u8; 64],
-    opened: &mut [u8; 64],
+    above: &mut [u8; FLAGS],
+    opened: &mut [u8; FLAGS],
 )
-    requires { ⌜ Standing (now file) (now e) h × Remembered (NoHat (certificateOf (now file))) (now e) (now above) × (length (now opened) ≡ 64) × (getD (now e) (4 * h) 0 ≡ 3) × (end ≡ h + size (subAt (now e) h))
+    requires { ⌜ Standing (now file) (now e) h × Remembered (NoHat (certificateOf (now file))) (now e) (now above) × (length (now opened) ≡ entryFlags) × (getD (now e) (4 * h) 0 ≡ 3) × (end ≡ h + size (subAt (now e) h))
         × SizesIn (now file) (now sizes) × SizesOf (now e) (now z) ⌝ }
     ensures memo { λ _. ⌜ Remembered (NoHat (certificateOf (now (file .entry)))) (now (e .entry)) (now (above .exit)) ⌝ }
     ensures flags { λ _. ⌜ ClosedBelow (certificateOf (now (file .entry))) (now (opened .entry)) (now (opened .exit)) (now (e .entry)) h ⌝ }
@@ -234,18 +243,18 @@ fn close_under(
 // The same for any entry h: only an encryption with flags on below it is asked. `z` has the sizes.
 fn close_below(
     file: &[u8],
-    sizes: &[u8; 4096],
+    sizes: &[u8; LISTED_SIZES],
     e: &[u8],
-    z: &[u8; 64],
+    z: &[u8; SIZES],
     h: usize,
-    above: &mut [u8; 64],
-    opened: &mut [u8; 64],
+    above: &mut [u8; FLAGS],
+    opened: &mut [u8; FLAGS],
 )
-    requires { ⌜ Standing (now file) (now e) h × SizesOf (now e) (now z) × Remembered (NoHat (certificateOf (now file))) (now e) (now above) × (length (now opened) ≡ 64) × SizesIn (now file) (now sizes) ⌝ }
+    requires { ⌜ Standing (now file) (now e) h × SizesOf (now e) (now z) × Remembered (NoHat (certificateOf (now file))) (now e) (now above) × (length (now opened) ≡ entryFlags) × SizesIn (now file) (now sizes) ⌝ }
     ensures memo { λ _. ⌜ Remembered (NoHat (certificateOf (now (file .entry)))) (now (e .entry)) (now (above .exit)) ⌝ }
     ensures flags { λ _. ⌜ ClosedBelow (certificateOf (now (file .entry))) (now (opened .entry)) (now (opened .exit)) (now (e .entry)) h ⌝ }
 {
-    if e[4 * h] == 3 {
+    if e[4 * h] == ENCRYPTION {
         let end = entry::end_of(e, z, h);
         if flag::some_on(opened, h + 1, end) {
             close_under(file, sizes, e, z, h, end, above, opened);
@@ -256,10 +265,10 @@ fn close_below(
 // Puts the flags off of the entries that are not open places of e's term.
 fn close_places(
     file: &[u8],
-    sizes: &[u8; 4096],
+    sizes: &[u8; LISTED_SIZES],
     e: &[u8],
-    above: &mut [u8; 64],
-    opened: &mut [u8; 64],
+    above: &mut [u8; FLAGS],
+    opened: &mut [u8; FLAGS],
 )
     requires { ⌜ Concluded (now file) (now e) × Remembered (NoHat (certificateOf (now file))) (now e) (now above) × Flagged (now e) (now opened) × SizesIn (now file) (now sizes) ⌝ }
     ensures memo { λ _. ⌜ Remembered (NoHat (certificateOf (now (file .entry)))) (now (e .entry)) (now (above .exit)) ⌝ }
@@ -277,24 +286,30 @@ fn close_places(
 // Of the wanted entries of e's term, those that are open places.
 fn open_places(
     file: &[u8],
-    sizes: &[u8; 4096],
+    sizes: &[u8; LISTED_SIZES],
     e: &[u8],
-    above: &mut [u8; 64],
-    wanted: [u8; 64],
-) -> [u8; 64]
+    above: &mut [u8; FLAGS],
+    wanted: [u8; FLAGS],
+) -> [u8; FLAGS]
     requires { ⌜ Laid (now file) × Flagged (now e) wanted × Remembered (NoHat (certificateOf (now file))) (now e) (now above) × SizesIn (now file) (now sizes) ⌝ }
     ensures memo { λ _. ⌜ Remembered (NoHat (certificateOf (now (file .entry)))) (now (e .entry)) (now (above .exit)) ⌝ }
     ensures flags { λ r. ⌜ OpenFlags (certificateOf (now (file .entry))) (now (e .entry)) wanted r ⌝ }
 {
     let mut opened = wanted;
-    if flag::some_on(&opened, 0, 64) {
+    if flag::some_on(&opened, 0, FLAGS) {
         close_places(file, sizes, e, above, &mut opened);
     }
     opened
 }
 
 // Is entry k flagged, and a listed secret there?
-fn secret_at(file: &[u8], roots: &[u8; 400], e: &[u8], opened: &[u8; 64], k: usize) -> bool
+fn secret_at(
+    file: &[u8],
+    roots: &[u8; ROOT_SLOTS],
+    e: &[u8],
+    opened: &[u8; FLAGS],
+    k: usize,
+) -> bool
     requires { ⌜ Laid (now file) × Flagged (now e) (now opened) × (4 * k < length (now e)) × RootsOf (now file) (now roots) ⌝ }
     ensures { λ r. ⌜ Says r (FlaggedWith (now (e .entry)) (now (opened .entry)) (IsSecret (certificateOf (now (file .entry)))) k) ⌝ }
 {
@@ -306,7 +321,7 @@ fn secret_at(file: &[u8], roots: &[u8; 400], e: &[u8], opened: &[u8; 64], k: usi
 }
 
 // Does a listed secret stand at a flagged entry?
-fn is_dead(file: &[u8], roots: &[u8; 400], e: &[u8], opened: &[u8; 64]) -> bool
+fn is_dead(file: &[u8], roots: &[u8; ROOT_SLOTS], e: &[u8], opened: &[u8; FLAGS]) -> bool
     requires { ⌜ Laid (now file) × Flagged (now e) (now opened) × RootsOf (now file) (now roots) ⌝ }
     ensures { λ r. ⌜ Says r (SomeFlagged (now (e .entry)) (now (opened .entry)) (IsSecret (certificateOf (now (file .entry))))) ⌝ }
 {
@@ -321,7 +336,7 @@ fn is_dead(file: &[u8], roots: &[u8; 400], e: &[u8], opened: &[u8; 64]) -> bool
 }
 
 // Is entry k flagged, and the term t there?
-fn same_at(e: &[u8], flags: &[u8; 64], k: usize, t: &[u8]) -> bool
+fn same_at(e: &[u8], flags: &[u8; FLAGS], k: usize, t: &[u8]) -> bool
     requires { ⌜ Flagged (now e) (now flags) × (4 * k < length (now e)) × Begins (now t) ⌝ }
     ensures { λ r. ⌜ Says r (FlaggedWith (now (e .entry)) (now (flags .entry)) (λ s. s ≡ termOf (now (t .entry))) k) ⌝ }
 {
@@ -333,7 +348,7 @@ fn same_at(e: &[u8], flags: &[u8; 64], k: usize, t: &[u8]) -> bool
 }
 
 // Does the term t, symbol for symbol, stand at a flagged entry? All are asked.
-fn stands_among(e: &[u8], flags: &[u8; 64], t: &[u8]) -> bool
+fn stands_among(e: &[u8], flags: &[u8; FLAGS], t: &[u8]) -> bool
     requires { ⌜ Flagged (now e) (now flags) × Begins (now t) ⌝ }
     ensures { λ r. ⌜ Says r (SomeFlagged (now (e .entry)) (now (flags .entry)) (λ s. s ≡ termOf (now (t .entry)))) ⌝ }
 {
@@ -348,7 +363,7 @@ fn stands_among(e: &[u8], flags: &[u8; 64], t: &[u8]) -> bool
 }
 
 // Notes entry k in the table of the flagged entries, if it is flagged.
-fn note(e: &[u8], flags: &[u8; 64], k: usize, index: &mut [u8; 400])
+fn note(e: &[u8], flags: &[u8; FLAGS], k: usize, index: &mut [u8; ROOT_SLOTS])
     requires { ⌜ Flagged (now e) (now flags) × (4 * k < length (now e)) × IndexedBelow (now e) (now flags) k (now index) ⌝ }
     ensures { λ _. ⌜ IndexedBelow (now (e .entry)) (now (flags .entry)) (k + 1) (now (index .exit)) ⌝ }
 {
@@ -359,11 +374,11 @@ fn note(e: &[u8], flags: &[u8; 64], k: usize, index: &mut [u8; 400])
 
 // The flagged entries by the slots of their roots, counted from 1. Which of several with one slot is noted is left open: any
 // serves, as `stands_at` asks all entries where it is another.
-fn index_of(e: &[u8], flags: &[u8; 64]) -> [u8; 400]
+fn index_of(e: &[u8], flags: &[u8; FLAGS]) -> [u8; ROOT_SLOTS]
     requires { ⌜ Flagged (now e) (now flags) ⌝ }
     ensures { λ r. ⌜ Indexed (now (e .entry)) (now (flags .entry)) r ⌝ }
 {
-    let mut index = [0u8; 400];
+    let mut index = [0u8; ROOT_SLOTS];
     let count = e.len() / 4;
     let mut k = 0;
     while k < count {
@@ -374,7 +389,7 @@ fn index_of(e: &[u8], flags: &[u8; 64]) -> [u8; 400]
 }
 
 // Does the term t, symbol for symbol, stand at a flagged entry? Most are found, or not, at the entry of their slot.
-fn stands_at(e: &[u8], flags: &[u8; 64], index: &[u8; 400], t: &[u8]) -> bool
+fn stands_at(e: &[u8], flags: &[u8; FLAGS], index: &[u8; ROOT_SLOTS], t: &[u8]) -> bool
     requires { ⌜ Flagged (now e) (now flags) × Indexed (now e) (now flags) (now index) × Begins (now t) ⌝ }
     ensures { λ r. ⌜ Says r (SomeFlagged (now (e .entry)) (now (flags .entry)) (λ s. s ≡ termOf (now (t .entry)))) ⌝ }
 {
@@ -389,7 +404,7 @@ fn stands_at(e: &[u8], flags: &[u8; 64], index: &[u8; 400], t: &[u8]) -> bool
 }
 
 // Is the term a listed secret?
-fn is_secret(file: &[u8], roots: &[u8; 400], t: &[u8]) -> bool
+fn is_secret(file: &[u8], roots: &[u8; ROOT_SLOTS], t: &[u8]) -> bool
     requires { ⌜ Searching (now file) secretKind (now t) × RootsOf (now file) (now roots) ⌝ }
     ensures { λ r. ⌜ Says r (IsSecret (certificateOf (now (file .entry))) (termOf (now (t .entry)))) ⌝ }
 {
@@ -401,7 +416,7 @@ fn is_secret(file: &[u8], roots: &[u8; 400], t: &[u8]) -> bool
 }
 
 // Is the term a variable, or does it share an instance with a secret?
-fn is_risky(file: &[u8], roots: &[u8; 400], t: &[u8]) -> bool
+fn is_risky(file: &[u8], roots: &[u8; ROOT_SLOTS], t: &[u8]) -> bool
     requires { ⌜ Searching (now file) secretKind (now t) × RootsOf (now file) (now roots) ⌝ }
     ensures { λ r. ⌜ Says r (Risky (certificateOf (now (file .entry))) (termOf (now (t .entry)))) ⌝ }
 {
@@ -415,11 +430,11 @@ fn is_risky(file: &[u8], roots: &[u8; 400], t: &[u8]) -> bool
 }
 
 // The risky entries of a conclusion.
-fn risky_places(file: &[u8], roots: &[u8; 400], e: &[u8]) -> [u8; 64]
+fn risky_places(file: &[u8], roots: &[u8; ROOT_SLOTS], e: &[u8]) -> [u8; FLAGS]
     requires { ⌜ Concluded (now file) (now e) × RootsOf (now file) (now roots) ⌝ }
     ensures { λ r. ⌜ Flags r (RiskyEntry (certificateOf (now (file .entry))) (now (e .entry))) ⌝ }
 {
-    let mut risky = [0u8; 64];
+    let mut risky = [0u8; FLAGS];
     let count = e.len() / 4;
     let mut k = 0;
     while k < count {
@@ -430,8 +445,8 @@ fn risky_places(file: &[u8], roots: &[u8; 400], e: &[u8]) -> [u8; 64]
 }
 
 // Has neither table anything for the slot of the term's root?
-fn is_absent(roots: &[u8; 400], index: &[u8; 400], t: &[u8]) -> bool
-    requires { ⌜ (length (now roots) ≡ 400) × (length (now index) ≡ 400) × Begins (now t) ⌝ }
+fn is_absent(roots: &[u8; ROOT_SLOTS], index: &[u8; ROOT_SLOTS], t: &[u8]) -> bool
+    requires { ⌜ (length (now roots) ≡ rootSlots) × (length (now index) ≡ rootSlots) × Begins (now t) ⌝ }
     ensures { λ r. ⌜ Says r ((getD (now (roots .entry)) (slotAt (now (t .entry))) 0 ≡ 0) × (getD (now (index .entry)) (slotAt (now (t .entry))) 0 ≡ 0)) ⌝ }
 {
     let n = listed::root_slot(t);
@@ -441,11 +456,11 @@ fn is_absent(roots: &[u8; 400], index: &[u8; 400], t: &[u8]) -> bool
 // Does it matter whether entry k of the premise is open?
 fn is_wanted(
     file: &[u8],
-    roots: &[u8; 400],
+    roots: &[u8; ROOT_SLOTS],
     premise: &[u8],
     conclusion: &[u8],
-    risky: &[u8; 64],
-    index: &[u8; 400],
+    risky: &[u8; FLAGS],
+    index: &[u8; ROOT_SLOTS],
     k: usize,
 ) -> bool
     requires { ⌜ Laid (now file) × Entries (now premise) × (4 * k < length (now premise)) × Flagged (now conclusion) (now risky) × RootsOf (now file) (now roots)
@@ -466,16 +481,16 @@ fn is_wanted(
 // The entries of the premise for which it matters.
 fn wanted_places(
     file: &[u8],
-    roots: &[u8; 400],
+    roots: &[u8; ROOT_SLOTS],
     premise: &[u8],
     conclusion: &[u8],
-    risky: &[u8; 64],
-) -> [u8; 64]
+    risky: &[u8; FLAGS],
+) -> [u8; FLAGS]
     requires { ⌜ Laid (now file) × Entries (now premise) × Flagged (now conclusion) (now risky) × RootsOf (now file) (now roots) ⌝ }
     ensures { λ r. ⌜ Flags r (WantedEntry (certificateOf (now (file .entry))) (now (premise .entry)) (now (conclusion .entry)) (now (risky .entry))) ⌝ }
 {
     let index = index_of(conclusion, risky);
-    let mut wanted = [0u8; 64];
+    let mut wanted = [0u8; FLAGS];
     let count = premise.len() / 4;
     let mut k = 0;
     while k < count {
@@ -488,10 +503,10 @@ fn wanted_places(
 // Is entry k of the conclusion flagged, and its subterm at a flagged entry of the premise?
 fn is_open(
     premise: &[u8],
-    opened: &[u8; 64],
+    opened: &[u8; FLAGS],
     conclusion: &[u8],
-    risky: &[u8; 64],
-    index: &[u8; 400],
+    risky: &[u8; FLAGS],
+    index: &[u8; ROOT_SLOTS],
     k: usize,
 ) -> bool
     requires { ⌜ Flagged (now premise) (now opened) × Flagged (now conclusion) (now risky) × (4 * k < length (now conclusion))
@@ -506,7 +521,12 @@ fn is_open(
 }
 
 // Of the flagged entries of the conclusion, those whose subterm stands at no flagged entry of the premise.
-fn bare_places(premise: &[u8], opened: &[u8; 64], conclusion: &[u8], risky: &[u8; 64]) -> [u8; 64]
+fn bare_places(
+    premise: &[u8],
+    opened: &[u8; FLAGS],
+    conclusion: &[u8],
+    risky: &[u8; FLAGS],
+) -> [u8; FLAGS]
     requires { ⌜ Flagged (now premise) (now opened) × Flagged (now conclusion) (now risky) ⌝ }
     ensures { λ r. ⌜ Cleared (now (risky .entry)) r (λ k. SomeFlagged (now (premise .entry)) (now (opened .entry)) (λ s. s ≡ subAt (now (conclusion .entry)) k)) ⌝ }
 {
@@ -530,10 +550,10 @@ fn bare_places(premise: &[u8], opened: &[u8; 64], conclusion: &[u8], risky: &[u8
 // filled in, and what is known of the encryptions of the premise and the conclusion is handed in and on.
 pub fn uncovered(
     file: &[u8],
-    roots: &[u8; 400],
-    sizes: &[u8; 4096],
-    above: &mut [u8; 64],
-    shared: &mut [u8; 64],
+    roots: &[u8; ROOT_SLOTS],
+    sizes: &[u8; LISTED_SIZES],
+    above: &mut [u8; FLAGS],
+    shared: &mut [u8; FLAGS],
     block: &[u8],
 ) -> Found
     requires { ⌜ Laid (now file) × RuleBlock (now block) × RootsOf (now file) (now roots)

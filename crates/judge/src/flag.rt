@@ -4,12 +4,16 @@ ghost use Prim.Native.Nat.{_≤_};
 ghost use lib.ListN.{length};
 ghost use Rattle.terms.specs.Decisions.{Says};
 ghost use Rattle.terms.specs.First.{FirstNot};
+ghost use Rattle.judge.specs.CoverEntries.{entryFlags};
 ghost use Rattle.judge.specs.CoverEntries.{On, flagOf, putOff, toldOf, Renewed, Painted, Cleared, SomeOn};
 use terms::valid::Found;
 
+// Room for the flags of a term.
+pub const FLAGS: usize = 64;
+
 // Gives the flags from `low` up to `high` this value.
-pub fn paint(flags: &mut [u8; 64], low: usize, high: usize, value: u8)
-    requires { ⌜ (length (now flags) ≡ 64) × (low ≤ high) × (high ≤ 64) ⌝ }
+pub fn paint(flags: &mut [u8; FLAGS], low: usize, high: usize, value: u8)
+    requires { ⌜ (length (now flags) ≡ entryFlags) × (low ≤ high) × (high ≤ entryFlags) ⌝ }
     ensures { λ _. ⌜ Painted (now (flags .entry)) (now (flags .exit)) low high value ⌝ }
 {
     let mut k = low;
@@ -20,8 +24,8 @@ pub fn paint(flags: &mut [u8; 64], low: usize, high: usize, value: u8)
 }
 
 // Is a flag from `low` up to `high` on?
-pub fn some_on(flags: &[u8; 64], low: usize, high: usize) -> bool
-    requires { ⌜ (length (now flags) ≡ 64) × (high ≤ 64) ⌝ }
+pub fn some_on(flags: &[u8; FLAGS], low: usize, high: usize) -> bool
+    requires { ⌜ (length (now flags) ≡ entryFlags) × (high ≤ entryFlags) ⌝ }
     ensures { λ r. ⌜ Says r (SomeOn (now (flags .entry)) low high) ⌝ }
 {
     let mut k = low;
@@ -49,20 +53,20 @@ pub fn put_off(flag: u8, off: bool) -> u8
 }
 
 // Puts the flags off that are on in the other ones.
-pub fn clear(flags: &mut [u8; 64], off: &[u8; 64])
-    requires { ⌜ (length (now flags) ≡ 64) × (length (now off) ≡ 64) ⌝ }
+pub fn clear(flags: &mut [u8; FLAGS], off: &[u8; FLAGS])
+    requires { ⌜ (length (now flags) ≡ entryFlags) × (length (now off) ≡ entryFlags) ⌝ }
     ensures { λ _. ⌜ Cleared (now (flags .entry)) (now (flags .exit)) (On (now (off .entry))) ⌝ }
 {
     let mut k = 0;
-    while k < 64 {
+    while k < FLAGS {
         flags[k] = put_off(flags[k], off[k] == 1);
         k += 1;
     }
 }
 
 // The first of `count` flags that is on.
-pub fn first_on(flags: &[u8; 64], count: usize) -> Found
-    requires { ⌜ (length (now flags) ≡ 64) × (count ≤ 64) ⌝ }
+pub fn first_on(flags: &[u8; FLAGS], count: usize) -> Found
+    requires { ⌜ (length (now flags) ≡ entryFlags) × (count ≤ entryFlags) ⌝ }
     ensures { λ r. ⌜ FirstNot (λ k. ¬ On (now (flags .entry)) k) count r ⌝ }
 {
     let mut k = 0;
@@ -83,11 +87,11 @@ pub fn told(yes: bool) -> u8
 }
 
 // What is remembered stays, or nothing is known any more.
-pub fn renew(memo: &mut [u8; 64], keep: bool)
-    requires { ⌜ length (now memo) ≡ 64 ⌝ }
+pub fn renew(memo: &mut [u8; FLAGS], keep: bool)
+    requires { ⌜ length (now memo) ≡ entryFlags ⌝ }
     ensures { λ _. ⌜ Renewed keep (now (memo .entry)) (now (memo .exit)) ⌝ }
 {
     if !keep {
-        paint(memo, 0, 64, 0);
+        paint(memo, 0, FLAGS, 0);
     }
 }

@@ -5,6 +5,7 @@ ghost use Prim.Native.Nat.{_+_, _*_, _<_, _≤_};
 ghost use Rattle.blocks.specs.Block.{HasBlock, blockAt, Fitting};
 ghost use Rattle.terms.specs.Entry.{Begins};
 ghost use Rattle.terms.specs.Atom.{atomsOf};
+ghost use Rattle.blocks.specs.Limits.{mostBlocks};
 ghost use Rattle.judge.specs.File.{blockCount};
 ghost use Rattle.judge.specs.Judgement.{judgedOf, Spelled};
 ghost use Rattle.judge.specs.Verdict.{lengthRight, kindRight, atomFault, entryFault, rootRight, patternFault, conclusionFault};
@@ -164,7 +165,7 @@ fn entries_fault(atoms: &[u8], i: u8, block: &[u8]) -> Judged
 
 // Numbers 2, 3, 5, then 6 to 8, of block i. The atoms are those of block 0.
 fn block_fault(file: &[u8], i: usize) -> Judged
-    requires { ⌜ HasBlock (now file) i × ((i < 64) × (0 < i → Fitting (blockAt (now file) 0))) ⌝ }
+    requires { ⌜ HasBlock (now file) i × ((i < mostBlocks) × (0 < i → Fitting (blockAt (now file) 0))) ⌝ }
     ensures { λ r. ⌜ r ≡ judgedOf (blockFault (now (file .entry)) i) ⌝ }
 {
     let block = blocks::block(file, i);

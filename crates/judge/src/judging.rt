@@ -15,9 +15,13 @@ ghost use Rattle.judge.specs.Verdict.{onKind, uncoveredRule, ruleFault, 
 ghost use Rattle.judge.specs.Values.{verdictValues, judgingValues};
 use crate::cover;
 use crate::flag;
+use crate::flag::FLAGS;
 use crate::form;
 use crate::form::Judged;
 use crate::listed;
+use crate::listed::Condition;
+use crate::listed::LISTED_SIZES;
+use crate::listed::ROOT_SLOTS;
 use crate::verdict::Fault;
 use crate::verdict::Verdict;
 use blocks::kinds;
@@ -98,10 +102,10 @@ fn repeats_conclusion(file: &[u8], i: usize) -> bool
 fn uncovered_in(
     file: &[u8],
     head: &[u8],
-    roots: &[u8; 400],
-    sizes: &[u8; 4096],
-    above: &mut [u8; 64],
-    shared: &mut [u8; 64],
+    roots: &[u8; ROOT_SLOTS],
+    sizes: &[u8; LISTED_SIZES],
+    above: &mut [u8; FLAGS],
+    shared: &mut [u8; FLAGS],
     i: usize,
 ) -> Found
     requires { ⌜ Laid (now file) × (i < blockCount (now file)) × (kindOf (blockAt (now file) i) ≡ ruleKind) × Laid (now head) × RootsOf (now head) (now roots)
@@ -121,10 +125,10 @@ fn uncovered_in(
 fn uncovered_at(
     file: &[u8],
     head: &[u8],
-    roots: &[u8; 400],
-    sizes: &[u8; 4096],
-    above: &mut [u8; 64],
-    shared: &mut [u8; 64],
+    roots: &[u8; ROOT_SLOTS],
+    sizes: &[u8; LISTED_SIZES],
+    above: &mut [u8; FLAGS],
+    shared: &mut [u8; FLAGS],
     i: usize,
 ) -> Judged
     requires { ⌜ Laid (now file) × (i < blockCount (now file)) × Heads (now head) (now file) × RootsOf (now head) (now roots)
@@ -158,8 +162,8 @@ fn rule_fault(file: &[u8]) -> Judged
     let roots = listed::secret_roots(head);
     let sizes = listed::listed_sizes(head);
     let count = file.len() / limits::BLOCK_SIZE;
-    let mut above = [0u8; 64];
-    let mut shared = [0u8; 64];
+    let mut above = [0u8; FLAGS];
+    let mut shared = [0u8; FLAGS];
     let mut i = 0;
     while i < count {
         match uncovered_at(file, head, &roots, &sizes, &mut above, &mut shared, i) {
@@ -175,14 +179,14 @@ fn certificate_fault(file: &[u8]) -> Judged
     requires { ⌜ Laid (now file) ⌝ }
     ensures { λ r. ⌜ r ≡ judgedOf (certificateFault (certificateOf (now (file .entry))) (now (file .entry))) ⌝ }
 {
-    if let Found::At(i) = listed::known_secret(file) {
-        return Judged::Faulty(Fault::KnownSecret(i as u8));
+    if let Judged::Faulty(f) = listed::condition_fault(file, Condition::Unknown) {
+        return Judged::Faulty(f);
     }
-    if let Found::At(i) = listed::not_closed(file) {
-        return Judged::Faulty(Fault::NotClosed(i as u8));
+    if let Judged::Faulty(f) = listed::condition_fault(file, Condition::Closed) {
+        return Judged::Faulty(f);
     }
-    if let Found::At(i) = listed::key_not_kept(file) {
-        return Judged::Faulty(Fault::KeyNotKept(i as u8));
+    if let Judged::Faulty(f) = listed::condition_fault(file, Condition::Kept) {
+        return Judged::Faulty(f);
     }
     rule_fault(file)
 }

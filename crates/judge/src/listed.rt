@@ -17,16 +17,31 @@ ghost use Rattle.judge.specs.Certificate.{Secret, inverse};
 ghost use Rattle.judge.specs.File.{blockCount, certificateOf};
 ghost use Rattle.judge.specs.Laid.{Laid, TermBlock};
 ghost use Rattle.judge.specs.Conditions.{KnownAtom, WeaklyClosed, KeptKey};
-ghost use Rattle.judge.specs.Verdict.{onKind, knownSecret, unclosedSecret, unkeptKey, knownFault, closedFault, keyFault};
-ghost use Rattle.judge.specs.Listed.{HoldsAt, Searching, TermPart, matches-listed?, shares-listed?, is-secret?, faultIf, faultFound, FoundBelow};
-ghost use Rattle.judge.specs.Listed.{slotAt, FlaggedMore, RootsOf, NoRoot, SizesBelow, SizesIn, SizeOf};
-ghost use Rattle.judge.specs.declared.verdict.Fault.the-variants.{KnownSecret, NotClosed, KeyNotKept};
+ghost use Rattle.judge.specs.Judgement.{judgedOf};
+ghost use Rattle.judge.specs.Verdict.{onKind, kindAsked, Meets, faultOn, conditionAt, conditionFault};
+ghost use Rattle.judge.specs.Listed.{HoldsAt, Searching, TermPart, matches-listed?, shares-listed?, is-secret?};
+ghost use Rattle.judge.specs.Listed.{rootSlots, slotAt, FlaggedMore, RootsOf, NoRoot, SizesBelow, SizesIn, SizeOf};
+use crate::form::Judged;
+use crate::verdict::Fault;
 use blocks::kinds;
 use blocks::limits;
 use terms::entry;
 use terms::matching;
 use terms::sharing;
-use terms::valid::Found;
+use terms::tag::ENCRYPTION;
+use terms::tag::PAIR;
+use terms::tag::SLOTS;
+use terms::tag::is_variable;
+
+// What numbers 9, 10 and 11 ask of the blocks of one kind.
+pub enum Condition {
+    // 9: the secret is no known atom.
+    Unknown,
+    // 10: the secret is weakly closed.
+    Closed,
+    // 11: the inverse of the good pattern's root key is a listed secret.
+    Kept,
+}
 
 // The kind of block i.
 fn kind_at(file: &[u8], i: usize) -> u8
@@ -86,7 +101,14 @@ pub fn is_listed_match(file: &[u8], kind: u8, e: &[u8]) -> bool
 }
 
 // Does block i, if it is of this kind, hold a term that shares an instance with e's term?
-fn shares_at(file: &[u8], sizes: &[u8; 4096], i: usize, kind: u8, e: &[u8], z: &[u8]) -> bool
+fn shares_at(
+    file: &[u8],
+    sizes: &[u8; LISTED_SIZES],
+    i: usize,
+    kind: u8,
+    e: &[u8],
+    z: &[u8],
+) -> bool
     requires { ⌜ Searching (now file) kind (now e) × (i < blockCount (now file)) × SizesIn (now file) (now sizes) × SizesOf (now e) (now z) ⌝ }
     ensures { λ r. ⌜ Says r (HoldsAt (now (file .entry)) kind (λ p. Share p (termOf (now (e .entry)))) i) ⌝ }
 {
@@ -100,7 +122,7 @@ fn shares_at(file: &[u8], sizes: &[u8; 4096], i: usize, kind: u8, e: &[u8], z: &
 
 // Does some listed term of this kind share an instance with the term that e begins with? Asked from the last block back to
 // the first of a lower kind. `sizes` has the sizes of the listed terms, and z those of e's.
-pub fn shares_listed(file: &[u8], sizes: &[u8; 4096], kind: u8, e: &[u8], z: &[u8]) -> bool
+pub fn shares_listed(file: &[u8], sizes: &[u8; LISTED_SIZES], kind: u8, e: &[u8], z: &[u8]) -> bool
     requires { ⌜ Searching (now file) kind (now e) × SizesIn (now file) (now sizes) × SizesOf (now e) (now z) ⌝ }
     ensures { λ r. ⌜ r ≡ answer (shares-listed? (certificateOf (now (file .entry))) kind (termOf (now (e .entry)))) ⌝ }
 {
@@ -202,7 +224,7 @@ fn lists_term(file: &[u8], i: usize) -> bool
 }
 
 // Fills in the sizes of block i's terms, if it lists one.
-fn size_block(file: &[u8], i: usize, sizes: &mut [u8; 4096])
+fn size_block(file: &[u8], i: usize, sizes: &mut [u8; LISTED_SIZES])
     requires { ⌜ Laid (now file) × (i < blockCount (now file)) × SizesBelow (now file) i (now sizes) ⌝ }
     ensures { λ _. ⌜ SizesBelow (now (file .entry)) (i + 1) (now (sizes .exit)) ⌝ }
 {
@@ -212,11 +234,11 @@ fn size_block(file: &[u8], i: usize, sizes: &mut [u8; 4096])
 }
 
 // The sizes of all listed terms, those of block i from 64 * i on.
-pub fn listed_sizes(file: &[u8]) -> [u8; 4096]
+pub fn listed_sizes(file: &[u8]) -> [u8; LISTED_SIZES]
     requires { ⌜ Laid (now file) ⌝ }
     ensures { λ r. ⌜ SizesIn (now (file .entry)) r ⌝ }
 {
-    let mut sizes = [0u8; 4096];
+    let mut sizes = [0u8; LISTED_SIZES];
     let count = file.len() / limits::BLOCK_SIZE;
     let mut i = 0;
     while i < count {
@@ -226,27 +248,39 @@ pub fn listed_sizes(file: &[u8]) -> [u8; 4096]
     sizes
 }
 
+// Room for the sizes of the terms of all blocks: 64 for each.
+pub const LISTED_SIZES: usize = 4096;
+
+// The slots of roots: those of atoms from 0, then those of pairs, of encryptions and of variables.
+const PAIR_ROOTS: usize = 128;
+
+const ENCRYPTION_ROOTS: usize = 256;
+
+const VARIABLE_ROOTS: usize = 384;
+
+pub const ROOT_SLOTS: usize = VARIABLE_ROOTS + SLOTS;
+
 // The slot of the root of the term that e begins with. Atoms, pairs and encryptions have 128 slots each, by the root's
 // value; a pair's value is always 0, so its left half's root is asked instead. Variables have 16.
 pub fn root_slot(e: &[u8]) -> usize
     requires { ⌜ Begins (now e) ⌝ }
-    ensures { λ r. ⌜ (r ≡ slotAt (now (e .entry))) × (r < 400) ⌝ }
+    ensures { λ r. ⌜ (r ≡ slotAt (now (e .entry))) × (r < rootSlots) ⌝ }
 {
     let tag = e[0];
-    if tag == 2 {
-        128 + entry::value(&e[4..]) % 128
-    } else if tag == 3 {
-        256 + entry::value(e) % 128
-    } else if 3 < tag {
-        384 + entry::value(e) % 16
+    if tag == PAIR {
+        PAIR_ROOTS + entry::value(&e[4..]) % PAIR_ROOTS
+    } else if tag == ENCRYPTION {
+        ENCRYPTION_ROOTS + entry::value(e) % PAIR_ROOTS
+    } else if is_variable(tag) {
+        VARIABLE_ROOTS + entry::value(e) % SLOTS
     } else {
-        entry::value(e) % 128
+        entry::value(e) % PAIR_ROOTS
     }
 }
 
 // Flags the root of block i's term, if it is a secret's.
-fn flag_root(file: &[u8], i: usize, roots: &mut [u8; 400])
-    requires { ⌜ Laid (now file) × (i < blockCount (now file)) × (length (now roots) ≡ 400) ⌝ }
+fn flag_root(file: &[u8], i: usize, roots: &mut [u8; ROOT_SLOTS])
+    requires { ⌜ Laid (now file) × (i < blockCount (now file)) × (length (now roots) ≡ rootSlots) ⌝ }
     ensures { λ _. ⌜ FlaggedMore (now (file .entry)) i (now (roots .entry)) (now (roots .exit)) ⌝ }
 {
     if is_kind(file, i, kinds::SECRET) {
@@ -256,11 +290,11 @@ fn flag_root(file: &[u8], i: usize, roots: &mut [u8; 400])
 }
 
 // The roots of all secrets, flagged, and no others.
-pub fn secret_roots(file: &[u8]) -> [u8; 400]
+pub fn secret_roots(file: &[u8]) -> [u8; ROOT_SLOTS]
     requires { ⌜ Laid (now file) ⌝ }
     ensures { λ r. ⌜ RootsOf (now (file .entry)) r ⌝ }
 {
-    let mut roots = [0u8; 400];
+    let mut roots = [0u8; ROOT_SLOTS];
     let count = file.len() / limits::BLOCK_SIZE;
     let mut i = 0;
     while i < count {
@@ -272,16 +306,16 @@ pub fn secret_roots(file: &[u8]) -> [u8; 400]
 
 // Might the term that e begins with be a secret or share an instance with one? A variable might, and a pair whose left
 // half is one; any other term if a secret's root has its slot.
-pub fn may_be_secret(roots: &[u8; 400], e: &[u8]) -> bool
-    requires { ⌜ (length (now roots) ≡ 400) × Begins (now e) ⌝ }
+pub fn may_be_secret(roots: &[u8; ROOT_SLOTS], e: &[u8]) -> bool
+    requires { ⌜ (length (now roots) ≡ rootSlots) × Begins (now e) ⌝ }
     ensures { λ r. ⌜ (r ≡ false) ↔ NoRoot (now (roots .entry)) (now (e .entry)) ⌝ }
 {
     let tag = e[0];
-    if 3 < tag {
+    if is_variable(tag) {
         return true;
     }
-    if tag == 2 {
-        if 3 < e[4] {
+    if tag == PAIR {
+        if is_variable(e[4]) {
             return true;
         }
     }
@@ -324,84 +358,26 @@ fn is_known(file: &[u8], e: &[u8]) -> bool
     known == 1
 }
 
-// Is block i a secret's, and its secret a known atom?
-fn known_at(file: &[u8], i: usize) -> bool
-    requires { ⌜ Laid (now file) × (i < blockCount (now file)) ⌝ }
-    ensures { λ r. ⌜ faultIf r (KnownSecret i) ≡ onKind secretKind (knownSecret (certificateOf (now (file .entry)))) (now (file .entry)) i ⌝ }
-{
-    if is_kind(file, i, kinds::SECRET) {
-        is_known(file, term_at(file, i))
-    } else {
-        false
-    }
-}
-
-// Number 9: the first block whose secret is a known atom.
-pub fn known_secret(file: &[u8]) -> Found
-    requires { ⌜ Laid (now file) ⌝ }
-    ensures fault { λ r. ⌜ faultFound KnownSecret r ≡ knownFault (certificateOf (now (file .entry))) (now (file .entry)) ⌝ }
-    ensures inside { λ r. ⌜ FoundBelow (blockCount (now (file .entry))) r ⌝ }
-{
-    let count = file.len() / limits::BLOCK_SIZE;
-    let mut i = 0;
-    while i < count {
-        if known_at(file, i) {
-            return Found::At(i);
-        }
-        i += 1;
-    }
-    Found::Nothing
-}
-
 // Is the term that e begins with, as a message, weakly closed? With a pair, one half is listed; with {m}k, m or k is.
 fn is_closed(file: &[u8], e: &[u8]) -> bool
     requires { ⌜ Searching (now file) secretKind (now e) ⌝ }
     ensures { λ r. ⌜ ((m : Message) → termOf (now (e .entry)) ≡ asTerm m → Says r (WeaklyClosed (certificateOf (now (file .entry))) m)) ⌝ }
 {
     let tag = e[0];
-    if tag == 2 {
+    if tag == PAIR {
         if is_listed_secret(file, &e[4..]) {
             return true;
         }
         let right = 1 + entry::term_size(&e[4..]);
         return is_listed_secret(file, &e[4 * right..]);
     }
-    if tag == 3 {
+    if tag == ENCRYPTION {
         if is_listed_secret(file, &e[4..]) {
             return true;
         }
         return is_listed_atom(file, entry::value(e));
     }
     true
-}
-
-// Is block i a secret's, and its secret not weakly closed?
-fn unclosed_at(file: &[u8], i: usize) -> bool
-    requires { ⌜ Laid (now file) × (i < blockCount (now file)) ⌝ }
-    ensures { λ r. ⌜ faultIf r (NotClosed i) ≡ onKind secretKind (unclosedSecret (certificateOf (now (file .entry)))) (now (file .entry)) i ⌝ }
-{
-    if is_kind(file, i, kinds::SECRET) {
-        !is_closed(file, term_at(file, i))
-    } else {
-        false
-    }
-}
-
-// Number 10: the first block whose secret is not weakly closed.
-pub fn not_closed(file: &[u8]) -> Found
-    requires { ⌜ Laid (now file) ⌝ }
-    ensures fault { λ r. ⌜ faultFound NotClosed r ≡ closedFault (certificateOf (now (file .entry))) (now (file .entry)) ⌝ }
-    ensures inside { λ r. ⌜ FoundBelow (blockCount (now (file .entry))) r ⌝ }
-{
-    let count = file.len() / limits::BLOCK_SIZE;
-    let mut i = 0;
-    while i < count {
-        if unclosed_at(file, i) {
-            return Found::At(i);
-        }
-        i += 1;
-    }
-    Found::Nothing
 }
 
 // The inverse of a key: the partner field of its entry.
@@ -425,31 +401,67 @@ fn is_kept(file: &[u8], e: &[u8]) -> bool
     is_listed_atom(file, inverse_of(file, entry::value(e)))
 }
 
-// Is block i a good pattern's, and the inverse of its root key no listed secret?
-fn unkept_at(file: &[u8], i: usize) -> bool
-    requires { ⌜ Laid (now file) × (i < blockCount (now file)) ⌝ }
-    ensures { λ r. ⌜ faultIf r (KeyNotKept i) ≡ onKind goodKind (unkeptKey (certificateOf (now (file .entry)))) (now (file .entry)) i ⌝ }
+// The kind of block that a condition asks.
+fn kind_asked(condition: Condition) -> u8
+    ensures { λ r. ⌜ r ≡ kindAsked condition ⌝ }
 {
-    if is_kind(file, i, kinds::GOOD) {
-        !is_kept(file, term_at(file, i))
-    } else {
-        false
+    match condition {
+        Condition::Unknown => kinds::SECRET,
+        Condition::Closed => kinds::SECRET,
+        Condition::Kept => kinds::GOOD,
     }
 }
 
-// Number 11: the first block whose good pattern has a root key whose inverse is not a listed secret.
-pub fn key_not_kept(file: &[u8]) -> Found
+// The fault of a block that does not meet it.
+fn fault_on(condition: Condition, block: u8) -> Fault
+    ensures { λ r. ⌜ r ≡ faultOn condition block ⌝ }
+{
+    match condition {
+        Condition::Unknown => Fault::KnownSecret(block),
+        Condition::Closed => Fault::NotClosed(block),
+        Condition::Kept => Fault::KeyNotKept(block),
+    }
+}
+
+// Does block i, which is of the kind asked, meet the condition?
+fn is_met(file: &[u8], condition: Condition, i: usize) -> bool
+    requires { ⌜ Laid (now file) × (i < blockCount (now file)) × (kindOf (blockAt (now file) i) ≡ kindAsked condition) ⌝ }
+    ensures { λ r. ⌜ Says r (Meets condition (certificateOf (now (file .entry))) (blockAt (now (file .entry)) i)) ⌝ }
+{
+    match condition {
+        Condition::Unknown => !is_known(file, term_at(file, i)),
+        Condition::Closed => is_closed(file, term_at(file, i)),
+        Condition::Kept => is_kept(file, term_at(file, i)),
+    }
+}
+
+// What the condition says of block i.
+fn condition_at(file: &[u8], condition: Condition, i: usize) -> Judged
+    requires { ⌜ Laid (now file) × (i < blockCount (now file)) ⌝ }
+    ensures { λ r. ⌜ r ≡ judgedOf (onKind (kindAsked condition) (conditionAt condition (certificateOf (now (file .entry)))) (now (file .entry)) i) ⌝ }
+{
+    if !is_kind(file, i, kind_asked(condition)) {
+        return Judged::Fine;
+    }
+    if is_met(file, condition, i) {
+        Judged::Fine
+    } else {
+        Judged::Faulty(fault_on(condition, i as u8))
+    }
+}
+
+// Number 9, 10 or 11: the first block that does not meet the condition.
+pub fn condition_fault(file: &[u8], condition: Condition) -> Judged
     requires { ⌜ Laid (now file) ⌝ }
-    ensures fault { λ r. ⌜ faultFound KeyNotKept r ≡ keyFault (certificateOf (now (file .entry))) (now (file .entry)) ⌝ }
-    ensures inside { λ r. ⌜ FoundBelow (blockCount (now (file .entry))) r ⌝ }
+    ensures { λ r. ⌜ r ≡ judgedOf (conditionFault condition (certificateOf (now (file .entry))) (now (file .entry))) ⌝ }
 {
     let count = file.len() / limits::BLOCK_SIZE;
     let mut i = 0;
     while i < count {
-        if unkept_at(file, i) {
-            return Found::At(i);
+        match condition_at(file, condition, i) {
+            Judged::Faulty(f) => return Judged::Faulty(f),
+            Judged::Fine => i += 1,
         }
-        i += 1;
     }
-    Found::Nothing
+    Judged::Fine
 }

@@ -1,4 +1,4 @@
--- Places and entries: entry k of a term's entries stands at its k-th place.
+-- Places and their entries: which entry a place stands at, and what begins there.
 use mathlib.Core.Path.{_≡_, refl, sym, ap, _∙_}
 use mathlib.Core.Bool.{true, false}
 use mathlib.Core.List.{List, [], _∷_, _++_, map, nil≢cons}
@@ -14,15 +14,10 @@ use borrow.Author.Tests.{lt-ltb, le-ltb}
 use borrow.Rule.Slice.PartAt.{part-to-end}
 use Rattle.terms.specs.Term.{Term, variable, atom, pair, encrypted, Variable}
 use Rattle.terms.specs.Place.{Turn, left, right, inside, Place, subtermAt, StrictlyAbove, AtOrAbove, Spot, down, spots}
-use Rattle.terms.specs.Entry.{size, termOf, Reads, Begins, entryAt, from}
+use Rattle.terms.specs.Entry.{size, termOf, Reads, Begins, entryAt, Placed, from}
 use Rattle.terms.specs.Turns.{by-turns}
 use Rattle.terms.proofs.PlaceLaws.{subtermAt-append}
 use Rattle.terms.proofs.EntryLaws.{termOf-reads, reads-pair, reads-encrypted, past, size-positive, begins}
-
--- Entry k of the term stands at this place, and this subterm begins there.
-pub record Placed {X : Type 0} (t : Term X) (k : ℕ) (place : Place) (subterm : Term X) : Type 0 where
-  pub stands : subtermAt place t ≡ some subterm
-  pub number : entryAt place t ≡ k
 
 -- Every place has its entry.
 pub placed : {X : Type 0} (p : Place) (t : Term X) {s : Term X} → subtermAt p t ≡ some s → Placed t (entryAt p t) p s
@@ -85,10 +80,17 @@ place-of-entry {X} p t e =
     (λ p t u s h. (omega arith, place-right t u (entryAt p u) ∙ ap (λ (r : Place). right ∷ r) (h .1)))
     (λ p k t s h. (omega arith, ap (λ (r : Place). inside ∷ r) (h .1))) p t e
 
+-- It is one of the term's entries.
+pub placed-within : {X : Type 0} {t s : Term X} {k : ℕ} {p : Place} → Placed t k p s → k < size t
+placed-within {t = t} {p = p} w = let n = w .number in omega (arith, place-of-entry p t (w .stands) .0)
+
 -- An entry stands at one place only.
 pub one-place : {X : Type 0} {t s u : Term X} {k : ℕ} {p q : Place} → Placed t k p s → Placed t k q u → p ≡ q
 one-place {t = t} {p = p} {q = q} a b =
     let n = a .number in let m = b .number in cc (place-of-entry p t (a .stands) .1, place-of-entry q t (b .stands) .1)
+
+pub one-subterm : {X : Type 0} {t s u : Term X} {k : ℕ} {p q : Place} → Placed t k p s → Placed t k q u → s ≡ u
+one-subterm a b = let same = one-place a b in let x = a .stands in let y = b .stands in cc
 
 -- Every entry stands at a place.
 pub record Spotted {X : Type 0} (t : Term X) (k : ℕ) : Type 0 where

@@ -8,7 +8,7 @@ use lib.Dec.{ltb}
 use lib.ListN.{length, getD, drop, take}
 use Rattle.blocks.specs.Block.{wordAt}
 use Rattle.terms.specs.Term.{Term, variable, atom, pair, encrypted, Variable, named}
-use Rattle.terms.specs.Place.{left, right, inside, Place}
+use Rattle.terms.specs.Place.{left, right, inside, Place, subtermAt}
 use Rattle.terms.specs.Tag.{atomTag, pairTag, encryptionTag, sortTag, variables, Tagged, isAtom, isPair, isEncryption, isVariable, isNone, tagged}
 
 -- What one entry says: an atom, a pair, an encryption under a key, or a variable.
@@ -139,6 +139,11 @@ entryAt (right ∷ p) (encrypted k t) = 0
 entryAt (inside ∷ p) (variable x) = 0
 entryAt (inside ∷ p) (atom a) = 0
 entryAt (inside ∷ p) (pair t u) = 0
+
+-- Entry k of the term stands at this place, and this subterm begins there.
+pub record Placed {X : Type 0} (t : Term X) (k : ℕ) (place : Place) (subterm : Term X) : Type 0 where
+  pub stands : subtermAt place t ≡ some subterm
+  pub number : entryAt place t ≡ k
 
 -- The entries from byte n on, as a part `&e[n..]` has them.
 abbrev pub from : ℕ → List ℕ → List ℕ

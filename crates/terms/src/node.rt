@@ -3,6 +3,7 @@
 use crate::entry::value;
 use crate::tag::MARKED;
 use crate::tag::PLAIN;
+use crate::tag::SLOTS;
 use crate::tag::VARIABLES;
 use blocks::wide;
 ghost use mathlib.Core.Path.{_≡_};
@@ -17,7 +18,7 @@ pub const RIGHT_NODES: usize = 64;
 
 pub const VARIABLE_NODES: usize = 128;
 
-pub const RIGHT_VARIABLES: usize = 144;
+pub const RIGHT_VARIABLES: usize = VARIABLE_NODES + SLOTS;
 
 // How many numbers there are for nodes.
 pub const ALL_NODES: usize = 256;

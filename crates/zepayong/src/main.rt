@@ -1,6 +1,6 @@
 // The check program: reads a certificate from standard input, at most 32,769 bytes, and prints the verdict line. Input
 // that cannot be read to its end gets no verdict: half a file may be a right certificate.
-mod step;
+mod call;
 mod transfer;
 
 ghost use Rattle.zepayong.specs.Transfer.{InputWithin};

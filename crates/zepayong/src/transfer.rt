@@ -1,8 +1,8 @@
 // Reading and writing to the end.
 ghost use lib.ListN.{length};
 ghost use Rattle.zepayong.specs.Transfer.{CallWithin, InputWithin};
-use crate::step::Step;
-use crate::step::said;
+use crate::call::Called;
+use crate::call::said;
 use libc::STDIN_FILENO;
 use libc::STDOUT_FILENO;
 
@@ -14,7 +14,7 @@ pub enum Input {
 }
 
 // One read into the buffer.
-fn read_some(buf: &mut [u8]) -> Step
+fn read_some(buf: &mut [u8]) -> Called
     ensures { λ r. ⌜ CallWithin r (length (now (buf .entry))) ⌝ }
 {
     let got = libc::read(STDIN_FILENO, buf);
@@ -22,7 +22,7 @@ fn read_some(buf: &mut [u8]) -> Step
 }
 
 // One write of the bytes.
-fn write_some(bytes: &[u8]) -> Step
+fn write_some(bytes: &[u8]) -> Called
     ensures { λ r. ⌜ CallWithin r (length (now (bytes .entry))) ⌝ }
 {
     let got = libc::write(STDOUT_FILENO, bytes);
@@ -38,12 +38,12 @@ pub fn read_all(buf: &mut [u8]) -> Input
     let mut done = 0;
     let mut turns = u64::MAX;
     while done < size && turns > 0 {
-        let step = read_some(&mut buf[done..]);
-        match step {
-            Step::Bytes(n) => done += n,
-            Step::Nothing => return Input::Came(done),
-            Step::Interrupted => {}
-            Step::Failed => return Input::Failed,
+        let called = read_some(&mut buf[done..]);
+        match called {
+            Called::Bytes(n) => done += n,
+            Called::Nothing => return Input::Came(done),
+            Called::Interrupted => {}
+            Called::Failed => return Input::Failed,
         }
         turns -= 1;
     }
@@ -59,11 +59,11 @@ pub fn write_all(bytes: &[u8]) -> bool {
     let mut done = 0;
     let mut turns = u64::MAX;
     while done < size && turns > 0 {
-        let step = write_some(&bytes[done..]);
-        match step {
-            Step::Bytes(n) => done += n,
-            Step::Nothing | Step::Failed => return false,
-            Step::Interrupted => {}
+        let called = write_some(&bytes[done..]);
+        match called {
+            Called::Bytes(n) => done += n,
+            Called::Nothing | Called::Failed => return false,
+            Called::Interrupted => {}
         }
         turns -= 1;
     }

@@ -4,7 +4,7 @@ use Prim.Native.Nat.{_-_, _≤_}
 use native.Mathlib.Nat.{zero-add}
 use lib.ListN.{length, take, length-set}
 use Rattle.judge.specs.Line.{pasted}
-use Rattle.judge.proofs.Printing.{pasted-none, pasted-more, put-all}
+use Rattle.judge.proofs.Answering.Printing.{pasted-none, pasted-more, put-all}
 use borrow.Author.Needs.{needs}
 use Rattle.judge_tests.proofs.copy.Statement.{statement}
 use Rattle.judge_tests.proofs.copy.Tie as tie

@@ -1,5 +1,5 @@
 -- `judge::answer::block_or_none` meets its contract. Assumes nothing.
-use Rattle.judge.proofs.Answers.{has, block-there, block-lacking}
+use Rattle.judge.proofs.Answering.Answers.{has, block-there, block-lacking}
 use borrow.Author.Needs.{needs}
 use Rattle.judge.proofs.answer.block_or_none.Statement.{statement}
 use Rattle.judge.proofs.answer.block_or_none.Tie as tie

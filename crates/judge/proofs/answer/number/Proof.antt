@@ -1,5 +1,5 @@
 -- `judge::answer::number` meets its contract. Assumes nothing.
-use Rattle.judge.proofs.Answers.{number-is}
+use Rattle.judge.proofs.Answering.Answers.{number-is}
 use borrow.Author.Needs.{needs}
 use Rattle.judge.proofs.answer.number.Statement.{statement}
 use Rattle.judge.proofs.answer.number.Tie as tie

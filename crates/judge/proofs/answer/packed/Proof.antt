@@ -1,5 +1,5 @@
 -- `judge::answer::packed` meets its contract. Assumes nothing.
-use Rattle.judge.proofs.Answers.{packed-refused}
+use Rattle.judge.proofs.Answering.Answers.{packed-refused}
 use borrow.Author.Needs.{needs}
 use Rattle.judge.proofs.answer.packed.Statement.{statement}
 use Rattle.judge.proofs.answer.packed.Tie as tie

@@ -1,5 +1,5 @@
 -- `judge::answer::raised` meets its contract. Assumes nothing.
-use Rattle.judge.proofs.Answers.{raised-full, raised-one}
+use Rattle.judge.proofs.Answering.Answers.{raised-full, raised-one}
 use borrow.Author.Needs.{needs}
 use Rattle.judge.proofs.answer.raised.Statement.{statement}
 use Rattle.judge.proofs.answer.raised.Tie as tie

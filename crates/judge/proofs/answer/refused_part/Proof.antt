@@ -1,5 +1,5 @@
 -- `judge::answer::refused_part` meets its contract. Assumes nothing.
-use Rattle.judge.proofs.Answers.{part-accepted, part-of-one, part-of-four, part-of-other}
+use Rattle.judge.proofs.Answering.Answers.{part-accepted, part-of-one, part-of-four, part-of-other}
 use borrow.Author.Needs.{needs}
 use Rattle.judge.proofs.answer.refused_part.Statement.{statement}
 use Rattle.judge.proofs.answer.refused_part.Tie as tie

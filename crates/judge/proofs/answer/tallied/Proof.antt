@@ -1,5 +1,5 @@
 -- `judge::answer::tallied` meets its contract. Assumes nothing.
-use Rattle.judge.proofs.Answers.{tallied-accepted, tallied-refused}
+use Rattle.judge.proofs.Answering.Answers.{tallied-accepted, tallied-refused}
 use borrow.Author.Needs.{needs}
 use Rattle.judge.proofs.answer.tallied.Statement.{statement}
 use Rattle.judge.proofs.answer.tallied.Tie as tie

@@ -2,8 +2,8 @@
 use borrow.Author.Needs.{needs}
 use native.Mathlib.Omega.{arith}
 use lib.ListN.{length}
-use Rattle.judge.proofs.Marks.{laid-end, pair-laid, left-pattern, left-begins, left-within, left-laying, right-laying, pair-raised}
-use Rattle.judge.proofs.Marks.{encryption-laid, content-laying, encryption-raised, mark-raised, no-mark}
+use Rattle.judge.proofs.Covering.Marks.{laid-end, pair-laid, left-pattern, left-begins, left-within, left-laying, right-laying, pair-raised}
+use Rattle.judge.proofs.Covering.Marks.{encryption-laid, content-laying, encryption-raised, mark-raised, no-mark}
 use Prim.Native.Nat.{ℕ, _<_}
 use borrow.Fn.Kinds.{In}
 use borrow.Fn.PlainCycle.{Measures, is, falls, and}

@@ -1,12 +1,11 @@
 -- `judge::cover::bare_places` meets its contract: the flags before entry k are put off where its subterm stands at a flagged entry of the premise. Assumes nothing.
 use borrow.Author.Needs.{needs}
 use mathlib.Core.Path.{_≡_}
-use native.Mathlib.Omega.{arith}
-use Prim.Native.Nat.{ℕ, _≤_, _-_, _*_}
+use Prim.Native.Nat.{_≤_, _-_, _*_}
 use lib.ListN.{length}
 use Rattle.judge.specs.CoverEntries.{subAt, SomeFlagged}
-use Rattle.judge.proofs.Flags.{ClearedBelow, below-start, below-more, below-all, loses-both}
-use Rattle.judge.proofs.Covers.{flagged-below}
+use Rattle.judge.proofs.Covering.Flags.{ClearedBelow, below-start, below-more, below-all, loses-both}
+use Rattle.judge.proofs.Covering.Covers.{flagged-below}
 use Rattle.judge.proofs.cover.bare_places.Statement.{statement}
 use Rattle.judge.proofs.cover.bare_places.Tie as tie
 

@@ -1,8 +1,8 @@
 -- `judge::cover::close_below` meets its contract. Assumes nothing.
 use borrow.Author.Needs.{needs}
 use Rattle.terms.proofs.AnswerLaws.{says-no}
-use Rattle.judge.proofs.Hats.{standing-end}
-use Rattle.judge.proofs.Opens.{closed-none, closed-unasked}
+use Rattle.judge.proofs.Covering.Hats.{standing-end}
+use Rattle.judge.proofs.Covering.Opens.{closed-none, closed-unasked}
 use Rattle.judge.proofs.cover.close_below.Statement.{statement}
 use Rattle.judge.proofs.cover.close_below.Tie as tie
 

@@ -5,8 +5,8 @@ use Rattle.terms.specs.Entry.{termOf, size}
 use Rattle.judge.specs.Cover.{NoHat}
 use Rattle.judge.specs.File.{certificateOf}
 use Rattle.judge.specs.CoverEntries.{OpenAmong, Remembered}
-use Rattle.judge.proofs.Opens.{open-none, open-more, open-all}
-use Rattle.judge.proofs.Covers.{standing-concluded}
+use Rattle.judge.proofs.Covering.Opens.{open-none, open-more, open-all}
+use Rattle.judge.proofs.Covering.Covers.{standing-concluded}
 use Rattle.judge.proofs.cover.close_places.Statement.{statement}
 use Rattle.judge.proofs.cover.close_places.Tie as tie
 

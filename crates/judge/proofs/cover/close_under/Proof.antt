@@ -2,8 +2,8 @@
 use borrow.Author.Needs.{needs}
 use borrow.Author.Tests.{not-true, not-false}
 use Rattle.terms.proofs.AnswerLaws.{says-yes, says-no}
-use Rattle.judge.proofs.Hats.{standing-end}
-use Rattle.judge.proofs.Opens.{closed-none, closed-below}
+use Rattle.judge.proofs.Covering.Hats.{standing-end}
+use Rattle.judge.proofs.Covering.Opens.{closed-none, closed-below}
 use Rattle.judge.proofs.cover.close_under.Statement.{statement}
 use Rattle.judge.proofs.cover.close_under.Tie as tie
 

@@ -1,10 +1,9 @@
 -- `judge::cover::index_of` meets its contract: the flagged entries before entry k are noted. Assumes nothing.
 use borrow.Author.Needs.{needs}
-use native.Mathlib.Omega.{arith}
 use Prim.Native.Nat.{_≤_, _-_, _*_}
 use lib.ListN.{length}
 use Rattle.judge.specs.CoverEntries.{IndexedBelow}
-use Rattle.judge.proofs.Indexes.{index-none, index-all}
+use Rattle.judge.proofs.Covering.Indexes.{index-none, index-all}
 use Rattle.judge.proofs.cover.index_of.Statement.{statement}
 use Rattle.judge.proofs.cover.index_of.Tie as tie
 

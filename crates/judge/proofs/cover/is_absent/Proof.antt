@@ -3,7 +3,7 @@ use borrow.Author.Needs.{needs}
 use mathlib.Core.Path.{ap, _∙_}
 use Prim.Native.Nat.{ℕ}
 use lib.ListN.{getD}
-use Rattle.judge.proofs.Indexes.{both-zero}
+use Rattle.judge.proofs.Covering.Indexes.{both-zero}
 use Rattle.judge.proofs.cover.is_absent.Statement.{statement}
 use Rattle.judge.proofs.cover.is_absent.Tie as tie
 

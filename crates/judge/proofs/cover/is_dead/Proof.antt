@@ -8,7 +8,7 @@ use Rattle.terms.proofs.AnswerLaws.{says-yes, says-no}
 use Rattle.judge.specs.File.{certificateOf}
 use Rattle.judge.specs.Listed.{IsSecret}
 use Rattle.judge.specs.CoverEntries.{FlaggedWith}
-use Rattle.judge.proofs.Covers.{flagged-found, none-flagged}
+use Rattle.judge.proofs.Covering.Covers.{flagged-found, none-flagged}
 use Rattle.judge.proofs.cover.is_dead.Statement.{statement}
 use Rattle.judge.proofs.cover.is_dead.Tie as tie
 

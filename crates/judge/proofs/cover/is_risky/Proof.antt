@@ -1,9 +1,9 @@
 -- `judge::cover::is_risky` meets its contract. Assumes nothing.
 use mathlib.Core.Bool.{false}
 use Rattle.judge.specs.Listed.{shares-listed?}
-use Rattle.judge.proofs.ListedLaws.{answer-says}
-use Rattle.judge.proofs.Covers.{risky-variable, risky-secret}
-use Rattle.judge.proofs.Roots.{no-root-shares}
+use Rattle.judge.proofs.Stages.ListedLaws.{answer-says}
+use Rattle.judge.proofs.Covering.Covers.{risky-variable, risky-secret}
+use Rattle.judge.proofs.Stages.Roots.{no-root-shares}
 use borrow.Author.Needs.{needs}
 use Rattle.judge.proofs.cover.is_risky.Statement.{statement}
 use Rattle.judge.proofs.cover.is_risky.Tie as tie

@@ -1,13 +1,12 @@
 -- `judge::cover::is_wanted` meets its contract. Assumes nothing.
 use borrow.Author.Needs.{needs}
-use native.Mathlib.Omega.{arith}
-use mathlib.Core.Path.{sym, refl}
+use mathlib.Core.Path.{refl}
 use Rattle.blocks.proofs.KindLaws.{secret-lists}
 use Rattle.terms.proofs.AnswerLaws.{says-yes, says-no}
 use Rattle.judge.specs.CoverEntries.{isSecret}
-use Rattle.judge.proofs.Hats.{searching-at}
-use Rattle.judge.proofs.Covers.{standing-entries, wanted-risky, wanted-none}
-use Rattle.judge.proofs.Indexes.{index-absent, no-slot-secret}
+use Rattle.judge.proofs.Covering.Hats.{searching-at}
+use Rattle.judge.proofs.Covering.Covers.{standing-entries, wanted-risky, wanted-none}
+use Rattle.judge.proofs.Covering.Indexes.{index-absent, no-slot-secret}
 use Rattle.judge.proofs.cover.is_wanted.Statement.{statement}
 use Rattle.judge.proofs.cover.is_wanted.Tie as tie
 

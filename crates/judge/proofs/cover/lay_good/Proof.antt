@@ -1,9 +1,9 @@
 -- `judge::cover::lay_good` meets its contract. Assumes nothing.
 use borrow.Author.Needs.{needs}
 use mathlib.Core.Path.{sym, _∙_}
-use Rattle.terms.specs.Decide.{variable?, match?}
 use Rattle.terms.proofs.AnswerLaws.{yes-of, no-of}
-use Rattle.judge.proofs.Hats.{good-block, good-part, good-laying, good-raised, no-match-raised, other-raised}
+use Rattle.terms.specs.Decide.{variable?, match?}
+use Rattle.judge.proofs.Covering.Hats.{good-block, good-part, good-laying, good-raised, no-match-raised, other-raised}
 use Rattle.judge.proofs.cover.lay_good.Statement.{statement}
 use Rattle.judge.proofs.cover.lay_good.Tie as tie
 

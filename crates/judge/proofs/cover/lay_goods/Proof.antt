@@ -3,7 +3,7 @@ use borrow.Author.Needs.{needs}
 use Prim.Native.Nat.{_≤_, _-_}
 use Rattle.judge.specs.File.{blockCount}
 use Rattle.judge.specs.CoverEntries.{subAt, Raised}
-use Rattle.judge.proofs.Hats.{LaidBelow, laid-none, laid-more, laid-all}
+use Rattle.judge.proofs.Covering.Hats.{LaidBelow, laid-none, laid-more, laid-all}
 use Rattle.judge.proofs.cover.lay_goods.Statement.{statement}
 use Rattle.judge.proofs.cover.lay_goods.Tie as tie
 

@@ -1,6 +1,6 @@
 -- `judge::cover::marked_places` meets its contract. Assumes nothing.
 use borrow.Author.Needs.{needs}
-use Rattle.judge.proofs.Hats.{marked-flags}
+use Rattle.judge.proofs.Covering.Hats.{marked-flags}
 use Rattle.judge.proofs.cover.marked_places.Statement.{statement}
 use Rattle.judge.proofs.cover.marked_places.Tie as tie
 

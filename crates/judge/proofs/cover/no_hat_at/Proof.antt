@@ -3,8 +3,8 @@ use mathlib.Core.Path.{refl}
 use borrow.Author.Needs.{needs}
 use Rattle.blocks.proofs.KindLaws.{good-lists}
 use Rattle.terms.proofs.SizeLaws.{sizes-part}
-use Rattle.judge.proofs.Hats.{searching-at}
-use Rattle.judge.proofs.Repeats.{remembered-more}
+use Rattle.judge.proofs.Covering.Hats.{searching-at}
+use Rattle.judge.proofs.Covering.Repeats.{remembered-more}
 use Rattle.judge.proofs.cover.no_hat_at.Statement.{statement}
 use Rattle.judge.proofs.cover.no_hat_at.Tie as tie
 

@@ -1,8 +1,7 @@
 -- `judge::cover::note` meets its contract. Assumes nothing.
 use borrow.Author.Needs.{needs}
-use native.Mathlib.Omega.{arith}
-use Rattle.judge.proofs.Covers.{flagged-begins}
-use Rattle.judge.proofs.Indexes.{index-skip, index-more}
+use Rattle.judge.proofs.Covering.Covers.{flagged-begins}
+use Rattle.judge.proofs.Covering.Indexes.{index-skip, index-more}
 use Rattle.judge.proofs.cover.note.Statement.{statement}
 use Rattle.judge.proofs.cover.note.Tie as tie
 

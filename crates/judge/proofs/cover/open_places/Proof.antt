@@ -1,7 +1,7 @@
 -- `judge::cover::open_places` meets its contract. Assumes nothing.
 use borrow.Author.Needs.{needs}
 use Rattle.terms.proofs.AnswerLaws.{says-yes, says-no}
-use Rattle.judge.proofs.Opens.{flagged-term, open-asked, open-unasked}
+use Rattle.judge.proofs.Covering.Opens.{flagged-term, open-asked, open-unasked}
 use Rattle.judge.proofs.cover.open_places.Statement.{statement}
 use Rattle.judge.proofs.cover.open_places.Tie as tie
 

@@ -1,16 +1,15 @@
 -- `judge::cover::risky_places` meets its contract: the flags before entry k are on where it is risky. Assumes nothing.
 use mathlib.Core.Path.{refl}
 use borrow.Author.Needs.{needs}
-use native.Mathlib.Omega.{arith}
 use Prim.Native.Nat.{_≤_, _-_}
 use Rattle.blocks.proofs.KindLaws.{secret-lists}
 use Rattle.terms.specs.Entry.{termOf, size}
 use Rattle.judge.specs.Cover.{Risky}
 use Rattle.judge.specs.File.{certificateOf}
 use Rattle.judge.specs.CoverEntries.{subAt}
-use Rattle.judge.proofs.Flags.{RaisedBelow, raised-start, raised-more}
-use Rattle.judge.proofs.Hats.{searching-at}
-use Rattle.judge.proofs.Covers.{standing-concluded, risky-flags}
+use Rattle.judge.proofs.Covering.Flags.{RaisedBelow, raised-start, raised-more}
+use Rattle.judge.proofs.Covering.Hats.{searching-at}
+use Rattle.judge.proofs.Covering.Covers.{standing-concluded, risky-flags}
 use Rattle.judge.proofs.cover.risky_places.Statement.{statement}
 use Rattle.judge.proofs.cover.risky_places.Tie as tie
 

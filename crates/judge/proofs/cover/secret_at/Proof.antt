@@ -1,8 +1,8 @@
 -- `judge::cover::secret_at` meets its contract. Assumes nothing.
 use mathlib.Core.Path.{refl}
 use Rattle.blocks.proofs.KindLaws.{secret-lists}
-use Rattle.judge.proofs.Hats.{searching-at}
-use Rattle.judge.proofs.Covers.{standing-flagged, flagged-holds}
+use Rattle.judge.proofs.Covering.Hats.{searching-at}
+use Rattle.judge.proofs.Covering.Covers.{standing-flagged, flagged-holds}
 use borrow.Author.Needs.{needs}
 use Rattle.judge.proofs.cover.secret_at.Statement.{statement}
 use Rattle.judge.proofs.cover.secret_at.Tie as tie

@@ -3,10 +3,10 @@ use mathlib.Core.Path.{refl}
 use borrow.Author.Needs.{needs}
 use Rattle.blocks.proofs.KindLaws.{bad-lists}
 use Rattle.terms.proofs.SizeLaws.{sizes-part}
-use Rattle.judge.proofs.Hats.{searching-at}
-use Rattle.judge.proofs.Repeats.{remembered-more}
+use Rattle.judge.proofs.Covering.Hats.{searching-at}
+use Rattle.judge.proofs.Covering.Repeats.{remembered-more}
 use Rattle.judge.specs.Listed.{shares-listed?}
-use Rattle.judge.proofs.ListedLaws.{answer-says}
+use Rattle.judge.proofs.Stages.ListedLaws.{answer-says}
 use Rattle.judge.proofs.cover.shares_bad.Statement.{statement}
 use Rattle.judge.proofs.cover.shares_bad.Tie as tie
 

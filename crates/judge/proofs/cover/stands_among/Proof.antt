@@ -8,7 +8,7 @@ use Rattle.terms.proofs.AnswerLaws.{says-yes, says-no}
 use mathlib.Core.Path.{_≡_}
 use Rattle.terms.specs.Entry.{termOf}
 use Rattle.judge.specs.CoverEntries.{FlaggedWith}
-use Rattle.judge.proofs.Covers.{flagged-found, none-flagged}
+use Rattle.judge.proofs.Covering.Covers.{flagged-found, none-flagged}
 use Rattle.judge.proofs.cover.stands_among.Statement.{statement}
 use Rattle.judge.proofs.cover.stands_among.Tie as tie
 

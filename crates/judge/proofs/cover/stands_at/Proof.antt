@@ -1,14 +1,13 @@
 -- `judge::cover::stands_at` meets its contract. Assumes nothing.
 use borrow.Author.Needs.{needs}
 use mathlib.Core.Path.{_≡_, ap, sym, _∙_}
-use native.Mathlib.Omega.{arith}
 use Prim.Native.Nat.{ℕ}
 use lib.ListN.{getD}
 use Rattle.terms.specs.Decide.{variable?, term?}
 use Rattle.terms.proofs.AnswerLaws.{yes-of}
 use Rattle.judge.specs.Listed.{slotAt}
-use Rattle.judge.proofs.Covers.{flagged-begins, flagged-found}
-use Rattle.judge.proofs.Indexes.{index-absent, index-points}
+use Rattle.judge.proofs.Covering.Covers.{flagged-begins, flagged-found}
+use Rattle.judge.proofs.Covering.Indexes.{index-absent, index-points}
 use Rattle.judge.proofs.cover.stands_at.Statement.{statement}
 use Rattle.judge.proofs.cover.stands_at.Tie as tie
 

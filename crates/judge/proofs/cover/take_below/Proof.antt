@@ -1,7 +1,7 @@
 -- `judge::cover::take_below` meets its contract. Assumes nothing.
 use borrow.Author.Needs.{needs}
 use Rattle.terms.proofs.AnswerLaws.{says-no}
-use Rattle.judge.proofs.Hats.{standing-end, no-encryption, none-below}
+use Rattle.judge.proofs.Covering.Hats.{standing-end, no-encryption, none-below}
 use Rattle.judge.proofs.cover.take_below.Statement.{statement}
 use Rattle.judge.proofs.cover.take_below.Tie as tie
 

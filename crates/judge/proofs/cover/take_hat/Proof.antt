@@ -2,7 +2,7 @@
 use borrow.Author.Needs.{needs}
 use borrow.Author.Tests.{not-true, not-false}
 use Rattle.terms.proofs.AnswerLaws.{says-yes, says-no}
-use Rattle.judge.proofs.Hats.{hat-taken, hat-shares}
+use Rattle.judge.proofs.Covering.Hats.{hat-taken, hat-shares}
 use Rattle.judge.proofs.cover.take_hat.Statement.{statement}
 use Rattle.judge.proofs.cover.take_hat.Tie as tie
 

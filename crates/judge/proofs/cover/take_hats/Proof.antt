@@ -5,8 +5,8 @@ use Rattle.terms.specs.Entry.{termOf, size}
 use Rattle.judge.specs.File.{certificateOf}
 use Rattle.judge.specs.Listed.{SharesBad}
 use Rattle.judge.specs.CoverEntries.{Cleared, HatBelow, Remembered}
-use Rattle.judge.proofs.Hats.{hats-none, hats-more, hats-all}
-use Rattle.judge.proofs.Covers.{standing-concluded}
+use Rattle.judge.proofs.Covering.Hats.{hats-none, hats-more, hats-all}
+use Rattle.judge.proofs.Covering.Covers.{standing-concluded}
 use Rattle.judge.proofs.cover.take_hats.Statement.{statement}
 use Rattle.judge.proofs.cover.take_hats.Tie as tie
 

@@ -1,12 +1,11 @@
 -- `judge::cover::uncovered` meets its contract. Assumes nothing.
 use borrow.Author.Needs.{needs}
 use mathlib.Core.Path.{sym}
-use native.Mathlib.Omega.{arith}
 use Rattle.terms.proofs.AnswerLaws.{says-yes, says-no}
 use Rattle.judge.specs.File.{ruleOf}
-use Rattle.judge.proofs.Opens.{opened-within}
-use Rattle.judge.proofs.Repeats.{remembered-of}
-use Rattle.judge.proofs.Covers.{premise-is, conclusion-is, conclusion-concluded, risky-flagged, wanted-flagged, dead-rule, uncovered-rule}
+use Rattle.judge.proofs.Covering.Opens.{opened-within}
+use Rattle.judge.proofs.Covering.Repeats.{remembered-of}
+use Rattle.judge.proofs.Covering.Covers.{premise-is, conclusion-is, conclusion-concluded, risky-flagged, wanted-flagged, dead-rule, uncovered-rule}
 use Rattle.judge.proofs.cover.uncovered.Statement.{statement}
 use Rattle.judge.proofs.cover.uncovered.Tie as tie
 

@@ -1,12 +1,11 @@
 -- `judge::cover::wanted_places` meets its contract: the flags before entry k are on where it is wanted. Assumes nothing.
 use borrow.Author.Needs.{needs}
-use native.Mathlib.Omega.{arith}
 use Prim.Native.Nat.{_≤_, _-_, _/_}
 use lib.ListN.{length}
 use Rattle.judge.specs.File.{certificateOf}
 use Rattle.judge.specs.CoverEntries.{Wanted}
-use Rattle.judge.proofs.Flags.{RaisedBelow, raised-start, raised-more}
-use Rattle.judge.proofs.Covers.{wanted-flags}
+use Rattle.judge.proofs.Covering.Flags.{RaisedBelow, raised-start, raised-more}
+use Rattle.judge.proofs.Covering.Covers.{wanted-flags}
 use Rattle.judge.proofs.cover.wanted_places.Statement.{statement}
 use Rattle.judge.proofs.cover.wanted_places.Tie as tie
 

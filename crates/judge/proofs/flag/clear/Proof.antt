@@ -3,7 +3,7 @@ use borrow.Author.Needs.{needs}
 use native.Mathlib.Omega.{arith}
 use Prim.Native.Nat.{_≤_, _-_}
 use Rattle.judge.specs.CoverEntries.{On}
-use Rattle.judge.proofs.Flags.{ClearedBelow, below-start, below-clear, below-all, on-small}
+use Rattle.judge.proofs.Covering.Flags.{ClearedBelow, below-start, below-clear, below-all, on-small}
 use Rattle.judge.proofs.flag.clear.Statement.{statement}
 use Rattle.judge.proofs.flag.clear.Tie as tie
 

@@ -1,6 +1,5 @@
 -- `judge::flag::flag_of` meets its contract. Assumes nothing.
-use borrow.Author.Needs.{needs}
-use mathlib.Core.Path.{_≡_, refl, sym, ap}
+use mathlib.Core.Path.{refl}
 use Rattle.judge.specs.CoverEntries.{flagOf}
 use Rattle.judge.proofs.flag.flag_of.Statement.{statement}
 use Rattle.judge.proofs.flag.flag_of.Tie as tie

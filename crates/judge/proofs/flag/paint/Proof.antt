@@ -2,7 +2,7 @@
 use borrow.Author.Needs.{needs}
 use Prim.Native.Nat.{_≤_, _-_}
 use Rattle.judge.specs.CoverEntries.{Painted}
-use Rattle.judge.proofs.Flags.{painted-none, painted-more, painted-all}
+use Rattle.judge.proofs.Covering.Flags.{painted-none, painted-more, painted-all}
 use Rattle.judge.proofs.flag.paint.Statement.{statement}
 use Rattle.judge.proofs.flag.paint.Tie as tie
 

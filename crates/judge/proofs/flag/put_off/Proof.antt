@@ -1,5 +1,4 @@
 -- `judge::flag::put_off` meets its contract. Assumes nothing.
-use borrow.Author.Needs.{needs}
 use mathlib.Core.Path.{refl}
 use Rattle.judge.specs.CoverEntries.{putOff}
 use Rattle.judge.proofs.flag.put_off.Statement.{statement}

@@ -1,8 +1,7 @@
 -- `judge::flag::renew` meets its contract. Assumes nothing.
 use borrow.Author.Needs.{needs}
-use mathlib.Core.Path.{refl}
 use borrow.Author.Tests.{not-true, not-false}
-use Rattle.judge.proofs.Repeats.{forgotten, renewed-gone, renewed-kept}
+use Rattle.judge.proofs.Covering.Repeats.{forgotten, renewed-gone, renewed-kept}
 use Rattle.judge.proofs.flag.renew.Statement.{statement}
 use Rattle.judge.proofs.flag.renew.Tie as tie
 

@@ -1,9 +1,9 @@
 -- `judge::flag::some_on` meets its contract: no flag before flag k is on. Assumes nothing.
 use borrow.Author.Needs.{needs}
 use Prim.Native.Nat.{ℕ, _≤_, _<_, _-_}
-use borrow.Author.Count.{below-none, below-more}
+use borrow.Author.Count.{below-more}
 use Rattle.judge.specs.CoverEntries.{On}
-use Rattle.judge.proofs.Flags.{none-on}
+use Rattle.judge.proofs.Covering.Flags.{none-on}
 use Rattle.judge.proofs.flag.some_on.Statement.{statement}
 use Rattle.judge.proofs.flag.some_on.Tie as tie
 

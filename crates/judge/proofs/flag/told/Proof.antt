@@ -1,5 +1,4 @@
 -- `judge::flag::told` meets its contract. Assumes nothing.
-use borrow.Author.Needs.{needs}
 use mathlib.Core.Path.{refl}
 use Rattle.judge.specs.CoverEntries.{toldOf}
 use Rattle.judge.proofs.flag.told.Statement.{statement}

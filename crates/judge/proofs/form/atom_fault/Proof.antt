@@ -1,5 +1,5 @@
 -- `judge::form::atom_fault` meets its contract. Assumes nothing.
-use Rattle.judge.proofs.FormLaws.{atom-small, atom-found, atom-fine}
+use Rattle.judge.proofs.Stages.FormLaws.{atom-small, atom-found, atom-fine}
 use borrow.Author.Needs.{needs}
 use Rattle.judge.proofs.form.atom_fault.Statement.{statement}
 use Rattle.judge.proofs.form.atom_fault.Tie as tie

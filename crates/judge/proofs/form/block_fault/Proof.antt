@@ -2,7 +2,7 @@
 use mathlib.Core.Path.{ap, _∙_}
 use Rattle.blocks.specs.Block.{firstEntries}
 use borrow.Author.Tests.{not-true, not-false}
-use Rattle.judge.proofs.FormLaws.{fits-right, atoms-fit, block-check, block-kind, block-layout, block-entries}
+use Rattle.judge.proofs.Stages.FormLaws.{fits-right, atoms-fit, block-check, block-kind, block-layout, block-entries}
 use borrow.Author.Needs.{needs}
 use Rattle.judge.proofs.form.block_fault.Statement.{statement}
 use Rattle.judge.proofs.form.block_fault.Tie as tie

@@ -1,5 +1,5 @@
 -- `judge::form::conclusion_fault` meets its contract. Assumes nothing.
-use Rattle.judge.proofs.FormLaws.{conclusion-fine, conclusion-broken}
+use Rattle.judge.proofs.Stages.FormLaws.{conclusion-fine, conclusion-broken}
 use borrow.Author.Needs.{needs}
 use Rattle.judge.proofs.form.conclusion_fault.Statement.{statement}
 use Rattle.judge.proofs.form.conclusion_fault.Tie as tie

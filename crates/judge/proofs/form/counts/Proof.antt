@@ -1,6 +1,6 @@
 -- `judge::form::counts` meets its contract. Assumes nothing.
-use Rattle.judge.proofs.LaidLaws.{long}
-use Rattle.judge.proofs.FormLaws.{counts-are}
+use Rattle.judge.proofs.Files.LaidLaws.{long}
+use Rattle.judge.proofs.Stages.FormLaws.{counts-are}
 use borrow.Author.Needs.{needs}
 use Rattle.judge.proofs.form.counts.Statement.{statement}
 use Rattle.judge.proofs.form.counts.Tie as tie

@@ -1,5 +1,5 @@
 -- `judge::form::entries_fault` meets its contract. Assumes nothing.
-use Rattle.judge.proofs.FormLaws.{fine-none, spelled, entries-atoms, entries-wrong, entries-right}
+use Rattle.judge.proofs.Stages.FormLaws.{fine-none, spelled, entries-atoms, entries-wrong, entries-right}
 use borrow.Author.Needs.{needs}
 use Rattle.judge.proofs.form.entries_fault.Statement.{statement}
 use Rattle.judge.proofs.form.entries_fault.Tie as tie

@@ -3,7 +3,7 @@ use mathlib.Core.Path.{_≡_}
 use Prim.Native.Nat.{_+_, _*_, _-_}
 use lib.ListN.{take, drop}
 use Rattle.judge.specs.File.{usedEntries}
-use Rattle.judge.proofs.FormLaws.{used-part, entry-small, entry-found, entry-fine}
+use Rattle.judge.proofs.Stages.FormLaws.{used-part, entry-small, entry-found, entry-fine}
 use borrow.Author.Needs.{needs}
 use Rattle.judge.proofs.form.entry_fault.Statement.{statement}
 use Rattle.judge.proofs.form.entry_fault.Tie as tie

@@ -5,8 +5,8 @@ use native.Mathlib.Omega.{arith}
 use Rattle.blocks.specs.Block.{blockAt, Fitting}
 use Rattle.judge.specs.File.{blockCount}
 use Rattle.judge.specs.Verdict.{blockFault, firstFault, formFault}
-use Rattle.judge.proofs.LaidLaws.{long, block-fits}
-use Rattle.judge.proofs.FormLaws.{fine-none, faulty-some, judged-none, judged-some, atoms-fit, layout-start, first-stop, first-more, first-end}
+use Rattle.judge.proofs.Files.LaidLaws.{long, block-fits}
+use Rattle.judge.proofs.Stages.FormLaws.{fine-none, faulty-some, judged-none, judged-some, atoms-fit, layout-start, first-stop, first-more, first-end}
 use borrow.Author.Needs.{needs}
 use Rattle.judge.proofs.form.form_fault.Statement.{statement}
 use Rattle.judge.proofs.form.form_fault.Tie as tie

@@ -2,7 +2,7 @@
 use mathlib.Core.Path.{ap, _∙_}
 use native.Mathlib.Omega.{arith}
 use Rattle.blocks.specs.Block.{kindOf}
-use Rattle.judge.proofs.FormLaws.{kind-first, kind-low, kind-high, kind-after}
+use Rattle.judge.proofs.Stages.FormLaws.{kind-first, kind-low, kind-high, kind-after}
 use borrow.Author.Needs.{needs}
 use Rattle.judge.proofs.form.kind_right.Statement.{statement}
 use Rattle.judge.proofs.form.kind_right.Tie as tie

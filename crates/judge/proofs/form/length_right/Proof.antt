@@ -1,5 +1,5 @@
 -- `judge::form::length_right` meets its contract. Assumes nothing.
-use Rattle.judge.proofs.FormLaws.{length-none, length-broken, length-whole}
+use Rattle.judge.proofs.Stages.FormLaws.{length-none, length-broken, length-whole}
 use Rattle.judge.proofs.form.length_right.Statement.{statement}
 use Rattle.judge.proofs.form.length_right.Tie as tie
 

@@ -1,6 +1,6 @@
 -- `judge::form::missing_fault` meets its contract. Assumes nothing.
-use Rattle.judge.proofs.LaidLaws.{long}
-use Rattle.judge.proofs.FormLaws.{missing-secret, missing-rule, missing-none}
+use Rattle.judge.proofs.Files.LaidLaws.{long}
+use Rattle.judge.proofs.Stages.FormLaws.{missing-secret, missing-rule, missing-none}
 use borrow.Author.Needs.{needs}
 use Rattle.judge.proofs.form.missing_fault.Statement.{statement}
 use Rattle.judge.proofs.form.missing_fault.Tie as tie

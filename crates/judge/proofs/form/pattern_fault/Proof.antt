@@ -1,6 +1,6 @@
 -- `judge::form::pattern_fault` meets its contract. Assumes nothing.
 use borrow.Author.Tests.{not-true, not-false}
-use Rattle.judge.proofs.FormLaws.{begins-one, pattern-broken, pattern-fine, pattern-root}
+use Rattle.judge.proofs.Stages.FormLaws.{begins-one, pattern-broken, pattern-fine, pattern-root}
 use borrow.Author.Needs.{needs}
 use Rattle.judge.proofs.form.pattern_fault.Statement.{statement}
 use Rattle.judge.proofs.form.pattern_fault.Tie as tie

@@ -1,5 +1,5 @@
 -- `judge::form::root_right` meets its contract. Assumes nothing.
-use Rattle.judge.proofs.FormLaws.{root-low, root-high, root-pattern}
+use Rattle.judge.proofs.Stages.FormLaws.{root-low, root-high, root-pattern}
 use borrow.Author.Needs.{needs}
 use Rattle.judge.proofs.form.root_right.Statement.{statement}
 use Rattle.judge.proofs.form.root_right.Tie as tie

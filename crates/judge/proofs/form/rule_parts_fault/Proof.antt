@@ -1,5 +1,5 @@
 -- `judge::form::rule_parts_fault` meets its contract. Assumes nothing.
-use Rattle.judge.proofs.FormLaws.{rule-bare, rule-premise, rule-broken}
+use Rattle.judge.proofs.Stages.FormLaws.{rule-bare, rule-premise, rule-broken}
 use borrow.Author.Needs.{needs}
 use Rattle.judge.proofs.form.rule_parts_fault.Statement.{statement}
 use Rattle.judge.proofs.form.rule_parts_fault.Tie as tie

@@ -1,5 +1,5 @@
 -- `judge::form::term_fault` meets its contract. Assumes nothing.
-use Rattle.judge.proofs.FormLaws.{term-rule, term-pattern}
+use Rattle.judge.proofs.Stages.FormLaws.{term-rule, term-pattern}
 use borrow.Author.Needs.{needs}
 use Rattle.judge.proofs.form.term_fault.Statement.{statement}
 use Rattle.judge.proofs.form.term_fault.Tie as tie

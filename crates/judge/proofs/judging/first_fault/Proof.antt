@@ -2,9 +2,9 @@
 use mathlib.Core.Path.{sym, ap, _∙_}
 use borrow.Author.Tests.{not-true, not-false}
 use Rattle.judge.specs.Judgement.{judgedOf}
-use Rattle.judge.proofs.LaidLaws.{layout-laid}
-use Rattle.judge.proofs.FormLaws.{fine-none, faulty-some, judged-some}
-use Rattle.judge.proofs.JudgingLaws.{fault-length, fault-layout, fault-missing, fault-certificate}
+use Rattle.judge.proofs.Files.LaidLaws.{layout-laid}
+use Rattle.judge.proofs.Stages.FormLaws.{fine-none, faulty-some, judged-some}
+use Rattle.judge.proofs.Stages.JudgingLaws.{fault-length, fault-layout, fault-missing, fault-certificate}
 use borrow.Author.Needs.{needs}
 use Rattle.judge.proofs.judging.first_fault.Statement.{statement}
 use Rattle.judge.proofs.judging.first_fault.Tie as tie

@@ -1,7 +1,7 @@
 -- `judge::judging::is_after_rule` meets its contract. Assumes nothing.
 use native.Mathlib.Omega.{arith}
 use borrow.Author.Needs.{needs}
-use Rattle.judge.proofs.Repeats.{rule-before}
+use Rattle.judge.proofs.Covering.Repeats.{rule-before}
 use Rattle.judge.proofs.judging.is_after_rule.Statement.{statement}
 use Rattle.judge.proofs.judging.is_after_rule.Tie as tie
 

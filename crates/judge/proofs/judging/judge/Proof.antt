@@ -1,6 +1,6 @@
 -- `judge::judging::judge` meets its contract. Assumes nothing.
-use Rattle.judge.proofs.FormLaws.{fine-none, faulty-some}
-use Rattle.judge.proofs.JudgingLaws.{fault-none, verdict-refused, verdict-accepted}
+use Rattle.judge.proofs.Stages.FormLaws.{fine-none, faulty-some}
+use Rattle.judge.proofs.Stages.JudgingLaws.{fault-none, verdict-refused, verdict-accepted}
 use borrow.Author.Needs.{needs}
 use Rattle.judge.proofs.judging.judge.Statement.{statement}
 use Rattle.judge.proofs.judging.judge.Tie as tie

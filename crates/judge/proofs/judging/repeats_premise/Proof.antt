@@ -1,9 +1,8 @@
 -- `judge::judging::repeats_premise` meets its contract. Assumes nothing.
 use borrow.Author.Needs.{needs}
-use native.Mathlib.Omega.{arith}
 use Rattle.blocks.specs.Block.{firstEntries}
 use Rattle.terms.proofs.AnswerLaws.{says-yes, says-no}
-use Rattle.judge.proofs.Repeats.{fitting-before, fitting-here, repeats-told}
+use Rattle.judge.proofs.Covering.Repeats.{fitting-before, fitting-here, repeats-told}
 use Rattle.judge.proofs.judging.repeats_premise.Statement.{statement}
 use Rattle.judge.proofs.judging.repeats_premise.Tie as tie
 

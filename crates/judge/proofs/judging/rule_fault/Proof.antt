@@ -9,10 +9,10 @@ use Rattle.judge.specs.Listed.{SharesBad}
 use Rattle.judge.specs.CoverEntries.{Carried}
 use Rattle.judge.specs.File.{blockCount, certificateOf}
 use Rattle.judge.specs.Verdict.{firstFault, onKind, uncoveredRule, ruleFault}
-use Rattle.judge.proofs.Heads.{heads}
-use Rattle.judge.proofs.FormLaws.{fine-none, faulty-some, judged-none, judged-some, first-stop, first-more, first-end}
-use Rattle.judge.proofs.JudgingLaws.{rule-start}
-use Rattle.judge.proofs.Repeats.{nothing-before}
+use Rattle.judge.proofs.Stages.Heads.{heads}
+use Rattle.judge.proofs.Stages.FormLaws.{fine-none, faulty-some, judged-none, judged-some, first-stop, first-more, first-end}
+use Rattle.judge.proofs.Stages.JudgingLaws.{rule-start}
+use Rattle.judge.proofs.Covering.Repeats.{nothing-before}
 use Rattle.judge.proofs.judging.rule_fault.Statement.{statement}
 use Rattle.judge.proofs.judging.rule_fault.Tie as tie
 

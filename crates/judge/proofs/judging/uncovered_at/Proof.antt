@@ -1,11 +1,10 @@
 -- `judge::judging::uncovered_at` meets its contract. Assumes nothing.
 use borrow.Author.Needs.{needs}
-use mathlib.Core.Path.{_≡_, sym, ap, _∙_}
-use Prim.Native.Nat.{_+_, _<_}
+use mathlib.Core.Path.{sym, ap, _∙_}
 use native.Mathlib.Omega.{arith}
 use Rattle.blocks.specs.Block.{kindOf}
-use Rattle.judge.proofs.JudgingLaws.{place-small, rule-at, open-other, open-found, open-fine}
-use Rattle.judge.proofs.Repeats.{other-next, other-kind, uncovered-of}
+use Rattle.judge.proofs.Stages.JudgingLaws.{place-small, rule-at, open-other, open-found, open-fine}
+use Rattle.judge.proofs.Covering.Repeats.{other-next, other-kind, uncovered-of}
 use Rattle.judge.proofs.judging.uncovered_at.Statement.{statement}
 use Rattle.judge.proofs.judging.uncovered_at.Tie as tie
 

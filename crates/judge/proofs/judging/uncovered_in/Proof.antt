@@ -2,7 +2,7 @@
 use borrow.Author.Needs.{needs}
 use mathlib.Core.Path.{ap, sym}
 use Rattle.blocks.specs.Block.{firstEntries, secondEntries}
-use Rattle.judge.proofs.Repeats.{known-here, known-next, remembered-of, rule-here, uncovered-of}
+use Rattle.judge.proofs.Covering.Repeats.{known-here, known-next, remembered-of, rule-here, uncovered-of}
 use Rattle.judge.proofs.judging.uncovered_in.Statement.{statement}
 use Rattle.judge.proofs.judging.uncovered_in.Tie as tie
 

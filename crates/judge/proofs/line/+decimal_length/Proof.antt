@@ -1,5 +1,5 @@
 -- `judge::line::decimal_length` meets its contract; the measure is the number. Assumes nothing.
-use Rattle.judge.proofs.Digits.{length-one, length-more, at-most-ten}
+use Rattle.judge.proofs.Answering.Digits.{length-one, length-more, at-most-ten}
 use native.Mathlib.Omega.{arith}
 use borrow.Author.Needs.{needs}
 use Prim.Native.Nat.{ℕ, _<_}

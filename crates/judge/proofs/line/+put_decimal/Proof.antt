@@ -1,5 +1,5 @@
 -- `judge::line::put_decimal` meets its contract; the measure is the number. Assumes nothing.
-use Rattle.judge.proofs.Printing.{room-digit, put-digit, room-tenth, room-last, put-last}
+use Rattle.judge.proofs.Answering.Printing.{room-digit, put-digit, room-tenth, room-last, put-last}
 use native.Mathlib.Omega.{arith}
 use borrow.Author.Needs.{needs}
 use Prim.Native.Nat.{ℕ, _<_}

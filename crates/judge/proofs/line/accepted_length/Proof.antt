@@ -1,5 +1,5 @@
 -- `judge::line::accepted_length` meets its contract. Assumes nothing.
-use Rattle.judge.proofs.Printing.{length-accepted}
+use Rattle.judge.proofs.Answering.Printing.{length-accepted}
 use borrow.Author.Needs.{needs}
 use Rattle.judge.proofs.line.accepted_length.Statement.{statement}
 use Rattle.judge.proofs.line.accepted_length.Tie as tie

@@ -1,7 +1,7 @@
 -- `judge::line::line_length` meets its contract. Assumes nothing.
 use mathlib.Core.Path.{sym, ap, _∙_}
 use lib.ListN.{length}
-use Rattle.judge.proofs.Printing.{line-accepted, line-refused}
+use Rattle.judge.proofs.Answering.Printing.{line-accepted, line-refused}
 use borrow.Author.Needs.{needs}
 use Rattle.judge.proofs.line.line_length.Statement.{statement}
 use Rattle.judge.proofs.line.line_length.Tie as tie

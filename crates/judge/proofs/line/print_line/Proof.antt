@@ -1,5 +1,5 @@
 -- `judge::line::print_line` meets its contract. Assumes nothing.
-use Rattle.judge.proofs.Printing.{print-refused, print-room, print-done}
+use Rattle.judge.proofs.Answering.Printing.{print-refused, print-room, print-done}
 use borrow.Author.Needs.{needs}
 use Rattle.judge.proofs.line.print_line.Statement.{statement}
 use Rattle.judge.proofs.line.print_line.Tie as tie

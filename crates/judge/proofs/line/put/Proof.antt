@@ -3,7 +3,7 @@ use mathlib.Core.Path.{_≡_, refl}
 use Prim.Native.Nat.{_-_, _≤_}
 use lib.ListN.{length, take, length-set}
 use Rattle.judge.specs.Line.{pasted}
-use Rattle.judge.proofs.Printing.{pasted-none, pasted-more, put-all}
+use Rattle.judge.proofs.Answering.Printing.{pasted-none, pasted-more, put-all}
 use borrow.Author.Needs.{needs}
 use Rattle.judge.proofs.line.put.Statement.{statement}
 use Rattle.judge.proofs.line.put.Tie as tie

@@ -1,5 +1,5 @@
 -- `judge::line::put_line` meets its contract. Assumes nothing.
-use Rattle.judge.proofs.Printing.{line-accepted, line-refused}
+use Rattle.judge.proofs.Answering.Printing.{line-accepted, line-refused}
 use borrow.Author.Needs.{needs}
 use Rattle.judge.proofs.line.put_line.Statement.{statement}
 use Rattle.judge.proofs.line.put_line.Tie as tie

@@ -1,5 +1,5 @@
 -- `judge::line::refused_length` meets its contract. Assumes nothing.
-use Rattle.judge.proofs.Printing.{length-refused}
+use Rattle.judge.proofs.Answering.Printing.{length-refused}
 use borrow.Author.Needs.{needs}
 use Rattle.judge.proofs.line.refused_length.Statement.{statement}
 use Rattle.judge.proofs.line.refused_length.Tie as tie

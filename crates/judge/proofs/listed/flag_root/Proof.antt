@@ -7,9 +7,9 @@ use lib.ListN.{length, length-set}
 use Rattle.blocks.proofs.KindLaws.{secret-lists}
 use Rattle.terms.proofs.AnswerLaws.{says-yes, says-no}
 use Rattle.judge.specs.Listed.{slotAt}
-use Rattle.judge.proofs.Listing.{term-block}
-use Rattle.judge.proofs.Roots.{flag-kept, flag-here, flag-only}
-use Rattle.judge.proofs.Flags.{bits-set}
+use Rattle.judge.proofs.Stages.Listing.{term-block}
+use Rattle.judge.proofs.Stages.Roots.{flag-kept, flag-here, flag-only}
+use Rattle.judge.proofs.Covering.Flags.{bits-set}
 use borrow.Author.Needs.{needs}
 use Rattle.judge.proofs.listed.flag_root.Statement.{statement}
 use Rattle.judge.proofs.listed.flag_root.Tie as tie

@@ -1,11 +1,9 @@
 -- `judge::listed::instance_at` meets its contract. Assumes nothing.
-use mathlib.Core.Path.{ap}
-use Rattle.terms.specs.Entry.{termOf}
 use Rattle.terms.specs.Decide.{match?, variable?}
 use Rattle.terms.proofs.AnswerLaws.{says-yes, says-no}
-use Rattle.judge.proofs.Listing.{block-there, other-kind}
-use Rattle.judge.proofs.Roots.{instance-answer}
-use Rattle.judge.proofs.Tables.{too-small}
+use Rattle.judge.proofs.Stages.Listing.{block-there, other-kind}
+use Rattle.judge.proofs.Stages.Roots.{instance-answer}
+use Rattle.judge.proofs.Stages.Tables.{too-small}
 use borrow.Author.Needs.{needs}
 use Rattle.judge.proofs.listed.instance_at.Statement.{statement}
 use Rattle.judge.proofs.listed.instance_at.Tie as tie

@@ -1,6 +1,6 @@
 -- `judge::listed::inverse_of` meets its contract. Assumes nothing.
 use borrow.Author.Needs.{needs}
-use Rattle.judge.proofs.Numbers.{inverse-at, inverse-none}
+use Rattle.judge.proofs.Stages.Numbers.{inverse-at, inverse-none}
 use Rattle.judge.proofs.listed.inverse_of.Statement.{statement}
 use Rattle.judge.proofs.listed.inverse_of.Tie as tie
 

@@ -2,8 +2,8 @@
 use borrow.Author.Needs.{needs}
 use Rattle.terms.proofs.EntryLaws.{begins, pair-first, encryption-first, right-begins}
 use Rattle.judge.specs.File.{certificateOf}
-use Rattle.judge.proofs.Listing.{search-part}
-use Rattle.judge.proofs.Numbers.{closed-left, closed-right, closed-content, closed-key, closed-atom}
+use Rattle.judge.proofs.Stages.Listing.{search-part}
+use Rattle.judge.proofs.Stages.Numbers.{closed-left, closed-right, closed-content, closed-key, closed-atom}
 use Rattle.judge.proofs.listed.is_closed.Statement.{statement}
 use Rattle.judge.proofs.listed.is_closed.Tie as tie
 

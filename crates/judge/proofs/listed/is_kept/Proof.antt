@@ -1,7 +1,7 @@
 -- `judge::listed::is_kept` meets its contract. Assumes nothing.
 use borrow.Author.Needs.{needs}
 use Rattle.judge.specs.File.{certificateOf}
-use Rattle.judge.proofs.Numbers.{kept-says}
+use Rattle.judge.proofs.Stages.Numbers.{kept-says}
 use Rattle.judge.proofs.listed.is_kept.Statement.{statement}
 use Rattle.judge.proofs.listed.is_kept.Tie as tie
 

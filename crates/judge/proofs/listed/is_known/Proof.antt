@@ -1,7 +1,7 @@
 -- `judge::listed::is_known` meets its contract. Assumes nothing.
 use borrow.Author.Needs.{needs}
 use Rattle.judge.specs.File.{certificateOf}
-use Rattle.judge.proofs.Numbers.{known-other, known-away, known-says}
+use Rattle.judge.proofs.Stages.Numbers.{known-other, known-away, known-says}
 use Rattle.judge.proofs.listed.is_known.Statement.{statement}
 use Rattle.judge.proofs.listed.is_known.Tie as tie
 

@@ -4,7 +4,7 @@ use borrow.Author.Needs.{needs}
 use Rattle.blocks.proofs.KindLaws.{secret-lists}
 use Rattle.terms.proofs.EntryLaws.{begins}
 use Rattle.judge.specs.File.{certificateOf}
-use Rattle.judge.proofs.Numbers.{one-atom, atom-says}
+use Rattle.judge.proofs.Stages.Numbers.{one-atom, atom-says}
 use Rattle.judge.proofs.listed.is_listed_atom.Statement.{statement}
 use Rattle.judge.proofs.listed.is_listed_atom.Tie as tie
 

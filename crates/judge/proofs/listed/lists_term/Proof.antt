@@ -1,6 +1,6 @@
 -- `judge::listed::lists_term` meets its contract. Assumes nothing.
 use borrow.Author.Needs.{needs}
-use Rattle.judge.proofs.Exact.{says-lists}
+use Rattle.judge.proofs.Files.Exact.{says-lists}
 use Rattle.judge.proofs.listed.lists_term.Statement.{statement}
 use Rattle.judge.proofs.listed.lists_term.Tie as tie
 

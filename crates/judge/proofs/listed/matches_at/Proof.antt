@@ -4,7 +4,7 @@ use Rattle.terms.specs.Instance.{Matches}
 use Rattle.terms.specs.Entry.{termOf}
 use Rattle.terms.proofs.AnswerLaws.{says-yes, says-no}
 use Rattle.terms.specs.Decide.{match?, variable?}
-use Rattle.judge.proofs.Listing.{block-there, block-answer, other-kind}
+use Rattle.judge.proofs.Stages.Listing.{block-there, block-answer, other-kind}
 use Rattle.judge.proofs.listed.matches_at.Statement.{statement}
 use Rattle.judge.proofs.listed.matches_at.Tie as tie
 

@@ -4,8 +4,8 @@ use mathlib.Core.Path.{_≡_}
 use Rattle.terms.specs.Entry.{termOf}
 use Rattle.terms.proofs.AnswerLaws.{says-yes, says-no}
 use Rattle.terms.specs.Decide.{term?, variable?}
-use Rattle.judge.proofs.Listing.{block-there, block-answer, other-kind}
-use Rattle.judge.proofs.Tables.{other-size}
+use Rattle.judge.proofs.Stages.Listing.{block-there, block-answer, other-kind}
+use Rattle.judge.proofs.Stages.Tables.{other-size}
 use Rattle.judge.proofs.listed.same_at.Statement.{statement}
 use Rattle.judge.proofs.listed.same_at.Tie as tie
 

@@ -7,8 +7,8 @@ use Rattle.blocks.specs.Kinds.{secretKind}
 use Rattle.blocks.specs.Block.{blockAt, kindOf, firstEntries}
 use Rattle.judge.specs.File.{blockCount}
 use Rattle.judge.specs.Listed.{FlaggedAt, SecretSlot}
-use Rattle.judge.proofs.Roots.{flags-more, only-more, slots-before}
-use Rattle.judge.proofs.Flags.{zero-at}
+use Rattle.judge.proofs.Stages.Roots.{flags-more, only-more, slots-before}
+use Rattle.judge.proofs.Covering.Flags.{zero-at}
 use borrow.Author.Needs.{needs}
 use Rattle.judge.proofs.listed.secret_roots.Statement.{statement}
 use Rattle.judge.proofs.listed.secret_roots.Tie as tie

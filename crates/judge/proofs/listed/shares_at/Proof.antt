@@ -4,8 +4,8 @@ use Rattle.terms.specs.Instance.{Share}
 use Rattle.terms.specs.Entry.{termOf}
 use Rattle.terms.proofs.AnswerLaws.{says-yes, says-no}
 use Rattle.terms.specs.Decide.{share?, variable?}
-use Rattle.judge.proofs.Listing.{block-there, block-answer, other-kind}
-use Rattle.judge.proofs.Tables.{term-sizes}
+use Rattle.judge.proofs.Stages.Listing.{block-there, block-answer, other-kind}
+use Rattle.judge.proofs.Stages.Tables.{term-sizes}
 use Rattle.judge.proofs.listed.shares_at.Statement.{statement}
 use Rattle.judge.proofs.listed.shares_at.Tie as tie
 

@@ -1,26 +1,28 @@
 -- `judge::listed::shares_listed` meets its contract: no block from `left` on holds one. Assumes nothing.
-use Prim.Native.Nat.{ℕ, _≤_, _<_}
+use Prim.Native.Nat.{_≤_}
 use native.Mathlib.Omega.{arith}
 use borrow.Author.Needs.{needs}
 use Rattle.terms.specs.Instance.{Share}
 use Rattle.terms.specs.Entry.{termOf}
 use Rattle.terms.proofs.AnswerLaws.{says-no}
+use Rattle.terms.specs.Ending.{EachFrom}
+use Rattle.terms.proofs.EndingLaws.{each-none, each-down}
 use Rattle.judge.specs.File.{blockCount}
 use Rattle.judge.specs.Listed.{HoldsAt, shares-listed?}
-use Rattle.judge.proofs.Listing.{found-answer, none-answer, lower-answer, above-more}
+use Rattle.judge.proofs.Stages.Listing.{found-answer, none-answer, lower-answer}
 use Rattle.judge.proofs.listed.shares_listed.Statement.{statement}
 use Rattle.judge.proofs.listed.shares_listed.Tie as tie
 
 abbrev Inv-loop : tie.InvT-loop
 Inv-loop file sizes kind e z count left₀ left =
-    (left ≤ blockCount file) × ((k : ℕ) → left ≤ k → k < blockCount file → ¬ HoldsAt file kind (λ p. Share p (termOf e)) k)
+    (left ≤ blockCount file) × EachFrom (λ k. ¬ HoldsAt file kind (λ p. Share p (termOf e)) k) left (blockCount file)
 
 abbrev μ-loop : tie.MeasureT-loop
 μ-loop file sizes kind e z count left₀ left = left
 
 pub shares-listed-spec : {M : Type 1} → statement M
 shares-listed-spec = tie.close (tie.spec Inv-loop μ-loop
-    (λ c. (search needs, λ k low high. absurd (omega arith)))  -- loop-holds
+    (λ c. (search needs, each-none _ _))  -- loop-holds
     (λ c. search needs)  -- sub-shares-at
     (λ c κs. let pre = c .before .before .before .before .before .pre in (pre .0, search needs, pre .1, pre .2))  -- shares-at-requires
     (λ c. let s = c .before .before .before .before .before .before .before in let at = c .before .shares-at in
@@ -29,11 +31,11 @@ shares-listed-spec = tie.close (tie.spec Inv-loop μ-loop
     (λ c κs. search needs)  -- kind-at-requires
     (λ c. let loop = c .before .before .before .before .before in let s = loop .before .before .before .before in
     lower-answer (s .pre .0) (λ p. Share p (termOf (s .args .e .now))) (search needs) (c .before .kind-at .ensures) (c .if2 .taken)
-    (λ k l. loop .loop .inv .1 k (omega arith)) (shares-listed? _ _ _))  -- returns-2
+    (λ k l. loop .loop .inv .1 .each k (omega arith)) (shares-listed? _ _ _))  -- returns-2
     (λ c. search needs)  -- sub-left
     (λ c. search needs)  -- loop-less
     (λ c. let at = c .before .before .before .shares-at in
-    (search needs, above-more _ _ (c .before .before .before .before .before .loop .inv .1) (says-no (at .result) (at .ensures) (c .before .before .if1 .left))))  -- loop-again
+    (search needs, each-down (c .before .before .before .before .before .loop .inv .1) (says-no (at .result) (at .ensures) (c .before .before .if1 .left))))  -- loop-again
     (λ c. let s = c .before .before .before .before .before in
-    none-answer (s .pre .0) (λ p. Share p (termOf (s .args .e .now))) (λ k l. c .before .loop .inv .1 k (omega arith) l) (shares-listed? _ _ _))  -- returns-3
+    none-answer (s .pre .0) (λ p. Share p (termOf (s .args .e .now))) (λ k l. c .before .loop .inv .1 .each k (omega arith) l) (shares-listed? _ _ _))  -- returns-3
     )

@@ -9,7 +9,7 @@ use Rattle.terms.specs.Entry.{termOf}
 use Rattle.terms.proofs.AnswerLaws.{says-no}
 use Rattle.judge.specs.File.{blockCount}
 use Rattle.judge.specs.Listed.{HoldsAt, shares-listed?}
-use Rattle.judge.proofs.Listing.{found-answer, none-answer, higher-answer}
+use Rattle.judge.proofs.Stages.Listing.{found-answer, none-answer, higher-answer}
 use Rattle.judge.proofs.listed.shares_secret.Statement.{statement}
 use Rattle.judge.proofs.listed.shares_secret.Tie as tie
 

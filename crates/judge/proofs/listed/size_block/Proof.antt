@@ -2,7 +2,7 @@
 use native.Mathlib.Omega.{arith}
 use borrow.Author.Needs.{needs}
 use Rattle.terms.proofs.AnswerLaws.{says-yes, says-no}
-use Rattle.judge.proofs.Tables.{sizes-more, sizes-other}
+use Rattle.judge.proofs.Stages.Tables.{sizes-more, sizes-other}
 use Rattle.judge.proofs.listed.size_block.Statement.{statement}
 use Rattle.judge.proofs.listed.size_block.Tie as tie
 

@@ -4,7 +4,7 @@ use mathlib.Core.Path.{ap, _∙_}
 use Prim.Native.Nat.{ℕ, _*_}
 use borrow.Author.Needs.{needs}
 use Rattle.blocks.specs.Block.{firstEntries, firstCount}
-use Rattle.judge.proofs.Listing.{term-part}
+use Rattle.judge.proofs.Stages.Listing.{term-part}
 use Rattle.judge.proofs.listed.term_at.Statement.{statement}
 use Rattle.judge.proofs.listed.term_at.Tie as tie
 

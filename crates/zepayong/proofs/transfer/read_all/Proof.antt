@@ -7,7 +7,7 @@ use borrow.Author.Needs.{needs}
 use borrow.Author.Tests.{ltb-true}
 use native.Mathlib.Omega.{arith}
 use Rattle.io.proofs.Counting.{counts}
-use Rattle.zepayong.proofs.Steps.{bytes-within}
+use Rattle.zepayong.proofs.Calls.{bytes-within}
 use Rattle.zepayong.proofs.transfer.read_all.Statement.{statement}
 use Rattle.zepayong.proofs.transfer.read_all.Tie as tie
 
@@ -24,9 +24,9 @@ read-all-spec = tie.close (tie.spec Inv-loop μ-loop
     (λ c. search needs)  -- part-read-some-start
     (λ c. search needs)  -- part-read-some-end
     (λ c κs. search needs)  -- read-some-requires
-    (λ c. search needs)  -- enum-known-step
+    (λ c. search needs)  -- enum-known-called
     (λ c. let r = c .before .before .before .before .before .read-some in
-    search (needs, bytes-within (r .result) _ _ (c .before .step .given .1) (r .ensures)))  -- add-done
+    search (needs, bytes-within (r .result) _ _ (c .before .called .given .1) (r .ensures)))  -- add-done
     (λ c. search needs)  -- enum-told
     (λ c. search needs)  -- same-length
     (λ c. counts _ _ (search needs))  -- returns

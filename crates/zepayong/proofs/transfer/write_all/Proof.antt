@@ -4,7 +4,7 @@ use mathlib.Core.Logic.{⊎-elim}
 use borrow.Author.Needs.{needs}
 use borrow.Author.Tests.{ltb-true}
 use native.Mathlib.Omega.{arith}
-use Rattle.zepayong.proofs.Steps.{bytes-within}
+use Rattle.zepayong.proofs.Calls.{bytes-within}
 use Rattle.zepayong.proofs.transfer.write_all.Statement.{statement}
 use Rattle.zepayong.proofs.transfer.write_all.Tie as tie
 
@@ -21,9 +21,9 @@ write-all-spec = tie.close (tie.spec Inv-loop μ-loop
     (λ c. search needs)  -- part-write-some-start
     (λ c. search needs)  -- part-write-some-end
     (λ c κs. search needs)  -- write-some-requires
-    (λ c. search needs)  -- enum-known-step
+    (λ c. search needs)  -- enum-known-called
     (λ c. let w = c .before .before .before .write-some in
-    search (needs, bytes-within (w .result) _ _ (c .before .step .given .1) (w .ensures)))  -- add-done
+    search (needs, bytes-within (w .result) _ _ (c .before .called .given .1) (w .ensures)))  -- add-done
     (λ c. search needs)  -- returns
     (λ c. search needs)  -- enum-told
     (λ c. search needs)  -- sub-turns

@@ -1,7 +1,7 @@
 -- `zepayong::transfer::write_some` meets its contract. Assumes nothing.
 use lib.ListN.{length}
 use borrow.Author.Needs.{needs}
-use Rattle.zepayong.proofs.Steps.{within-more}
+use Rattle.zepayong.proofs.Calls.{within-more}
 use Rattle.zepayong.proofs.transfer.write_some.Statement.{statement}
 use Rattle.zepayong.proofs.transfer.write_some.Tie as tie
 

@@ -1,0 +1,91 @@
+-- What the loader gets for a file, "number × 65,536 + block × 256 + place, 0 if accepted": each can be read back from it.
+use mathlib.Core.Path.{_≡_, refl}
+use mathlib.Core.Logic.{_↔_}
+use mathlib.Core.List.{List}
+use Prim.Native.Nat.{ℕ, _+_, _/_, _%_, _<_, _≤_}
+use native.Mathlib.Omega.{arith}
+use Rattle.blocks.specs.Kinds.{ruleKind}
+use Rattle.blocks.specs.Limits.{mostBlocks, mostEntries}
+use Rattle.blocks.specs.Block.{blockAt, kindOf, firstCount}
+use Rattle.blocks.proofs.Layouts.{counts-room}
+use Rattle.blocks.proofs.Parts.{second-length}
+use Rattle.terms.specs.Entry.{size}
+use Rattle.terms.proofs.PlacedLaws.{placed-within}
+use Rattle.judge.specs.declared.verdict.Counts.{Counts}
+use Rattle.judge.specs.declared.verdict.Fault.{Fault}
+use Rattle.judge.specs.declared.verdict.Verdict.{Verdict}
+use Rattle.judge.specs.declared.verdict.Verdict.the-variants.{Accepted, Refused}
+use Rattle.judge.specs.Answer.{numberOf, blockOf, placeOf, packedOf}
+use Rattle.judge.specs.File.{blockCount, ruleOf}
+use Rattle.judge.specs.Verdict.{verdictOf}
+use Rattle.judge.specs.Meaning.{LengthRight, BlockFaulty, checkFails, kindFails, layoutFails, atomFails}
+use Rattle.judge.specs.Meaning.{entryFails, patternFails, premiseFails, conclusionFails, Formed, RefusedWith, lengthFails}
+use Rattle.judge.specs.Meaning.{blockFails, missing, secretKnown, secretNotClosed, keyNotKept, placeUncovered}
+use Rattle.judge.proofs.Answering.Answers.{numbers}
+use Rattle.judge.proofs.Files.LaidLaws.{laid}
+use Rattle.judge.proofs.Files.Verdicts.{refused-iff}
+
+-- ---- block and place are small
+
+-- "At most 64 blocks", and 126 entries in each.
+pub record Small (f : Fault) : Type 0 where
+  pub block : blockOf f ≤ mostBlocks
+  pub place : placeOf f ≤ mostEntries
+
+few-blocks : {file : List ℕ} → LengthRight file → blockCount file ≤ mostBlocks
+few-blocks l = let m = l .most in omega arith
+
+block-small : {file : List ℕ} {i : ℕ} {f : Fault} → i ≤ mostBlocks → BlockFaulty file i f → Small f
+block-small h (checkFails e n) = rw e (record { block = h; place = omega arith })
+block-small h (kindFails e c n) = rw e (record { block = h; place = omega arith })
+block-small h (layoutFails e c k n) = rw e (record { block = h; place = omega arith })
+block-small h (atomFails e s k l n b) = rw e (record { block = h; place = omega (arith, counts-room (s .layout .counts)) })
+block-small h (entryFails e s k l n b) = rw e (record { block = h; place = omega (arith, counts-room (s .layout .counts)) })
+block-small h (patternFails e s k r n) = rw e (record { block = h; place = omega arith })
+block-small h (premiseFails e s k r n) = rw e (record { block = h; place = omega arith })
+block-small h (conclusionFails e s k r p n) = rw e (record { block = h; place = omega (arith, counts-room (s .layout .counts)) })
+
+-- An entry of the conclusion, counted in its block.
+rule-place : {file : List ℕ} {i k : ℕ} → Formed file → i < blockCount file → kindOf (blockAt file i) ≡ ruleKind
+    → k < size (ruleOf (blockAt file i) .conclusion) → firstCount (blockAt file i) + k ≤ mostEntries
+unfolding ruleOf
+rule-place {file} {i} w inside is h =
+    let r = laid file (w .long) (w .blocks) .rules i inside is in
+    omega (arith, r .conclusion-whole, r .premise-short, r .conclusion-short, second-length (blockAt file i) (r .fitting))
+
+pub fault-small : (file : List ℕ) (f : Fault) → verdictOf file ≡ Refused f → Small f
+fault-small file f e = go (refused-iff file f .0 e)
+  where
+    go : RefusedWith file f → Small f
+    go (lengthFails e n) = rw e (record { block = omega arith; place = omega arith })
+    go (blockFails l h b w) = block-small (omega (arith, h, few-blocks l)) w
+    go (missing e l b n) = rw e (record { block = few-blocks l; place = omega arith })
+    go (secretKnown e w i k) = rw e (record { block = omega (arith, i .inside, few-blocks (w .long)); place = omega arith })
+    go (secretNotClosed e w u i) = rw e (record { block = omega (arith, i .inside, few-blocks (w .long)); place = omega arith })
+    go (keyNotKept e w u c i) = rw e (record { block = omega (arith, i .inside, few-blocks (w .long)); place = omega arith })
+    go (placeUncovered e w u c k i n) = rw e (record {
+      block = omega (arith, i .inside, few-blocks (w .long));
+      place = rule-place w (i .inside) (i .is) (placed-within (n .stands));
+    })
+
+-- ---- the answer is read back
+
+-- The answer tells a refusal with this number, block and place.
+pub record Tells (packed : ℕ) (f : Fault) : Type 0 where
+  pub refused : 0 < packed
+  pub number : packed / 65536 ≡ numberOf f
+  pub block : packed / 256 % 256 ≡ blockOf f
+  pub place : packed % 256 ≡ placeOf f
+
+pub packed-tells : (file : List ℕ) (f : Fault) → verdictOf file ≡ Refused f → Tells (packedOf (verdictOf file)) f
+packed-tells file f e =
+    let w = fault-small file f e in let n = numbers f in let b = w .block in let p = w .place in
+    rw e (record { refused = omega arith; number = omega arith; block = omega arith; place = omega arith })
+
+-- "0 if accepted", and only then.
+pub zero-accepted : (file : List ℕ) → (packedOf (verdictOf file) ≡ 0) ↔ ((counts : Counts) × (verdictOf file ≡ Accepted counts))
+zero-accepted file = (λ z. go (verdictOf file) refl z, λ w. rw (w .1) refl)
+  where
+    go : (v : Verdict) → verdictOf file ≡ v → packedOf v ≡ 0 → (counts : Counts) × (verdictOf file ≡ Accepted counts)
+    go (Accepted counts) e z = (counts, e)
+    go (Refused f) e z = let n = numbers f in absurd (omega arith)

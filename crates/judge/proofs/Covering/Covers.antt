@@ -1,0 +1,322 @@
+-- Laws of number 12 on the entries: searches through open entries, risky and covered entries, and the rule. Assumes nothing.
+use mathlib.Core.Path.{_≡_, refl, sym, ap, _∙_}
+use mathlib.Core.Bool.{Bool}
+use mathlib.Core.List.{List, [], _∷_}
+use mathlib.Core.Logic.{_⊎_, inl, inr, _↔_}
+use mathlib.Core.Option.{Option, none, some, Option·none-ne-some}
+use Prim.Native.Nat.{ℕ, _*_, _/_, _<_, _≤_}
+use native.Mathlib.Omega.{arith}
+use native.Mathlib.Decide.{ℕ-discrete}
+use borrow.Rule.Slice.PartAt.{part-to-end}
+use borrow.Author.Tests.{eq-eqb, ne-eqb}
+use lib.ListN.{length, getD, drop}
+use Rattle.blocks.specs.Kinds.{secretKind}
+use Rattle.blocks.specs.Block.{firstCount, secondCount, firstEntries, secondEntries}
+use Rattle.terms.specs.declared.valid.Found.{Found}
+use Rattle.terms.specs.declared.valid.Found.the-variants.{Nothing}
+use Rattle.terms.specs.Term.{Term, Variable, variable, named}
+use Rattle.terms.specs.Tag.{VariableTag, SymbolTag, sort-tag}
+use Rattle.terms.specs.Place.{Place}
+use Rattle.terms.specs.Entry.{size, termOf, tagAt, valueAt, Reads, Begins}
+use Rattle.terms.specs.Reading.{First, first-atom, first-pair, first-encrypted, first-variable}
+use Rattle.terms.specs.Reading.{first}
+use Rattle.terms.proofs.EntryLaws.{termOf-reads, suffix}
+use Rattle.terms.proofs.EntryLaws.{reads-variable}
+use Rattle.terms.specs.Entry.{from}
+use Rattle.terms.specs.Decisions.{Says, says-same}
+use Rattle.terms.proofs.AnswerLaws.{answer-yes, answer-no}
+use Rattle.terms.specs.First.{FirstNot, fails, holds}
+use Rattle.terms.proofs.FirstLaws.{first-only}
+use Rattle.terms.specs.Entry.{entryAt}
+use Rattle.terms.specs.Entry.{Placed}
+use Rattle.terms.proofs.PlacedLaws.{placed, within, spotted, subterm-at, spot-placed}
+use Rattle.judge.specs.Certificate.{Certificate, Rule}
+use Rattle.judge.specs.File.{certificateOf, ruleOf}
+use Rattle.judge.specs.Laid.{Laid, RuleBlock}
+use Rattle.judge.specs.Cover.{Risky, Covered, sureHat, inPremise, AtOpenPlace, Dead}
+use Rattle.judge.specs.Decisions.{dead?}
+use Rattle.judge.specs.Verdict.{spotAt, FineSpot, fine?, uncovered}
+use Rattle.judge.specs.Listed.{SharesListed, IsSecret}
+use Rattle.judge.specs.CoverEntries.{subAt, On, Cleared, Flags, Standing, HatBelow, Entries, OpenEntry, OpenFlags, OpenHolds, Flagged, FlaggedWith, SomeFlagged}
+use Rattle.judge.specs.CoverEntries.{RiskyEntry, Wanted, isSecret, isRisky, WantedEntry, FineEntry, Concluded}
+use Rattle.judge.proofs.Covering.Flags.{RaisedBelow}
+use Rattle.judge.proofs.Stages.ListedLaws.{risky-is, dead-is}
+use Rattle.terms.proofs.EntryLaws.{term-reads}
+use Rattle.judge.proofs.Covering.Hats.{hat-place}
+use Rattle.judge.proofs.Covering.Opens.{open-place}
+
+-- A term stands at every entry.
+pub begins-at : {e : List ℕ} (k : ℕ) → Begins e → 4 * k < length e → Begins (from (4 * k) e)
+begins-at k b inside = rw part-to-end (suffix k b inside)
+
+pub standing-entries : {file e : List ℕ} {k : ℕ} → Laid file → Entries e → 4 * k < length e → Standing file e k
+standing-entries {k = k} laid e inside =
+    record { laid = laid; term = begins-at k (e .some-term (omega arith)) inside; inside = inside; short = e .short }
+
+pub standing-flagged : {file e flags : List ℕ} {k : ℕ} → Laid file → Flagged e flags → 4 * k < length e → Standing file e k
+standing-flagged laid f inside = standing-entries laid (f .entries) inside
+
+pub flagged-begins : {e flags : List ℕ} (k : ℕ) → Flagged e flags → 4 * k < length e → Begins (from (4 * k) e)
+flagged-begins k f inside = begins-at k (f .entries .some-term (omega arith)) inside
+
+pub flagged-below : {e flags : List ℕ} {n : ℕ} → Flagged e flags → length e / 4 ≤ n → (k : ℕ) → On flags k → k < n
+flagged-below f past k on =
+    let inside = f .within k on in
+    let whole = f .entries .whole (λ z. omega arith) in omega arith
+
+pub standing-concluded : {file e : List ℕ} {k : ℕ} → Concluded file e → 4 * k < length e → Standing file e k
+standing-concluded {k = k} w inside = record { laid = w .laid; term = begins-at k (w .term) inside; inside = inside; short = w .short }
+
+-- Searches through the flagged entries.
+pub flagged-holds : (e flags : List ℕ) (P : Term Variable → Type 0) (k : ℕ) → On flags k → (b : Bool) → Says b (P (subAt e k)) → Says b (FlaggedWith e flags P k)
+flagged-holds e flags P k on b says = says-same b (λ h. record { on = on; holds = h }) (λ w. w .holds) says
+
+module _ {e flags : List ℕ} {P : Term Variable → Type 0} where
+  pub flagged-found : {k : ℕ} → FlaggedWith e flags P k → SomeFlagged e flags P
+  flagged-found w = record { number = _; is = w }
+
+  pub none-flagged : {k : ℕ} → Flagged e flags → length e ≤ 4 * k → ((j : ℕ) → j < k → ¬ FlaggedWith e flags P j) → ¬ SomeFlagged e flags P
+  none-flagged f past empty w = let l = f .within (w .number) (w .is .on) in empty (w .number) (omega arith) (w .is)
+
+-- A risky place: a variable, or what the search for a secret says.
+module _ (c : Certificate) {t : List ℕ} (b : Begins t) where
+  pub risky-variable : VariableTag (tagAt t) → Risky c (termOf t)
+  risky-variable tag = go (first (b .reads))
+    where
+      go : First (tagAt t) (valueAt t) (drop 4 t) (b .term ∷ b .others) → Risky c (termOf t)
+      go (first-variable g v n q k) = risky-is c (termOf t) .1 (inl (_, termOf-reads (rw q at (b .reads))))
+      go (first-atom g q k) = absurd (omega arith)
+      go (first-pair g n q k) = absurd (omega arith)
+      go (first-encrypted g q k) = absurd (omega arith)
+
+  no-variable : SymbolTag (tagAt t) → (x : Variable) → ¬ (termOf t ≡ variable x)
+  no-variable tag x is = go x (term-reads b is)
+    where
+      go : (x : Variable) → Reads t (variable x ∷ b .others) → ⊥
+      go (named s n) r = let g = sort-tag s (reads-variable r .0) in omega arith
+
+  pub risky-secret : SymbolTag (tagAt t) → (r : Bool) → Says r (SharesListed c secretKind (termOf t)) → Says r (Risky c (termOf t))
+  risky-secret tag r says = says-same r (λ h. risky-is c (termOf t) .1 (inr h)) (λ h. go (risky-is c (termOf t) .0 h)) says
+    where
+      go : ((x : Variable) × (termOf t ≡ variable x)) ⊎ SharesListed c secretKind (termOf t) → SharesListed c secretKind (termOf t)
+      go (inl w) = absurd (no-variable tag (w .0) (w .1))
+      go (inr h) = h
+
+-- The risky entries of the conclusion, as they are flagged.
+pub risky-flags : {c : Certificate} {e flags : List ℕ} {n : ℕ} → RaisedBelow flags (λ k. Risky c (subAt e k)) n → n ≡ size (termOf e) → 4 * size (termOf e) ≡ length e
+    → Flags flags (RiskyEntry c e)
+risky-flags {c} {e} w all whole = record {
+  long = w .long;
+  bits = w .bits;
+  on = λ k. (
+    λ o. (let v = w .on k .0 o in record { inside = let l = v .0 in omega arith; risky = v .1 }),
+    λ r. w .on k .1 (let l = r .inside in omega arith, r .risky),
+  );
+}
+
+pub concluded-entries : {file e : List ℕ} → Concluded file e → Entries e
+concluded-entries w = record { some-term = λ n. w .term; whole = λ n. w .whole; short = w .short }
+
+pub risky-flagged : {file : List ℕ} {c : Certificate} {e flags : List ℕ} → Concluded file e → Flags flags (RiskyEntry c e) → Flagged e flags
+risky-flagged w f = record { entries = concluded-entries w; long = f .long; within = λ k o. f .on k .0 o .inside }
+
+-- The wanted entries of the premise.
+module _ (c : Certificate) (premise conclusion risky : List ℕ) (k : ℕ) where
+  pub wanted-risky : ¬ IsSecret c (subAt premise k) → (b : Bool) → Says b (SomeFlagged conclusion risky (λ s. s ≡ subAt premise k))
+      → Says b (Wanted c premise conclusion risky k)
+  wanted-risky off b says = says-same b (λ w. isRisky w) go says
+    where
+      go : Wanted c premise conclusion risky k → SomeFlagged conclusion risky (λ s. s ≡ subAt premise k)
+      go (isSecret s) = absurd (off s)
+      go (isRisky w) = w
+
+pub wanted-none : {c : Certificate} {premise conclusion risky : List ℕ} {k : ℕ} → ¬ IsSecret c (subAt premise k)
+    → ¬ SomeFlagged conclusion risky (λ s. s ≡ subAt premise k) → ¬ Wanted c premise conclusion risky k
+wanted-none off empty (isSecret s) = off s
+wanted-none off empty (isRisky w) = empty w
+
+pub wanted-flags : {c : Certificate} {premise conclusion risky flags : List ℕ} {n : ℕ} → Entries premise → RaisedBelow flags (Wanted c premise conclusion risky) n
+    → length premise / 4 ≡ n → Flags flags (WantedEntry c premise conclusion risky)
+wanted-flags {c} {premise} {n = n} e w all = record {
+  long = w .long;
+  bits = w .bits;
+  on = λ k. (
+    λ o. (let v = w .on k .0 o in record { inside = let l = v .0 in omega arith; wanted = v .1 }),
+    λ r. w .on k .1 (below k (r .inside), r .wanted),
+  );
+}
+  where
+    below : (k : ℕ) → 4 * k < length premise → k < n
+    below k l = let whole = e .whole (λ z. omega arith) in omega arith
+
+pub wanted-flagged : {c : Certificate} {premise conclusion risky flags : List ℕ} → Entries premise → Flags flags (WantedEntry c premise conclusion risky)
+    → Flagged premise flags
+wanted-flagged e f = record { entries = e; long = f .long; within = λ k o. f .on k .0 o .inside }
+
+-- The premise's entries and the premise.
+pub record PremiseIs (e : List ℕ) (premise : Option (Term Variable)) : Type 0 where
+  pub entries : Entries e
+  pub empty : length e ≡ 0 → premise ≡ none
+  pub term : ¬ (length e ≡ 0) → premise ≡ some (termOf e)
+
+-- Among the flags of open entries, those of a claim that makes an entry wanted are all that hold it.
+pub open-flags : {c : Certificate} {e wanted opened : List ℕ} → OpenFlags c e wanted opened → (P : Term Variable → Type 0)
+    → ((k : ℕ) → OpenEntry c e k → P (subAt e k) → On wanted k) → SomeFlagged e opened P ↔ OpenHolds c e P
+open-flags f P want = (
+  λ w. record { number = w .number; isOpen = f .on (w .number) .0 (w .is .on) .1; holds = w .is .holds },
+  λ w. record { number = w .number; is = record { on = f .on (w .number) .1 (want (w .number) (w .isOpen) (w .holds), w .isOpen); holds = w .holds } },
+)
+
+open-inside : {c : Certificate} {e : List ℕ} → Entries e → {k : ℕ} → OpenEntry c e k → 4 * k < length e
+open-inside {e = e} entries o = let l = o .isOpen .inside in let whole = entries .whole (o .some-entry) in omega arith
+
+module _ {file : List ℕ} (laid : Laid file) (rule : Rule) {e : List ℕ} (is : PremiseIs e (rule .premise)) where
+  -- What stands at an open place stands at an open entry.
+  at-open : (t : Term Variable) → AtOpenPlace (certificateOf file) rule t ↔ OpenHolds (certificateOf file) e (λ s. s ≡ t)
+  at-open t = (λ w. to w (ℕ-discrete (length e) 0), back)
+    where
+      to : AtOpenPlace (certificateOf file) rule t → Dec (length e ≡ 0) → OpenHolds (certificateOf file) e (λ s. s ≡ t)
+      to w (yes empty) = absurd (Option·none-ne-some (w .premise) (sym (is .empty empty) ∙ w .given))
+      to w (no some-entry) =
+          let b = is .entries .some-term some-entry in
+          let given : some (termOf e) ≡ some (w .premise) = sym (is .term some-entry) ∙ w .given in
+          let same : w .premise ≡ termOf e = cc in
+          let low = placed (w .place) (termOf e) (rw same at (w .stands)) in
+          record {
+            number = entryAt (w .place) (termOf e);
+            isOpen = record { some-entry = some-entry; isOpen = open-place b low .1 (rw same at (w .isOpen)) };
+            holds = subterm-at low (term-reads b refl);
+          }
+
+      back : OpenHolds (certificateOf file) e (λ s. s ≡ t) → AtOpenPlace (certificateOf file) rule t
+      back w =
+          let o = w .isOpen in
+          let b = is .entries .some-term (o .some-entry) in
+          let q = spotted (termOf e) (w .number) (o .isOpen .inside) in
+          let term : q .subterm ≡ t = sym (subterm-at (q .is) (term-reads b refl)) ∙ w .holds in
+          record {
+            premise = termOf e;
+            given = is .term (o .some-entry);
+            place = q .place;
+            stands = q .is .stands ∙ ap some term;
+            isOpen = open-place b (q .is) .0 (o .isOpen);
+          }
+
+  -- The rule is dead if a listed secret stands at an open entry.
+  dead-entries : Dead (certificateOf file) rule ↔ OpenHolds (certificateOf file) e (IsSecret (certificateOf file))
+  dead-entries = (to, back)
+    where
+      to : Dead (certificateOf file) rule → OpenHolds (certificateOf file) e (IsSecret (certificateOf file))
+      to d =
+          let w = dead-is (certificateOf file) rule .0 d in
+          let o = at-open (w .0) .0 (w .2) in
+          record { number = o .number; isOpen = o .isOpen; holds = rw (o .holds) (w .1) }
+
+      back : OpenHolds (certificateOf file) e (IsSecret (certificateOf file)) → Dead (certificateOf file) rule
+      back o =
+          let t = subAt e (o .number) in
+          dead-is (certificateOf file) rule .1 (t, o .holds, at-open t .1 (record { number = o .number; isOpen = o .isOpen; holds = refl }))
+
+  -- As the code finds it, by the flags of the open entries among the wanted ones.
+  module _ {conclusion risky wanted opened : List ℕ} (want : Flags wanted (WantedEntry (certificateOf file) e conclusion risky))
+      (f : OpenFlags (certificateOf file) e wanted opened) where
+    secret-open : SomeFlagged e opened (IsSecret (certificateOf file)) ↔ OpenHolds (certificateOf file) e (IsSecret (certificateOf file))
+    secret-open = open-flags f (IsSecret (certificateOf file)) (λ k o s. want .on k .1 (record { inside = open-inside (is .entries) o; wanted = isSecret s }))
+
+    pub dead-rule : SomeFlagged e opened (IsSecret (certificateOf file)) → Nothing ≡ uncovered (certificateOf file) rule
+    unfolding uncovered
+    dead-rule o = rw (answer-yes (dead? (certificateOf file) rule) (dead-entries .1 (secret-open .0 o)), uncovered) refl
+
+    -- The places of the conclusion, entry by entry.
+    module _ (concluded : Concluded file conclusion) (term : rule .conclusion ≡ termOf conclusion)
+        (g : Flags risky (RiskyEntry (certificateOf file) conclusion)) where
+      module _ (k : ℕ) {p : Place} {s : Term Variable} (low : Placed (rule .conclusion) k p s) where
+        here : Placed (termOf conclusion) k p s
+        here = rw term at low
+
+        subterm-is : subAt conclusion k ≡ s
+        subterm-is = subterm-at here (term-reads (concluded .term) refl)
+
+        fine-entry : FineEntry (certificateOf file) e conclusion k ↔ (Risky (certificateOf file) s → Covered (certificateOf file) rule p s)
+        fine-entry = (λ w r. to (w .covered (rw subterm-is r)), λ h. record { covered = λ r. back (h (rw subterm-is at r)) })
+          where
+            to : HatBelow (certificateOf file) conclusion (size (termOf conclusion)) k ⊎ OpenHolds (certificateOf file) e (λ t. t ≡ subAt conclusion k)
+                → Covered (certificateOf file) rule p s
+            to (inl w) = sureHat (rw term (hat-place laid (concluded .term) here .0 w))
+            to (inr w) = inPremise (at-open s .1 (rw subterm-is at w))
+
+            back : Covered (certificateOf file) rule p s
+                → HatBelow (certificateOf file) conclusion (size (termOf conclusion)) k ⊎ OpenHolds (certificateOf file) e (λ t. t ≡ subAt conclusion k)
+            back (sureHat h) = inl (hat-place laid (concluded .term) here .1 (rw term at h))
+            back (inPremise h) = inr (rw subterm-is (at-open s .0 h))
+
+      fine-at : (k : ℕ) → k < size (rule .conclusion) → FineEntry (certificateOf file) e conclusion k ↔ FineSpot (certificateOf file) rule k
+      unfolding spotAt
+      fine-at k inside = fine-entry k (spot-placed (rule .conclusion) k ([], rule .conclusion) inside)
+
+      -- A flag that is left on is at an entry that is not fine, and the others are at fine ones.
+      module _ {bare left : List ℕ} (b : Cleared risky bare (λ k. SomeFlagged e opened (λ s. s ≡ subAt conclusion k)))
+          (l : Cleared bare left (HatBelow (certificateOf file) conclusion (size (termOf conclusion)))) where
+        stands-open : (k : ℕ) → On risky k → SomeFlagged e opened (λ s. s ≡ subAt conclusion k) ↔ OpenHolds (certificateOf file) e (λ s. s ≡ subAt conclusion k)
+        stands-open k o = open-flags f (λ s. s ≡ subAt conclusion k) (λ j w same. want .on j .1 (record {
+          inside = open-inside (is .entries) w;
+          wanted = isRisky (record { number = k; is = record { on = o; holds = sym same } });
+        }))
+
+        not-fine : (k : ℕ) → On left k → ¬ FineEntry (certificateOf file) e conclusion k
+        not-fine k on w =
+            let v = l .kept k on in let u = b .kept k (v .0) in
+            go v u (w .covered (g .on k .0 (u .0) .risky))
+          where
+            go : On bare k × ¬ HatBelow (certificateOf file) conclusion (size (termOf conclusion)) k
+                → On risky k × ¬ SomeFlagged e opened (λ s. s ≡ subAt conclusion k)
+                → HatBelow (certificateOf file) conclusion (size (termOf conclusion)) k ⊎ OpenHolds (certificateOf file) e (λ s. s ≡ subAt conclusion k) → ⊥
+            go v u (inl h) = v .1 h
+            go v u (inr h) = u .1 (stands-open k (u .0) .1 h)
+
+        fine : (k : ℕ) → k < size (termOf conclusion) → ¬ On left k → FineEntry (certificateOf file) e conclusion k
+        fine k inside off = record {
+          covered = λ r. (
+              let on : On risky k = g .on k .1 (record { inside = let w = concluded .whole in omega arith; risky = r }) in go on (ℕ-discrete (getD bare k 0) 1)
+              );
+        }
+          where
+            go : On risky k → Dec (On bare k)
+                → HatBelow (certificateOf file) conclusion (size (termOf conclusion)) k ⊎ OpenHolds (certificateOf file) e (λ s. s ≡ subAt conclusion k)
+            go on (yes bare) = inl (l .gone k bare off)
+            go on (no gone) = inr (stands-open k on .0 (b .gone k on gone))
+
+        first-fine : {r : Found} → FirstNot (λ k. ¬ On left k) (size (termOf conclusion)) r
+            → FirstNot (FineSpot (certificateOf file) rule) (size (rule .conclusion)) r
+        first-fine (fails {n} is inside off all) =
+            let small : n < size (rule .conclusion) = rw term inside in
+            fails is small (λ h. off (λ on. not-fine n on (fine-at n small .1 h))) (λ k low. fine-at k (omega arith) .0 (fine k (omega arith) (all k low)))
+        first-fine (holds is all) = holds is (λ k low. fine-at k low .0 (let small = rw term at low in fine k small (all k small)))
+
+        pub uncovered-rule : ¬ SomeFlagged e opened (IsSecret (certificateOf file)) → {r : Found} {n : ℕ} → n ≡ size (termOf conclusion)
+            → FirstNot (λ k. ¬ On left k) n r → r ≡ uncovered (certificateOf file) rule
+        unfolding uncovered
+        uncovered-rule none-secret all found =
+            rw (answer-no (dead? (certificateOf file) rule) (λ d. none-secret (secret-open .1 (dead-entries .0 d))), uncovered)
+            (first-only (fine? (certificateOf file) rule) (first-fine (rw all at found)))
+
+-- The premise and the conclusion of a rule block.
+pub premise-is : {b e : List ℕ} → RuleBlock b → e ≡ firstEntries b → length e ≡ 4 * firstCount b → PremiseIs e (ruleOf b .premise)
+unfolding ruleOf
+premise-is {b} {e} block part long = record {
+  entries = record {
+    some-term = λ off. rw part (block .premise (λ z. off (omega arith)));
+    whole = λ off. rw part (block .premise-whole (λ z. off (omega arith)));
+    short = let l = block .premise-short in omega arith;
+  };
+  empty = λ z. rw (eq-eqb (firstCount b) 0 (omega arith)) refl;
+  term = λ off. rw (ne-eqb (firstCount b) 0 (λ z. off (omega arith)), part) refl;
+}
+
+pub conclusion-is : {b e : List ℕ} → RuleBlock b → e ≡ secondEntries b → ruleOf b .conclusion ≡ termOf e
+unfolding ruleOf
+conclusion-is block part = rw part refl
+
+pub conclusion-concluded : {file b e : List ℕ} → Laid file → RuleBlock b → e ≡ secondEntries b → length e ≡ 4 * secondCount b → Concluded file e
+conclusion-concluded laid block part long =
+    record { laid = laid; term = rw part (block .conclusion); whole = rw part (block .conclusion-whole); short = let l = block .conclusion-short in omega arith }

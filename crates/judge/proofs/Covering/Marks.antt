@@ -1,0 +1,323 @@
+-- Laws of marks: what a pattern laid on a term covers, by the pattern's symbol. Assumes nothing.
+use mathlib.Core.Path.{_≡_, refl, sym, ap, _∙_}
+use mathlib.Core.List.{List, [], _∷_}
+use mathlib.Core.Logic.{_⊎_, inl, inr, _↔_}
+use mathlib.Core.Option.{some, Option·none-ne-some}
+use Prim.Native.Nat.{ℕ, _+_, _*_, _<_, _≤_}
+use native.Mathlib.Omega.{arith}
+use borrow.Rule.Slice.PartAt.{part-to-end}
+use lib.ListN.{length, drop, length-drop}
+use Rattle.terms.specs.Term.{Term, Variable, variable, atom, pair, encrypted, Sort, plain, marked, named, replace}
+use Rattle.terms.specs.Tag.{pairTag, encryptionTag, markedTag, sortTag}
+use Rattle.terms.specs.Place.{Turn, Place, left, right, inside, subtermAt}
+use Rattle.terms.specs.Instance.{Matches}
+use Rattle.terms.specs.Entry.{size, termOf, tagAt, valueAt, Reads, Begins}
+use Rattle.terms.specs.Reading.{First, first-atom, first-pair, first-encrypted, first-variable, first}
+use Rattle.terms.proofs.EntryLaws.{termOf-reads, term-reads, begins, fits, PairFirst, pair-first, right-begins, EncryptionFirst, encryption-first, from-length}
+use Rattle.terms.specs.Entry.{from, entryAt}
+use Rattle.terms.specs.OneTerm.{IsEncryption}
+use Rattle.terms.specs.TermGraph.{rightIn}
+use Rattle.terms.proofs.TermGraphLaws.{pair-in, encryption-in}
+use Rattle.terms.proofs.PlaceLaws.{subtermAt-replace}
+use Rattle.terms.specs.Entry.{Placed}
+use Rattle.terms.proofs.PlacedLaws.{placed, within, placed-below, at-or-above-entry}
+use Rattle.judge.specs.Hat.{Mark}
+use Rattle.judge.specs.CoverEntries.{subAt, Painted, Raised, MarkOver, Laying}
+use Rattle.judge.proofs.Covering.Flags.{painted-raised, raised-none, raised-as, raised-twice}
+
+-- What stands at a place is a marked variable: not at the root of another term.
+module _ {h k : ℕ} where
+  pub mark-marked : (x : ℕ) (u : Term Variable) → MarkOver (variable (named marked x)) u h k ↔ ((h ≤ k) × (k < h + size u))
+  unfolding subtermAt entryAt
+  mark-marked x u = (
+    λ m. to (m .place) (m .stands) (m .under) (m .low) (m .high),
+    λ w. record {
+      number = x;
+      place = [];
+      subterm = u;
+      stands = refl;
+      under = refl;
+      low = omega (arith, w .0);
+      high = omega (arith, w .1);
+    },
+  )
+    where
+      to : (p : Place) {n : ℕ} {s : Term Variable} → subtermAt p (variable (named marked x)) ≡ some (variable (named marked n)) → subtermAt p u ≡ some s
+          → h + entryAt p u ≤ k → k < h + entryAt p u + size s → (h ≤ k) × (k < h + size u)
+      to [] {n} {s} e f l g = let same : s ≡ u = cc in let is : size s ≡ size u = ap size same in (omega arith, omega arith)
+      to (left ∷ p) e f l g = absurd (Option·none-ne-some _ e)
+      to (right ∷ p) e f l g = absurd (Option·none-ne-some _ e)
+      to (inside ∷ p) e f l g = absurd (Option·none-ne-some _ e)
+
+  pub mark-plain : (x : ℕ) (u : Term Variable) → ¬ MarkOver (variable (named plain x)) u h k
+  unfolding subtermAt
+  mark-plain x u m = go (m .place) (m .stands)
+    where
+      go : (p : Place) → subtermAt p (variable (named plain x)) ≡ some (variable (named marked (m .number))) → ⊥
+      go [] e = let z : _≡_ {A = ℕ} 0 1 = cc in omega arith
+      go (left ∷ p) e = Option·none-ne-some _ e
+      go (right ∷ p) e = Option·none-ne-some _ e
+      go (inside ∷ p) e = Option·none-ne-some _ e
+
+  pub mark-atom : (a : ℕ) (u : Term Variable) → ¬ MarkOver (atom a) u h k
+  unfolding subtermAt
+  mark-atom a u m = go (m .place) (m .stands)
+    where
+      go : (p : Place) → subtermAt p (atom a) ≡ some (variable (named marked (m .number))) → ⊥
+      go [] e = let z : _≡_ {A = ℕ} 0 1 = cc in omega arith
+      go (left ∷ p) e = Option·none-ne-some _ e
+      go (right ∷ p) e = Option·none-ne-some _ e
+      go (inside ∷ p) e = Option·none-ne-some _ e
+
+  -- A mark one turn further down.
+  turned : (a : Turn) {at : ℕ} {good u below over : Term Variable} → ((p : Place) → subtermAt (a ∷ p) good ≡ subtermAt p below)
+      → ((p : Place) → subtermAt (a ∷ p) u ≡ subtermAt p over) → ((p : Place) → at + entryAt p over ≡ h + entryAt (a ∷ p) u)
+      → MarkOver below over at k → MarkOver good u h k
+  turned a {at} {good} {u} {below} {over} stands under number m = record {
+    number = m .number;
+    place = a ∷ m .place;
+    subterm = m .subterm;
+    stands = stands (m .place) ∙ m .stands;
+    under = under (m .place) ∙ m .under;
+    low = omega (arith, m .low, number (m .place));
+    high = omega (arith, m .high, number (m .place));
+  }
+
+  pub mark-encrypted : (i j : ℕ) (a c : Term Variable) → MarkOver (encrypted i a) (encrypted j c) h k ↔ MarkOver a c (h + 1) k
+  unfolding subtermAt entryAt
+  mark-encrypted i j a c = (
+    λ m. to (m .place) (m .stands) (m .under) (m .low) (m .high),
+    turned inside (λ p. refl) (λ p. refl) (λ p. omega arith),
+  )
+    where
+      to : (p : Place) {n : ℕ} {s : Term Variable} → subtermAt p (encrypted i a) ≡ some (variable (named marked n)) → subtermAt p (encrypted j c) ≡ some s
+          → h + entryAt p (encrypted j c) ≤ k → k < h + entryAt p (encrypted j c) + size s → MarkOver a c (h + 1) k
+      to [] e f l g = let z : _≡_ {A = ℕ} 0 1 = cc in absurd (omega arith)
+      to (left ∷ p) e f l g = absurd (Option·none-ne-some _ e)
+      to (right ∷ p) e f l g = absurd (Option·none-ne-some _ e)
+      to (inside ∷ p) e f l g = record { number = _; place = p; subterm = _; stands = e; under = f; low = omega arith; high = omega arith }
+
+  pub mark-pair : (a b c d : Term Variable) → MarkOver (pair a b) (pair c d) h k ↔ (MarkOver a c (h + 1) k ⊎ MarkOver b d (h + 1 + size c) k)
+  unfolding subtermAt entryAt
+  mark-pair a b c d = (λ m. to (m .place) (m .stands) (m .under) (m .low) (m .high), back)
+    where
+      to : (p : Place) {n : ℕ} {s : Term Variable} → subtermAt p (pair a b) ≡ some (variable (named marked n)) → subtermAt p (pair c d) ≡ some s
+          → h + entryAt p (pair c d) ≤ k → k < h + entryAt p (pair c d) + size s → MarkOver a c (h + 1) k ⊎ MarkOver b d (h + 1 + size c) k
+      to [] e f l g = let z : _≡_ {A = ℕ} 0 1 = cc in absurd (omega arith)
+      to (inside ∷ p) e f l g = absurd (Option·none-ne-some _ e)
+      to (left ∷ p) e f l g = inl (record { number = _; place = p; subterm = _; stands = e; under = f; low = omega arith; high = omega arith })
+      to (right ∷ p) e f l g = inr (record { number = _; place = p; subterm = _; stands = e; under = f; low = omega arith; high = omega arith })
+
+      back : MarkOver a c (h + 1) k ⊎ MarkOver b d (h + 1 + size c) k → MarkOver (pair a b) (pair c d) h k
+      back (inl m) = turned left (λ p. refl) (λ p. refl) (λ p. omega arith) m
+      back (inr m) = turned right (λ p. refl) (λ p. refl) (λ p. omega arith) m
+
+-- On the entries this is document 01's mark at or above the place.
+pub mark-place : {t u s good : Term Variable} {h k : ℕ} {q p : Place} → Placed t h q u → Placed t k p s → Matches good u → Mark good q p ↔ MarkOver good u h k
+mark-place {t} {u} {s} {good} {h} {k} {q} {p} high low match = (to, back)
+  where
+    to : Mark good q p → MarkOver good u h k
+    to m =
+        let v = replace (match .by) (variable (named marked (m .number))) in
+        let under : subtermAt (m .place) u ≡ some v = rw (match .same) at (subtermAt-replace (match .by) (m .place) good (m .stands)) in
+        let b = at-or-above-entry (placed-below high (placed (m .place) u under)) low .0 (m .above) in
+        record { number = m .number; place = m .place; subterm = v; stands = m .stands; under = under; low = b .0; high = b .1 }
+
+    back : MarkOver good u h k → Mark good q p
+    back m = record {
+      number = m .number;
+      place = m .place;
+      stands = m .stands;
+      above = at-or-above-entry (placed-below high (placed (m .place) u (m .under))) low .1 (m .low, m .high);
+    }
+
+-- What an encryption's marks cover lies strictly below it.
+pub mark-inside : {good u : Term Variable} {h k : ℕ} → IsEncryption good → Matches good u → MarkOver good u h k → (h < k) × (k < h + size u)
+unfolding replace size
+mark-inside {good} {u} {h} {k} is match m =
+    let content = replace (match .by) (is .content) in
+    let term : u ≡ encrypted (is .key) content = sym (match .same) ∙ ap (replace (match .by)) (is .is) in
+    let inner = mark-encrypted {h = h} {k = k} (is .key) (is .key) (is .content) content .0 (rw (is .is, term) at m) in
+    let room = within (placed (inner .place) content (inner .under)) in
+    let l = inner .low in let g = inner .high in let whole : size u ≡ 1 + size content = ap size term in
+    (omega arith, omega arith)
+
+from-reads : (e : List ℕ) (n : ℕ) {l : List (Term Variable)} → Reads (drop n e) l → Reads (from n e) l
+from-reads e n r = rw part-to-end r
+
+-- The steps of the walk that lays a pattern on the term at entry h.
+module _ {p e : List ℕ} {h : ℕ} (l : Laying p e h) where
+  here : {t : Term Variable} → subAt e h ≡ t → Reads (drop (4 * h) e) (t ∷ l .term .others)
+  here is = rw part-to-end at (term-reads (l .term) is)
+
+  -- The term's entries are within.
+  pub laid-end : {r : ℕ} → r ≡ size (subAt e h) → 4 * (h + r) ≤ length e
+  laid-end {r} is =
+      let room = fits (subAt e h) (here refl) in
+      let start = l .inside in omega (arith, length-drop (4 * h) e)
+
+  -- The next part, with the pattern's part on it.
+  next : {a c : Term Variable} {m n : List (Term Variable)} {q : List ℕ} {k : ℕ} → Reads q (a ∷ m) → Reads (drop (4 * k) e) (c ∷ n) → Matches a c → Laying q e k
+  next {a} {c} {q = q} {k} pattern term match =
+      let is : termOf q ≡ a = termOf-reads pattern in
+      let there : subAt e k ≡ c = termOf-reads (from-reads e (4 * k) term) in
+      let b = begins (from-reads e (4 * k) term) in
+      record {
+        pattern = begins pattern;
+        term = b;
+        match = rw (is, there) match;
+        inside = let room = b .room in omega (arith, from-length (4 * k) e);
+        short = l .short;
+      }
+
+  -- A pair on both sides.
+  pub record PairLaid : Type 0 where
+    pub first : PairFirst p
+    pub c : Term Variable
+    pub d : Term Variable
+    pub more : List (Term Variable)
+    pub term : subAt e h ≡ pair c d
+    pub left-term : Reads (drop (4 * (h + 1)) e) (c ∷ d ∷ more)
+    pub right-term : Reads (drop (4 * rightIn e h) e) (d ∷ more)
+    pub left-match : Matches (first .left) c
+    pub right-match : Matches (first .right) d
+
+  pub pair-laid : tagAt p ≡ pairTag → PairLaid
+  unfolding replace
+  pair-laid tag =
+      let f = pair-first (l .pattern) tag in
+      let is : termOf p ≡ pair (f .left) (f .right) = termOf-reads (f .whole) in
+      let by = l .match .by in
+      let term : subAt e h ≡ pair (replace by (f .left)) (replace by (f .right)) = sym (l .match .same) ∙ ap (replace by) is in
+      let i = pair-in e h (here term) in
+      record {
+        first = f;
+        c = replace by (f .left);
+        d = replace by (f .right);
+        more = l .term .others;
+        term = term;
+        left-term = i .left;
+        right-term = i .right;
+        left-match = record { by = by; same = refl };
+        right-match = record { by = by; same = refl };
+      }
+
+  module _ (w : PairLaid) where
+    pub left-pattern : Begins (from 4 p)
+    left-pattern = begins (w .first .below)
+
+    pub left-begins : Begins (from (4 * (h + 1)) e)
+    left-begins = begins (from-reads e (4 * (h + 1)) (w .left-term))
+
+    pub left-within : 4 * (h + 1) ≤ length e
+    left-within = let b = left-begins .room in omega (arith, from-length (4 * (h + 1)) e)
+
+    pub left-laying : Laying (from 4 p) e (h + 1)
+    left-laying = next (w .first .below) (w .left-term) (w .left-match)
+
+    module _ {i j : ℕ} (past : i ≡ size (termOf (from 4 p))) (right : j ≡ size (subAt e (h + 1))) where
+      right-entry : h + 1 + j ≡ rightIn e h
+      unfolding rightIn
+      right-entry = ap (λ (n : ℕ). h + 1 + n) (right ∙ ap (λ (q : List ℕ). size (termOf q)) (part-to-end e (4 * (h + 1))))
+
+      pub right-laying : Laying (from (4 * (1 + i)) p) e (h + 1 + j)
+      right-laying = rw right-entry (next (right-begins (w .first) past) (w .right-term) (w .right-match))
+
+      pub pair-raised : {a b c : List ℕ} → Raised a b (MarkOver (termOf (from 4 p)) (subAt e (h + 1)) (h + 1))
+          → Raised b c (MarkOver (termOf (from (4 * (1 + i)) p)) (subAt e (h + 1 + j)) (h + 1 + j)) → Raised a c (MarkOver (termOf p) (subAt e h) h)
+      pair-raised r s = raised-as (raised-twice r s) same
+        where
+          parts : (termOf (from 4 p) ≡ w .first .left) × (termOf (from (4 * (1 + i)) p) ≡ w .first .right) ×
+              (termOf p ≡ pair (w .first .left) (w .first .right))
+          parts = (termOf-reads (w .first .below), termOf-reads (right-begins (w .first) past), termOf-reads (w .first .whole))
+
+          left-is : subAt e (h + 1) ≡ w .c
+          left-is = termOf-reads (from-reads e (4 * (h + 1)) (w .left-term))
+
+          right-is : subAt e (h + 1 + j) ≡ w .d
+          right-is = rw right-entry (termOf-reads (from-reads e (4 * rightIn e h) (w .right-term)))
+
+          far : j ≡ size (w .c)
+          far = right ∙ ap size left-is
+
+          same : (k : ℕ) → (MarkOver (termOf (from 4 p)) (subAt e (h + 1)) (h + 1) k ⊎ MarkOver (termOf (from (4 * (1 + i)) p)) (subAt e (h + 1 + j))
+              (h + 1 + j) k)
+              ↔ MarkOver (termOf p) (subAt e h) h k
+          same k =
+              let m = mark-pair {h = h} {k = k} (w .first .left) (w .first .right) (w .c) (w .d) in
+              rw (parts .0, parts .1, parts .2, left-is, right-is, w .term, far) (m .1, m .0)
+
+  -- An encryption on both sides.
+  pub record EncryptionLaid : Type 0 where
+    pub first : EncryptionFirst p
+    pub key : ℕ
+    pub c : Term Variable
+    pub more : List (Term Variable)
+    pub term : subAt e h ≡ encrypted key c
+    pub content-term : Reads (drop (4 * (h + 1)) e) (c ∷ more)
+    pub content-match : Matches (first .content) c
+
+  pub encryption-laid : tagAt p ≡ encryptionTag → EncryptionLaid
+  unfolding replace
+  encryption-laid tag =
+      let f = encryption-first (l .pattern) tag in
+      let by = l .match .by in
+      let term = sym (l .match .same) ∙ ap (replace by) (termOf-reads (f .whole)) in
+      record {
+        first = f;
+        key = _;
+        c = replace by (f .content);
+        more = l .term .others;
+        term = term;
+        content-term = encryption-in e h (here term) .content;
+        content-match = record { by = by; same = refl };
+      }
+
+  module _ (w : EncryptionLaid) where
+    pub content-laying : Laying (from 4 p) e (h + 1)
+    content-laying = next (w .first .below) (w .content-term) (w .content-match)
+
+    pub encryption-raised : {a b : List ℕ} → Raised a b (MarkOver (termOf (from 4 p)) (subAt e (h + 1)) (h + 1))
+        → Raised a b (MarkOver (termOf p) (subAt e h) h)
+    encryption-raised r = raised-as r same
+      where
+        content-is : subAt e (h + 1) ≡ w .c
+        content-is = termOf-reads (from-reads e (4 * (h + 1)) (w .content-term))
+
+        same : (k : ℕ) → MarkOver (termOf (from 4 p)) (subAt e (h + 1)) (h + 1) k ↔ MarkOver (termOf p) (subAt e h) h k
+        same k =
+            let m = mark-encrypted {h = h} {k = k} _ (w .key) (w .first .content) (w .c) in
+            rw (termOf-reads (w .first .below), termOf-reads (w .first .whole), content-is, w .term) (m .1, m .0)
+
+  -- A mark: every entry of the term is at or below it.
+  pub mark-raised : tagAt p ≡ markedTag → {a b : List ℕ} {r : ℕ} → r ≡ size (subAt e h) → Painted a b h (h + r) 1 → Raised a b (MarkOver (termOf p) (subAt e h) h)
+  unfolding sortTag
+  mark-raised tag {a} {b} {r} is painted = raised-as (painted-raised painted) (λ k. go k (first (l .pattern .reads)))
+    where
+      marked-sort : (s : Sort) → tagAt p ≡ sortTag s → s ≡ marked
+      marked-sort plain g = absurd (omega arith)
+      marked-sort marked g = refl
+
+      go : (k : ℕ) → First (tagAt p) (valueAt p) (drop 4 p) (l .pattern .term ∷ l .pattern .others)
+          → ((h ≤ k) × (k < h + r)) ↔ MarkOver (termOf p) (subAt e h) h k
+      go k (first-variable {s = s} g v n q m) =
+          let w = mark-marked {h = h} {k = k} (valueAt p) (subAt e h) in
+          rw (termOf-reads (rw q at (l .pattern .reads)), marked-sort s g, is) (w .1, w .0)
+      go k (first-atom g q m) = absurd (omega arith)
+      go k (first-pair g n q m) = absurd (omega arith)
+      go k (first-encrypted g q m) = absurd (omega arith)
+
+  -- Any other symbol has no mark.
+  pub no-mark : ¬ (tagAt p ≡ pairTag) → ¬ (tagAt p ≡ encryptionTag) → ¬ (tagAt p ≡ markedTag) → {a : List ℕ} → length a ≡ 64 → Raised a a (MarkOver (termOf p) (subAt e h) h)
+  unfolding sortTag
+  no-mark no-pair no-encryption no-marked {a} long = raised-none long (λ k. go k (first (l .pattern .reads)))
+    where
+      plain-sort : (s : Sort) → tagAt p ≡ sortTag s → s ≡ plain
+      plain-sort plain g = refl
+      plain-sort marked g = absurd (no-marked g)
+
+      go : (k : ℕ) → First (tagAt p) (valueAt p) (drop 4 p) (l .pattern .term ∷ l .pattern .others) → ¬ MarkOver (termOf p) (subAt e h) h k
+      go k (first-atom g q m) = rw (termOf-reads (rw q at (l .pattern .reads))) (mark-atom {h = h} {k = k} (valueAt p) (subAt e h))
+      go k (first-pair g n q m) = absurd (no-pair g)
+      go k (first-encrypted g q m) = absurd (no-encryption g)
+      go k (first-variable {s = s} g v n q m) = rw (termOf-reads (rw q at (l .pattern .reads)), plain-sort s g) (mark-plain {h = h} {k = k} (valueAt p) (subAt e h))

@@ -1,0 +1,192 @@
+-- A file that has passed numbers 1 to 8 has no foreign atoms, and cover by messages over the listed and the foreign atoms
+-- alone is the same cover. Assumes nothing.
+use mathlib.Core.Path.{_≡_}
+use mathlib.Core.List.{List}
+use mathlib.Core.Logic.{_↔_, inl, inr}
+use mathlib.Core.Option.{some}
+use Prim.Native.Nat.{ℕ, _<_, _≤_}
+use native.Mathlib.Omega.{arith}
+use native.Mathlib.Decide.{decLt, decLe}
+use lib.ListN.{length}
+use Rattle.blocks.specs.Kinds.{secretKind, goodKind, badKind, ruleKind}
+use Rattle.blocks.specs.Limits.{mostEntries}
+use Rattle.blocks.specs.Block.{blockAt, firstEntries}
+use Rattle.blocks.proofs.KindLaws.{secret-lists, good-lists, bad-lists}
+use Rattle.blocks.proofs.Parts.{first-length}
+use Rattle.terms.specs.Term.{Term, variable, atom, pair, encrypted, Variable, instance, replace}
+use Rattle.terms.specs.Atom.{Atom, IsKey, isKey?}
+use Rattle.terms.proofs.AtomLaws.{key-listed, length-atoms}
+use Rattle.terms.specs.Place.{Place, subtermAt}
+use Rattle.terms.specs.Turns.{by-turns}
+use Rattle.terms.specs.Instance.{Matches, Share}
+use Rattle.terms.specs.Decisions.{dec-or}
+use Rattle.terms.specs.Built.{Built, MessageAtom}
+use Rattle.terms.proofs.BuiltLaws.{built-match, built-share}
+use Rattle.terms.proofs.OneTermLaws.{TermRight, secret-bare, atomRight, pairRight, encryptedRight, variableRight}
+use Rattle.judge.specs.Certificate.{Certificate, Rule, Listed}
+use Rattle.judge.specs.File.{patternOf, secretOf, ruleOf, certificateOf, fileAtoms}
+use Rattle.judge.specs.Meaning.{Formed}
+use Rattle.judge.specs.Cover.{Risky, isVariable, sharesSecret, SureHat, NoHat, sharesNoGood, isBad, Open}
+use Rattle.judge.specs.Foreign.{Holding, NoForeign, ProperMatch, ProperShare, ProperRisky, ProperSureHat, ProperNoHat, ProperOpen, SameCover}
+use Rattle.judge.specs.Foreign as proper
+use Rattle.judge.proofs.Files.LaidLaws.{fits, pattern-right, premise-right, conclusion-right}
+use Rattle.judge.proofs.Files.Members.{listed}
+
+-- ---- the atoms and keys of a term
+
+-- A right term's are listed; so are a secret's.
+right-built : {atoms : List Atom} {kind : ℕ} {t : Term Variable} → TermRight atoms kind t → Built (λ a. a < length atoms) (IsKey atoms) t
+unfolding Built
+right-built (atomRight l) = l
+right-built (pairRight w v) = (right-built w, right-built v)
+right-built (encryptedRight i w) = (i, right-built w)
+right-built (variableRight l k) = tt
+
+secret-built : {atoms : List Atom} {kind : ℕ} {t : Term Variable} → kind ≡ secretKind → TermRight atoms kind t
+    → Built (λ a. a < length atoms) (IsKey atoms) (instance (λ x. atom 0) t)
+unfolding Built replace
+secret-built k (atomRight l) = l
+secret-built k (pairRight w v) = (secret-built k w, secret-built k v)
+secret-built k (encryptedRight i w) = (i, secret-built k w)
+secret-built k (variableRight {s = s} l n) = absurd (secret-bare s k n)
+
+-- Of other atoms and keys.
+module _ {A B K L : ℕ → Type 0} (atoms : (a : ℕ) → A a → B a) (keys : (k : ℕ) → K k → L k) where
+  built-more : {X : Type 0} (t : Term X) → Built A K t → Built B L t
+  unfolding Built
+  built-more (variable x) b = tt
+  built-more (atom a) b = atoms a b
+  built-more (pair t u) b = (built-more t (b .0), built-more u (b .1))
+  built-more (encrypted k t) b = (keys k (b .0), built-more t (b .1))
+
+  holding-more : {certificate : Certificate} → Holding A K certificate → Holding B L certificate
+  holding-more w = record {
+    secrets = λ m s. built-more m (w .secrets m s);
+    goods = λ t g. built-more t (w .goods t g);
+    bads = λ t b. built-more t (w .bads t b);
+    premises = λ rule l t e. built-more t (w .premises rule l t e);
+    conclusions = λ rule l. built-more (rule .conclusion) (w .conclusions rule l);
+  }
+
+-- A subterm's are the term's.
+built-subterm : (A K : ℕ → Type 0) {X : Type 0} (p : Place) (t : Term X) {s : Term X} → subtermAt p t ≡ some s → Built A K t → Built A K s
+unfolding Built
+built-subterm A K {X} =
+    by-turns (λ (p : Place) (t s : Term X). Built A K t → Built A K s)
+    (λ t b. b) (λ p t u s h b. h (b .0)) (λ p t u s h b. h (b .1)) (λ p k t s h b. h (b .1))
+
+-- ---- a file that has passed numbers 1 to 8
+
+module _ (file : List ℕ) (w : Formed file) where
+  -- The atoms and keys of listed terms are listed.
+  holding : Holding (λ a. a < length (fileAtoms file)) (IsKey (fileAtoms file)) (certificateOf file)
+  unfolding certificateOf secretOf
+  holding = record {
+    secrets = listed file secretKind secretOf _ (λ i h k. secret-built k (pattern-right file i (w .blocks i h) (secret-lists k)));
+    goods = listed file goodKind patternOf _ (λ i h k. right-built (pattern-right file i (w .blocks i h) (good-lists k)));
+    bads = listed file badKind patternOf _ (λ i h k. right-built (pattern-right file i (w .blocks i h) (bad-lists k)));
+    premises = listed file ruleKind ruleOf _ (λ i h k t e. right-built (premise-right file i (w .blocks i h) k t e));
+    conclusions = listed file ruleKind ruleOf _ (λ i h k. right-built (conclusion-right file i (w .blocks i h) k));
+  }
+
+  -- There are at most 126.
+  few : length (fileAtoms file) ≤ mostEntries
+  unfolding fileAtoms
+  few =
+      let l = w .long in
+      let f = fits file 0 (w .blocks 0 (omega arith)) in
+      let r = f .room in
+      omega (arith, length-atoms (firstEntries (blockAt file 0)), first-length (blockAt file 0) f)
+
+  pub no-foreign : NoForeign (certificateOf file)
+  unfolding certificateOf fileAtoms
+  no-foreign = record {
+    terms = let f = few in holding-more (λ a l. omega arith) (λ k i. omega (arith, key-listed i)) holding;
+    keys = λ k f i. omega (arith, few, key-listed i);
+  }
+
+-- ---- the same cover
+
+module _ (c : Certificate) (all : Holding (MessageAtom (c .atoms)) (IsKey (c .atoms)) c) where
+  abbrev Proper : {X : Type 0} → Term X → Type 0
+  Proper t = Built (MessageAtom (c .atoms)) (IsKey (c .atoms)) t
+
+  atom? : (a : ℕ) → Dec (MessageAtom (c .atoms) a)
+  atom? a = dec-or (decLt a (length (c .atoms))) (λ n. decLe 1000 a)
+
+  subterm : (p : Place) (t : Term Variable) {s : Term Variable} → subtermAt p t ≡ some s → Proper t → Proper s
+  subterm = built-subterm (MessageAtom (c .atoms)) (IsKey (c .atoms))
+
+  shared : {X Y : Type 0} {s : Term X} {t : Term Y} → Proper s → Proper t → Share s t → ProperShare c s t
+  shared = built-share atom? (isKey? (c .atoms)) 1000 (inr (omega arith))
+
+  matched : {X Y : Type 0} {p : Term X} {t : Term Y} → Proper p → Proper t → Matches p t → ProperMatch c p t
+  matched = built-match atom? (isKey? (c .atoms)) 1000 (inr (omega arith))
+
+  risky-same : {t : Term Variable} → Proper t → Risky c t ↔ ProperRisky c t
+  risky-same {t} b = (to, back)
+    where
+      to : Risky c t → ProperRisky c t
+      to (isVariable e) = proper.isVariable e
+      to (sharesSecret {secret = m} l s) = proper.sharesSecret l (shared b (all .secrets m l) s)
+
+      back : ProperRisky c t → Risky c t
+      back (proper.isVariable e) = isVariable e
+      back (proper.sharesSecret l s) = sharesSecret l (s .share)
+
+  hat-same : {t : Term Variable} → Proper t → (p : Place) → SureHat c t p ↔ ProperSureHat c t p
+  hat-same {t} b p = (to, back)
+    where
+      to : SureHat c t p → ProperSureHat c t p
+      to h = record {
+        place = h .place;
+        above = h .above;
+        subterm = h .subterm;
+        stands = h .stands;
+        good = h .good;
+        listed = h .listed;
+        match = matched (all .goods (h .good) (h .listed)) (subterm (h .place) t (h .stands) b) (h .match);
+        mark = h .mark;
+        notBad = λ bad l s. h .notBad bad l (s .share);
+      }
+
+      back : ProperSureHat c t p → SureHat c t p
+      back h = record {
+        place = h .place;
+        above = h .above;
+        subterm = h .subterm;
+        stands = h .stands;
+        good = h .good;
+        listed = h .listed;
+        match = h .match .match;
+        mark = h .mark;
+        notBad = λ bad l s. h .notBad bad l (shared (all .bads bad l) (subterm (h .place) t (h .stands) b) s);
+      }
+
+  no-hat-same : {t : Term Variable} → Proper t → NoHat c t ↔ ProperNoHat c t
+  no-hat-same {t} b = (to, back)
+    where
+      to : NoHat c t → ProperNoHat c t
+      to (sharesNoGood n) = proper.sharesNoGood (λ good l s. n good l (s .share))
+      to (isBad {bad = bad} l m) = proper.isBad l (matched (all .bads bad l) b m)
+
+      back : ProperNoHat c t → NoHat c t
+      back (proper.sharesNoGood n) = sharesNoGood (λ good l s. n good l (shared (all .goods good l) b s))
+      back (proper.isBad l m) = isBad l (m .match)
+
+  open-same : {t : Term Variable} → Proper t → (p : Place) → Open c t p ↔ ProperOpen c t p
+  open-same {t} b p = (
+    λ o. record { every = λ q above k u e. no-hat-same (subterm q t e b) .0 (o .every q above k u e) },
+    λ o. record { every = λ q above k u e. no-hat-same (subterm q t e b) .1 (o .every q above k u e) },
+  )
+
+-- Of every rule of a file that has passed numbers 1 to 8.
+pub same-cover : (file : List ℕ) → Formed file → (rule : Rule) → Listed (certificateOf file) rule → SameCover (certificateOf file) rule
+unfolding certificateOf fileAtoms
+same-cover file w rule l =
+    let all = holding-more (λ a h. inl h) (λ k i. i) (holding file w) in
+    record {
+      risky = λ p t e. risky-same (certificateOf file) all (subterm (certificateOf file) all p (rule .conclusion) e (all .conclusions rule l));
+      sureHats = λ p. hat-same (certificateOf file) all (all .conclusions rule l) p;
+      opens = λ premise e p. open-same (certificateOf file) all (all .premises rule l premise e) p;
+    }

@@ -1,0 +1,119 @@
+-- A step whose premise is safe adds a safe message.
+use mathlib.Core.Path.{_≡_, refl, ap, _∙_}
+use mathlib.Core.List.{[], _∷_, _++_}
+use mathlib.Core.Option.{some}
+use Prim.Native.Nat.{ℕ}
+use native.Mathlib.Omega.{arith}
+use Rattle.terms.specs.Term.{Term, Message, Variable, replace, instance}
+use Rattle.terms.specs.Place.{Place, subtermAt}
+use Rattle.terms.specs.Instance.{Matches, Share}
+use Rattle.terms.proofs.InstanceLaws.{replace-message, replace-asTerm, matches-replace}
+use Rattle.terms.proofs.PlaceLaws.{subtermAt-replace, strictly-above-below, at-or-above-below, OnTheWay, on-the-way, Composite, composite, isPair, isEncrypted}
+use Rattle.terms.proofs.PlaceLaws.{Edge, exact, below, Origin, origin}
+use Rattle.judge.specs.Certificate.{Rule, Certificate, Secret}
+use Rattle.judge.specs.Hat.{Hat, Protected}
+use Rattle.judge.specs.Cover.{SureHat, NoHat, sharesNoGood, isBad, Open, AtOpenPlace, Risky, isVariable}
+use Rattle.judge.specs.Cover.{sharesSecret, Covered, sureHat, inPremise, Passes, dead, covered}
+use Rattle.judge.specs.Conditions.{MeetsAll}
+use Rattle.judge.proofs.Runs.Safe.{Safe, HatAbove, safe-no-secret, protected-under, safe-part}
+use Rattle.judge.proofs.Runs.Derive.{HatRoot, hat-root}
+
+module _ {certificate : Certificate} (meets : MeetsAll certificate) (by : Variable → Message) where
+  -- A term and a pattern with the term's instance for an instance share it.
+  shared : {pattern t : Term Variable} → Matches pattern (instance by t) → Share pattern t
+  shared {t} match = record { message = instance by t; left = match; right = record { by = by; same = refl } }
+
+  -- What may stand above an open place becomes no hat.
+  no-hat : {t good : Term Variable} → NoHat certificate t → Hat certificate good (instance by t) → ⊥
+  no-hat {good} (sharesNoGood noGood) hat = noGood good (hat .listed) (shared (hat .match))
+  no-hat (isBad {bad = bad} listed match) hat = hat .notBad bad listed (matches-replace by match)
+
+  -- So no hat stands strictly above an open place of an instance.
+  open-no-hat : {premise t : Term Variable} {p : Place} → Open certificate premise p → subtermAt p premise ≡ some t →
+      HatAbove certificate (instance by premise) p → ⊥
+  unfolding replace
+  open-no-hat {premise} {t} {p} isOpen stands x =
+      go (composite (x .above .turn) (x .above .rest) (way .subterm) (way .onward))
+    where
+      way : OnTheWay (subtermAt (x .place) premise) (x .above .turn ∷ x .above .rest) t
+      way = on-the-way (x .place) (x .above .turn ∷ x .above .rest) premise (rw (x .above .split) at stands)
+
+      same : x .message ≡ instance by (way .subterm)
+      same = let there = subtermAt-replace by (x .place) premise (way .stands) in let found = x .stands in cc
+
+      root : HatRoot certificate (x .message)
+      root = hat-root meets (x .hat)
+
+      go : Composite (way .subterm) → ⊥
+      go (isPair e) =
+          let f = root .same in let g = same in let h = ap (instance by) e in
+          let z : _≡_ {A = ℕ} 0 1 = cc in omega arith
+      go (isEncrypted {k = k} {u = u} e) =
+          no-hat (isOpen .every (x .place) (x .above) k u (way .stands ∙ ap some e)) (rw (same, e) at (x .hat))
+
+  -- What stands at an open place of a safe premise is safe itself.
+  open-safe : {rule : Rule} {t : Term Variable} (x : AtOpenPlace certificate rule t) →
+      Safe certificate (instance by (x .premise)) → Safe certificate (instance by t)
+  open-safe x = safe-part (x .place) (subtermAt-replace by (x .place) (x .premise) (x .stands))
+      (open-no-hat (x .isOpen) (x .stands))
+
+  -- The instance of a sure hat is a hat, and protects what lies at or below the place.
+  sure-protected : {t : Term Variable} {p : Place} (r : Place) → SureHat certificate t p →
+      Protected certificate (instance by t) (p ++ r)
+  sure-protected {t} {p} r x = record {
+    place = x .place;
+    above = strictly-above-below r (x .above);
+    message = instance by (x .subterm);
+    stands = subtermAt-replace by (x .place) t (x .stands);
+    good = x .good;
+    hat = record {
+      listed = x .listed;
+      match = matches-replace by (x .match);
+      notBad = λ bad listed match. x .notBad bad listed (shared match);
+    };
+    mark = record {
+      number = x .mark .number;
+      place = x .mark .place;
+      stands = x .mark .stands;
+      above = at-or-above-below r (x .mark .above);
+    };
+  }
+
+  -- A secret in an instance comes from a risky place.
+  origin-risky : {t : Term Variable} {p : Place} {s : Message} → Secret certificate s → (x : Origin by t p s) →
+      Risky certificate (x .subterm)
+  unfolding subtermAt
+  origin-risky {s} secret x = go (x .edge)
+    where
+      go : Edge (x .subterm) (x .rest) → Risky certificate (x .subterm)
+      go (below e) = isVariable e
+      go (exact e) =
+          let found : subtermAt [] (instance by (x .subterm)) ≡ some s = rw e at (x .found) in
+          sharesSecret secret (record {
+            message = s;
+            left = record { by = by; same = cc };
+            right = record { by = λ x. absurd x; same = replace-message (λ x. absurd x) s };
+          })
+
+  -- The conclusion of a rule that passes is safe if its premise is.
+  pub safe-conclusion : (rule : Rule) → Passes certificate rule →
+      ((premise : Term Variable) → rule .premise ≡ some premise → Safe certificate (instance by premise)) →
+      Safe certificate (instance by (rule .conclusion))
+  safe-conclusion rule (dead x) safe =
+      let secret-safe = open-safe (x .stands) (safe (x .stands .premise) (x .stands .given)) in
+      absurd (safe-no-secret (rw (replace-asTerm by (x .secret)) at secret-safe) (x .listed))
+  safe-conclusion rule (covered every) safe = record { safe = go }
+    where
+      go : (p : Place) (s : Message) → Secret certificate s → subtermAt p (instance by (rule .conclusion)) ≡ some s →
+          Protected certificate (instance by (rule .conclusion)) p
+      go p s secret e = rw (o .split) (shelter (every (o .place) (o .subterm) (o .stands) (origin-risky secret o)))
+        where
+          o : Origin by (rule .conclusion) p s
+          o = origin by (rule .conclusion) p e
+
+          shelter : Covered certificate rule (o .place) (o .subterm) →
+              Protected certificate (instance by (rule .conclusion)) (o .place ++ o .rest)
+          shelter (sureHat x) = sure-protected (o .rest) x
+          shelter (inPremise x) =
+              protected-under (o .place) (subtermAt-replace by (o .place) (rule .conclusion) (o .stands))
+              (open-safe x (safe (x .premise) (x .given)) .safe (o .rest) s secret (o .found))

@@ -1,0 +1,171 @@
+-- The blocks before the rules are a file of their own, which lists the same secrets and patterns and so judges every rule
+-- as the whole file does. Assumes nothing.
+use mathlib.Core.Path.{_≡_, sym, ap, subst, _∙_}
+use mathlib.Core.Bool.{Bool, true, false}
+use mathlib.Core.List.{List, map, List·Memᴰ, Memᴰ·cast, Memᴰ·map, Memᴰ·of-map}
+use Prim.Native.Nat.{ℕ, _-_, _*_, _<_, _≤_}
+use native.Mathlib.Omega.{arith}
+use native.Mathlib.Decide.{decLt}
+use lib.ListN.{length, take, drop}
+use lib.Seq.{length-take-le}
+use Rattle.blocks.specs.Kinds.{secretKind, goodKind, badKind, ruleKind}
+use Rattle.blocks.specs.Limits.{blockSize}
+use Rattle.blocks.specs.Block.{blockAt, kindOf}
+use Rattle.blocks.proofs.Parts.{block-before}
+use Rattle.terms.specs.declared.valid.Found.{Found}
+use Rattle.terms.specs.declared.valid.Found.the-variants.{Nothing}
+use Rattle.terms.specs.Term.{Term, Message, Variable}
+use Rattle.terms.specs.Place.{Place}
+use Rattle.terms.specs.Entry.{size}
+use Rattle.terms.specs.Decide.{answer}
+use Rattle.terms.proofs.AnswerLaws.{answer-same}
+use Rattle.terms.specs.First.{FirstNot, fails, holds, firstNot}
+use Rattle.terms.proofs.FirstLaws.{first-is, first-only}
+use Rattle.judge.specs.Certificate.{Certificate, Rule, Secret, Good, Bad}
+use Rattle.judge.specs.File.{blockCount, blocksOf, ofKind, patternOf, secretOf, certificateOf}
+use Rattle.judge.specs.Laid.{Laid}
+use Rattle.judge.specs.Cover.{SureHat, NoHat, sharesNoGood, isBad, AtOpenPlace, Risky, isVariable, sharesSecret, Covered, sureHat, inPremise, Dead}
+use Rattle.judge.specs.Decisions.{dead?}
+use Rattle.judge.specs.Verdict.{FineSpot, fine?, uncovered}
+use Rattle.judge.specs.Judgement.{OnlyRulesFrom, Heads}
+use Rattle.judge.proofs.Files.Members.{block-listed, listed-block}
+
+-- ---- what the judging of a rule asks of a certificate
+
+-- What one certificate lists of secrets and patterns, the other does too.
+record Sublists (c d : Certificate) : Type 0 where
+  secret : (m : Message) → Secret c m → Secret d m
+  good : (t : Term Variable) → Good c t → Good d t
+  bad : (t : Term Variable) → Bad c t → Bad d t
+
+module _ {c d : Certificate} (out : Sublists c d) (back : Sublists d c) where
+  no-hat : {t : Term Variable} → NoHat c t → NoHat d t
+  no-hat (sharesNoGood none) = sharesNoGood (λ g l. none g (back .good g l))
+  no-hat (isBad {bad} l m) = isBad (out .bad bad l) m
+
+  at-open : {rule : Rule} {t : Term Variable} → AtOpenPlace c rule t → AtOpenPlace d rule t
+  at-open o = record {
+    premise = o .premise;
+    given = o .given;
+    place = o .place;
+    stands = o .stands;
+    isOpen = record { every = λ q a k t s. no-hat (o .isOpen .every q a k t s) };
+  }
+
+  dead : {rule : Rule} → Dead c rule → Dead d rule
+  dead r = record { secret = r .secret; listed = out .secret (r .secret) (r .listed); stands = at-open (r .stands) }
+
+  risky : {t : Term Variable} → Risky c t → Risky d t
+  risky (isVariable e) = isVariable e
+  risky (sharesSecret {secret} l s) = sharesSecret (out .secret secret l) s
+
+  sure-hat : {t : Term Variable} {p : Place} → SureHat c t p → SureHat d t p
+  sure-hat h = record {
+    place = h .place;
+    above = h .above;
+    subterm = h .subterm;
+    stands = h .stands;
+    good = h .good;
+    listed = out .good (h .good) (h .listed);
+    match = h .match;
+    mark = h .mark;
+    notBad = λ b l. h .notBad b (back .bad b l);
+  }
+
+  covered : {rule : Rule} {p : Place} {t : Term Variable} → Covered c rule p t → Covered d rule p t
+  covered (sureHat h) = sureHat (sure-hat h)
+  covered (inPremise o) = inPremise (at-open o)
+
+fine : {c d : Certificate} → Sublists c d → Sublists d c → (rule : Rule) (k : ℕ) → FineSpot c rule k → FineSpot d rule k
+fine out back rule k f r = covered out back (f (risky back out r))
+
+first : {P Q : ℕ → Type 0} → ((k : ℕ) → P k → Q k) → ((k : ℕ) → Q k → P k) → {count : ℕ} {f : Found} → FirstNot P count f → FirstNot Q count f
+first to from (fails {n} e l off all) = fails e l (λ q. off (from n q)) (λ k h. to k (all k h))
+first to from (holds e all) = holds e (λ k h. to k (all k h))
+
+same-rule : {c d : Certificate} → Sublists c d → Sublists d c → (rule : Rule) → uncovered c rule ≡ uncovered d rule
+unfolding uncovered
+same-rule {c} {d} out back rule =
+    let one : answer (dead? c rule) ≡ answer (dead? d rule) = answer-same (dead? c rule) (dead? d rule) (dead out back) (dead back out) in
+    let two : firstNot (fine? c rule) (size (rule .conclusion)) ≡ firstNot (fine? d rule) (size (rule .conclusion)) =
+    first-only (fine? d rule) (first (fine out back rule) (fine back out rule) (first-is (fine? c rule) (size (rule .conclusion)))) in
+    ap (λ (b : Bool). elim b [ true ↦ Nothing | false ↦ firstNot (fine? c rule) (size (rule .conclusion)) ]) one
+    ∙ ap (λ (f : Found). elim (answer (dead? d rule)) [ true ↦ Nothing | false ↦ f ]) two
+
+-- ---- the head of a file
+
+mapped : {A : Type 0} (f : List ℕ → A) {l k : List (List ℕ)} → ((b : List ℕ) → List·Memᴰ b l → List·Memᴰ b k)
+    → {a : A} → List·Memᴰ a (map f l) → List·Memᴰ a (map f k)
+mapped f {l} into m = let w = Memᴰ·of-map f l m in Memᴰ·cast (sym (w .2)) (Memᴰ·map f (into (w .0) (w .1)))
+
+module _ {file : List ℕ} {n : ℕ} (laid : Laid file) (only : OnlyRulesFrom file n) where
+  abbrev head : List ℕ
+  head = take (blockSize * n - 0) (drop 0 file)
+
+  long : length head ≡ blockSize * n
+  long =
+      let fits : blockSize * n ≤ length file = omega (arith, laid .exact, only .inside) in
+      let whole : blockSize * n - 0 ≡ blockSize * n = omega arith in
+      rw whole (length-take-le (blockSize * n) file fits)
+
+  count : blockCount head ≡ n
+  count = let l = long in omega arith
+
+  block : (i : ℕ) → i < n → blockAt head i ≡ blockAt file i
+  block i h = block-before file i (blockSize * n - 0) (omega arith)
+
+  -- A block of the head is a block of the file, and a block of the file that is no rule is one of the head.
+  into-file : (kind : ℕ) (b : List ℕ) → List·Memᴰ b (ofKind kind (blocksOf head)) → List·Memᴰ b (ofKind kind (blocksOf file))
+  into-file kind b m =
+      let w = listed-block head m in
+      let here : w .number < n = rw count at (w .inside) in
+      let same : blockAt head (w .number) ≡ blockAt file (w .number) = block (w .number) here in
+      let inside : w .number < blockCount file = omega (arith, here, only .inside) in
+      subst (λ (x : List ℕ). List·Memᴰ x (ofKind kind (blocksOf file))) (sym (w .same ∙ same))
+      (block-listed file inside (ap kindOf (sym same) ∙ w .of-kind))
+
+  into-head : (kind : ℕ) → (kind ≡ ruleKind → ⊥) → (b : List ℕ) → List·Memᴰ b (ofKind kind (blocksOf file)) → List·Memᴰ b (ofKind kind (blocksOf head))
+  into-head kind no-rule b m =
+      let w = listed-block file m in
+      elim (decLt (w .number) n) [
+        | yes here ↦
+            let same : blockAt head (w .number) ≡ blockAt file (w .number) = block (w .number) here in
+            subst (λ (x : List ℕ). List·Memᴰ x (ofKind kind (blocksOf head))) (sym (w .same ∙ sym same))
+            (block-listed head (rw count here) (ap kindOf same ∙ w .of-kind))
+        | no past ↦ absurd (no-rule (sym (w .of-kind) ∙ only .rules (w .number) (omega arith) (w .inside)))
+      ]
+
+  from-head : Sublists (certificateOf head) (certificateOf file)
+  unfolding certificateOf
+  from-head = record {
+    secret = λ m. mapped secretOf (into-file secretKind);
+    good = λ t. mapped patternOf (into-file goodKind);
+    bad = λ t. mapped patternOf (into-file badKind);
+  }
+
+  to-head : Sublists (certificateOf file) (certificateOf head)
+  unfolding certificateOf
+  to-head = record {
+    secret = λ m. mapped secretOf (into-head secretKind (λ e. absurd (omega arith)));
+    good = λ t. mapped patternOf (into-head goodKind (λ e. absurd (omega arith)));
+    bad = λ t. mapped patternOf (into-head badKind (λ e. absurd (omega arith)));
+  }
+
+  head-laid : Laid head
+  head-laid = record {
+    exact = rw count (sym long);
+    some-block = rw count (only .some-block);
+    few = rw count (omega (arith, only .inside, laid .few));
+    ordered = λ i j low h. let here : j < n = rw count at h in rw (block i (omega arith), block j here) (laid .ordered i j low (within here));
+    atoms = rw (block 0 (only .some-block)) (laid .atoms);
+    terms = λ i h. let here : i < n = rw count at h in rw (block i here) (laid .terms i (within here));
+    rules = λ i h. let here : i < n = rw count at h in rw (block i here) (laid .rules i (within here));
+    secrets = λ i h. let here : i < n = rw count at h in rw (block i here) (laid .secrets i (within here));
+    goods = λ i h. let here : i < n = rw count at h in rw (block i here) (laid .goods i (within here));
+  }
+    where
+      within : {i : ℕ} → i < n → i < blockCount file
+      within h = omega (arith, only .inside)
+
+  pub heads : Heads head file
+  heads = record { laid = head-laid; same = same-rule from-head to-head }

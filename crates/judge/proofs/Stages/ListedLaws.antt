@@ -1,0 +1,102 @@
+-- Laws of specs/Listed.antt: what a listed term says of hats and cover, for any certificate. Assumes nothing.
+use mathlib.Core.Path.{_≡_, refl, sym, ap, subst, _∙_}
+use mathlib.Core.Bool.{Bool, true, false}
+use mathlib.Core.Logic.{_⊎_, inl, inr, _↔_}
+use mathlib.Core.List.{Memᴰ·cast, Memᴰ·map, Memᴰ·of-map}
+use Prim.Native.Nat.{ℕ}
+use native.Mathlib.Omega.{arith}
+use Rattle.blocks.specs.Kinds.{secretKind, goodKind, badKind}
+use Rattle.terms.specs.Term.{Term, Message, Variable, variable, atom, replace, asTerm}
+use Rattle.terms.specs.Instance.{Matches, Share}
+use Rattle.terms.proofs.InstanceLaws.{replace-message, replace-asTerm}
+use Rattle.terms.specs.Decisions.{Says}
+use Rattle.terms.specs.Decide.{answer}
+use Rattle.judge.specs.Certificate.{Certificate, Rule, Secret}
+use Rattle.judge.specs.Cover.{NoHat, sharesNoGood, isBad, Risky, isVariable, sharesSecret, Dead, AtOpenPlace}
+use Rattle.judge.specs.Decisions.{NotBad}
+use Rattle.judge.specs.Listed.{listedOf, MatchesListed, SharesListed, IsSecret}
+
+-- What an answer says.
+pub answer-says : {P : Type 0} (b : Bool) (d : Dec P) → b ≡ answer d → Says b P
+answer-says true (yes p) e = p
+answer-says true (no n) e = let z : _≡_ {A = ℕ} 0 1 = cc in absurd (omega arith)
+answer-says false (yes p) e = let z : _≡_ {A = ℕ} 0 1 = cc in absurd (omega arith)
+answer-says false (no n) e = n
+
+-- Sharing is symmetric.
+pub share-sym : {X Y : Type 0} {s : Term X} {t : Term Y} → Share s t → Share t s
+share-sym h = record { message = h .message; left = h .right; right = h .left }
+
+-- A message and the term that it reads as have the same instance.
+message-matches : {X : Type 0} {m n : Message} → Matches (asTerm {X = X} m) n → Matches m n
+message-matches {m = m} h =
+    record { by = λ x. absurd x; same = replace-message (λ x. absurd x) m ∙ sym (replace-asTerm (h .by) m) ∙ h .same }
+
+term-matches : {X : Type 0} {m n : Message} → Matches m n → Matches (asTerm {X = X} m) n
+term-matches {m = m} h =
+    record { by = λ x. atom 0; same = replace-asTerm (λ x. atom 0) m ∙ sym (replace-message (h .by) m) ∙ h .same }
+
+pub share-message : {X Y : Type 0} {t : Term X} {m : Message} → Share t (asTerm {X = Y} m) ↔ Share t m
+share-message = (
+  λ h. record { message = h .message; left = h .left; right = message-matches (h .right) },
+  λ h. record { message = h .message; left = h .left; right = term-matches (h .right) },
+)
+
+-- Different messages read as different terms.
+pub asTerm-only : {m n : Message} → asTerm {X = Variable} m ≡ asTerm n → m ≡ n
+asTerm-only {m} {n} e = sym (replace-asTerm (λ x. atom 0) m) ∙ ap (replace (λ x. atom 0)) e ∙ replace-asTerm (λ x. atom 0) n
+
+module _ (c : Certificate) where
+  -- The term of a message is a listed secret if the message is.
+  pub secret-is : (m : Message) → IsSecret c (asTerm m) ↔ Secret c m
+  unfolding listedOf
+  secret-is m = (
+    λ h. to (Memᴰ·of-map asTerm (c .secrets) (h .listed)) (h .holds),
+    λ s. record { term = asTerm m; listed = Memᴰ·map asTerm s; holds = refl },
+  )
+    where
+      to : {p : Term Variable} → (n : Message) × Secret c n × (asTerm n ≡ p) → p ≡ asTerm m → Secret c m
+      to w e = Memᴰ·cast (sym (asTerm-only (w .2 ∙ e))) (w .1)
+
+  -- A rule is dead if a listed secret stands at an open place of its premise.
+  pub dead-is : (rule : Rule) → Dead c rule ↔ ((t : Term Variable) × IsSecret c t × AtOpenPlace c rule t)
+  unfolding listedOf
+  dead-is rule = (
+    λ h. (asTerm (h .secret), secret-is (h .secret) .1 (h .listed), h .stands),
+    λ w. (let o = Memᴰ·of-map asTerm (c .secrets) (w .1 .listed) in
+        record { secret = o .0; listed = o .1; stands = rw (o .2 ∙ w .1 .holds) (w .2) }),
+  )
+
+  module _ (t : Term Variable) where
+    -- No bad pattern shares an instance with the term.
+    pub not-bad-is : NotBad c t ↔ (SharesListed c badKind t → ⊥)
+    unfolding listedOf
+    not-bad-is = (λ n h. n (h .term) (h .listed) (h .holds), λ n bad l s. n (record { term = bad; listed = l; holds = s }))
+
+    -- No good pattern does, or the term is a bad one with its variables replaced.
+    pub no-hat-is : NoHat c t ↔ ((SharesListed c goodKind t → ⊥) ⊎ MatchesListed c badKind t)
+    unfolding listedOf
+    no-hat-is = (to, back)
+      where
+        to : NoHat c t → (SharesListed c goodKind t → ⊥) ⊎ MatchesListed c badKind t
+        to (sharesNoGood n) = inl (λ h. n (h .term) (h .listed) (h .holds))
+        to (isBad {bad} l m) = inr (record { term = bad; listed = l; holds = m })
+
+        back : (SharesListed c goodKind t → ⊥) ⊎ MatchesListed c badKind t → NoHat c t
+        back (inl n) = sharesNoGood (λ good l s. n (record { term = good; listed = l; holds = s }))
+        back (inr h) = isBad (h .listed) (h .holds)
+
+    -- A variable, or a term that shares an instance with a listed secret.
+    pub risky-is : Risky c t ↔ (((x : Variable) × (t ≡ variable x)) ⊎ SharesListed c secretKind t)
+    unfolding listedOf
+    risky-is = (to, back)
+      where
+        to : Risky c t → ((x : Variable) × (t ≡ variable x)) ⊎ SharesListed c secretKind t
+        to (isVariable {x} e) = inl (x, e)
+        to (sharesSecret {secret} l s) = inr (record { term = asTerm secret; listed = Memᴰ·map asTerm l; holds = share-sym (share-message .1 s) })
+
+        back : ((x : Variable) × (t ≡ variable x)) ⊎ SharesListed c secretKind t → Risky c t
+        back (inl w) = isVariable (w .1)
+        back (inr h) =
+            let o = Memᴰ·of-map asTerm (c .secrets) (h .listed) in
+            sharesSecret (o .1) (share-message .0 (share-sym (subst (λ (p : Term Variable). Share p t) (sym (o .2)) (h .holds))))
