@@ -13,8 +13,7 @@ use Rattle.blocks.specs.Block.{blockAt, kindOf}
 use Rattle.terms.specs.Term.{Term, Variable, variable, marked, named}
 use Rattle.terms.specs.Place.{Place, subtermAt}
 use Rattle.terms.specs.Instance.{Matches}
-use Rattle.terms.specs.Entry.{size, termOf, Begins}
-use Rattle.terms.specs.Entry.{from, entryAt}
+use Rattle.terms.specs.Entry.{size, termOf, Begins, from, entryAt}
 use Rattle.judge.specs.Certificate.{Certificate, Good}
 use Rattle.judge.specs.Laid.{Laid}
 use Rattle.judge.specs.Cover.{NoHat, Risky}

@@ -7,15 +7,13 @@ use lib.ListN.{length}
 use Prim.Native.Nat.{ℕ}
 use native.Mathlib.Decide.{ℕ-discrete, decLt}
 use native.Mathlib.Omega.{arith}
-use Rattle.terms.specs.Term.{Term, variable, atom, pair, encrypted, Message, replace, asTerm}
-use Rattle.terms.specs.Term.{Variable, plain, marked, named}
+use Rattle.terms.specs.Term.{Term, variable, atom, pair, encrypted, Message, replace, asTerm, Variable, plain, marked, named}
 use Rattle.terms.specs.Atom.{knownOf, atomAt}
 use Rattle.terms.specs.Place.{Place, subtermAt}
 use Rattle.terms.specs.Decide as decide
 use Rattle.terms.specs.Instance.{Matches, Share}
 use Rattle.terms.specs.Decisions.{dec-map, dec-not, dec-and, dec-or}
-use Rattle.terms.specs.Search.{any?, all?, member?, any-above?}
-use Rattle.terms.specs.Search.{all-above?, at-or-above?, any-place?}
+use Rattle.terms.specs.Search.{any?, all?, member?, any-above?, all-above?, at-or-above?, any-place?}
 use Rattle.judge.specs.Certificate.{Rule, Certificate, Secret, Good, Bad, Known, inverse}
 use Rattle.judge.specs.Hat.{Mark}
 use Rattle.judge.specs.Cover.{SureHat, NoHat, sharesNoGood, isBad, Open, AtOpenPlace, Risky, isVariable}

@@ -13,9 +13,8 @@ use Rattle.terms.specs.Term.{Term, Variable, asTerm, replace}
 use Rattle.terms.specs.Instance.{Matches, Share}
 use Rattle.terms.specs.Tag.{pairTag, SymbolTag, Tagged, isAtom, isPair, isEncryption, isVariable, isNone, tagged}
 use Rattle.terms.specs.Slot.{slotCount}
-use Rattle.terms.specs.Entry.{Begins, termOf, size, tagAt, valueAt}
+use Rattle.terms.specs.Entry.{Begins, termOf, size, tagAt, valueAt, from}
 use Rattle.terms.specs.TermGraph.{SizesOf}
-use Rattle.terms.specs.Entry.{from}
 use Rattle.terms.specs.Decisions.{dec-map}
 use Rattle.terms.specs.Search.{any?}
 use Rattle.judge.specs.Certificate.{Certificate}

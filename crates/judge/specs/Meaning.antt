@@ -11,8 +11,7 @@ use Rattle.blocks.specs.Check.{CheckRight}
 use Rattle.blocks.specs.Layout.{LayoutRight}
 use Rattle.terms.specs.Term.{Term, Variable}
 use Rattle.terms.specs.Place.{Place}
-use Rattle.terms.specs.Entry.{Placed}
-use Rattle.terms.specs.Entry.{termOf}
+use Rattle.terms.specs.Entry.{Placed, termOf}
 use Rattle.terms.specs.Atom.{Atom, atomsOf, AtomRight}
 use Rattle.terms.specs.TermEntry.{EntryRight}
 use Rattle.terms.specs.Each.{EntryIs}
@@ -21,11 +20,9 @@ use Rattle.judge.specs.declared.verdict.Fault.{Fault}
 use Rattle.judge.specs.declared.verdict.Fault.the-variants.{Length, Check, Kind, Missing, Layout, AtomEntry, TermEntry}
 use Rattle.judge.specs.declared.verdict.Fault.the-variants.{NotOneTerm, KnownSecret, NotClosed, KeyNotKept, Uncovered}
 use Rattle.judge.specs.Certificate.{Certificate, Rule}
-use Rattle.judge.specs.File.{blockCount, patternOf, secretOf, ruleOf, certificateOf}
-use Rattle.judge.specs.Cover.{Risky, Covered, Dead, Passes}
+use Rattle.judge.specs.File.{blockCount, patternOf, secretOf, ruleOf, certificateOf, fileAtoms, usedEntries}
+use Rattle.judge.specs.Cover.{Risky, Covered, Dead, Passes, FineAt}
 use Rattle.judge.specs.Conditions.{KnownAtom, WeaklyClosed, KeptKey}
-use Rattle.judge.specs.Cover.{FineAt}
-use Rattle.judge.specs.File.{fileAtoms, usedEntries}
 
 -- 1: not length 0, a multiple of 512, not above 32,768.
 pub record LengthRight (file : List ℕ) : Type 0 where

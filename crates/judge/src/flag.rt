@@ -4,8 +4,7 @@ ghost use Prim.Native.Nat.{_≤_};
 ghost use lib.ListN.{length};
 ghost use Rattle.terms.specs.Decisions.{Says};
 ghost use Rattle.terms.specs.First.{FirstNot};
-ghost use Rattle.judge.specs.CoverEntries.{entryFlags};
-ghost use Rattle.judge.specs.CoverEntries.{On, flagOf, putOff, toldOf, Renewed, Painted, Cleared, SomeOn};
+ghost use Rattle.judge.specs.CoverEntries.{entryFlags, On, flagOf, putOff, toldOf, Renewed, Painted, Cleared, SomeOn};
 use terms::valid::Found;
 
 // Room for the flags of a term.

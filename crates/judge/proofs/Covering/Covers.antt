@@ -17,18 +17,13 @@ use Rattle.terms.specs.declared.valid.Found.the-variants.{Nothing}
 use Rattle.terms.specs.Term.{Term, Variable, variable, named}
 use Rattle.terms.specs.Tag.{VariableTag, SymbolTag, sort-tag}
 use Rattle.terms.specs.Place.{Place}
-use Rattle.terms.specs.Entry.{size, termOf, tagAt, valueAt, Reads, Begins}
-use Rattle.terms.specs.Reading.{First, first-atom, first-pair, first-encrypted, first-variable}
-use Rattle.terms.specs.Reading.{first}
-use Rattle.terms.proofs.EntryLaws.{termOf-reads, suffix}
-use Rattle.terms.proofs.EntryLaws.{reads-variable}
-use Rattle.terms.specs.Entry.{from}
+use Rattle.terms.specs.Entry.{size, termOf, tagAt, valueAt, Reads, Begins, from, entryAt, Placed}
+use Rattle.terms.specs.Reading.{First, first-atom, first-pair, first-encrypted, first-variable, first}
+use Rattle.terms.proofs.EntryLaws.{termOf-reads, suffix, reads-variable, term-reads}
 use Rattle.terms.specs.Decisions.{Says, says-same}
 use Rattle.terms.proofs.AnswerLaws.{answer-yes, answer-no}
 use Rattle.terms.specs.First.{FirstNot, fails, holds}
 use Rattle.terms.proofs.FirstLaws.{first-only}
-use Rattle.terms.specs.Entry.{entryAt}
-use Rattle.terms.specs.Entry.{Placed}
 use Rattle.terms.proofs.PlacedLaws.{placed, within, spotted, subterm-at, spot-placed}
 use Rattle.judge.specs.Certificate.{Certificate, Rule}
 use Rattle.judge.specs.File.{certificateOf, ruleOf}
@@ -41,7 +36,6 @@ use Rattle.judge.specs.CoverEntries.{subAt, On, Cleared, Flags, Standing
 use Rattle.judge.specs.CoverEntries.{RiskyEntry, Wanted, isSecret, isRisky, WantedEntry, FineEntry, Concluded}
 use Rattle.judge.proofs.Covering.Flags.{RaisedBelow}
 use Rattle.judge.proofs.Stages.ListedLaws.{risky-is, dead-is}
-use Rattle.terms.proofs.EntryLaws.{term-reads}
 use Rattle.judge.proofs.Covering.Hats.{hat-place}
 use Rattle.judge.proofs.Covering.Opens.{open-place}
 

@@ -13,15 +13,10 @@ use Rattle.blocks.proofs.KindLaws.{good-lists}
 use Rattle.terms.specs.Term.{Term, Variable, replace}
 use Rattle.terms.specs.Place.{Place}
 use Rattle.terms.specs.Instance.{Matches}
-use Rattle.terms.specs.Entry.{size, termOf, tagAt, Begins}
-use Rattle.terms.proofs.EntryLaws.{reads-encrypted, termOf-reads, size-positive, fits}
+use Rattle.terms.specs.Entry.{size, termOf, tagAt, Begins, from, entryAt, Placed}
+use Rattle.terms.proofs.EntryLaws.{reads-encrypted, termOf-reads, size-positive, fits, encryption-first, from-length, term-reads}
 use Rattle.terms.specs.OneTerm.{IsEncryption, encryption?}
 use Rattle.terms.proofs.TermGraphLaws.{tag-in}
-use Rattle.terms.specs.Entry.{from}
-use Rattle.terms.proofs.EntryLaws.{encryption-first}
-use Rattle.terms.proofs.EntryLaws.{from-length}
-use Rattle.terms.specs.Entry.{entryAt}
-use Rattle.terms.specs.Entry.{Placed}
 use Rattle.terms.proofs.PlacedLaws.{placed, within, spotted, subterm-at, strictly-above-entry}
 use Rattle.judge.specs.Certificate.{Certificate, Good}
 use Rattle.judge.specs.File.{blockCount, patternOf, certificateOf}
@@ -30,7 +25,6 @@ use Rattle.judge.specs.Cover.{SureHat}
 use Rattle.judge.specs.Listed.{listedOf, AnyListed, HoldsAt, Searching, SharesListed}
 use Rattle.judge.specs.CoverEntries.{subAt, On, Raised, Cleared, SomeOn, Flags, MarkOver, Laying, Standing, HatOver, HatBelow}
 use Rattle.judge.proofs.Covering.Flags.{raised-none, raised-as, raised-twice, zero-off, zero-bits, cleared-none, cleared-as, cleared-twice}
-use Rattle.terms.proofs.EntryLaws.{term-reads}
 use Rattle.judge.proofs.Covering.Marks.{mark-inside, mark-place}
 use Rattle.judge.proofs.Stages.Listing.{one-found, none-found}
 use Rattle.judge.proofs.Stages.ListedLaws.{not-bad-is}

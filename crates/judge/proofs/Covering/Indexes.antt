@@ -9,8 +9,7 @@ use lib.ListN.{length, getD, set, length-set, replicate}
 use lib.Seq.{getD-set-same, getD-set-other}
 use Rattle.blocks.specs.Kinds.{secretKind}
 use Rattle.blocks.proofs.KindLaws.{secret-lists}
-use Rattle.terms.specs.Entry.{Begins, termOf}
-use Rattle.terms.specs.Entry.{from}
+use Rattle.terms.specs.Entry.{Begins, termOf, from}
 use Rattle.terms.proofs.AnswerLaws.{says-eq}
 use Rattle.terms.specs.Decisions.{Says, says-same}
 use Rattle.judge.specs.File.{blockCount, patternOf, certificateOf}

@@ -11,11 +11,9 @@ use lib.ListN.{length, getD}
 use Rattle.blocks.specs.Kinds.{goodKind, badKind}
 use Rattle.terms.specs.Term.{Term, Variable, encrypted}
 use Rattle.terms.specs.Place.{Place, subtermAt, StrictlyAbove}
-use Rattle.terms.specs.Entry.{size, termOf, Reads, Begins}
-use Rattle.terms.proofs.EntryLaws.{size-positive}
+use Rattle.terms.specs.Entry.{size, termOf, Reads, Begins, entryAt, Placed}
+use Rattle.terms.proofs.EntryLaws.{size-positive, term-reads}
 use Rattle.terms.specs.Decisions.{Says, says-same}
-use Rattle.terms.specs.Entry.{entryAt}
-use Rattle.terms.specs.Entry.{Placed}
 use Rattle.terms.proofs.PlacedLaws.{placed, within, spotted, subterm-at, placed-begins, strictly-above-entry}
 use Rattle.judge.specs.Certificate.{Certificate}
 use Rattle.judge.specs.Cover.{NoHat, Open}
@@ -23,7 +21,6 @@ use Rattle.judge.specs.Listed.{MatchesListed, SharesListed}
 use Rattle.judge.specs.Laid.{Laid}
 use Rattle.judge.specs.CoverEntries.{subAt, On, SomeOn, Painted, Flagged, OpenBelow, OpenAmong, OpenFlags, ClosedBelow, Concluded}
 use Rattle.judge.proofs.Covering.Flags.{on-small, painted-bits}
-use Rattle.terms.proofs.EntryLaws.{term-reads}
 use Rattle.judge.proofs.Covering.Hats.{encryption-tag}
 use Rattle.judge.proofs.Stages.ListedLaws.{no-hat-is}
 

@@ -21,10 +21,9 @@ use Rattle.terms.specs.TermEntry.{EntryRight}
 use Rattle.terms.specs.Each.{Each}
 use Rattle.terms.proofs.EachLaws.{each-of, each-take, each-drop}
 use Rattle.terms.proofs.OneTermLaws.{TermRight, one-begins, one-whole, right-term, secret-message}
-use Rattle.judge.specs.File.{blockCount, patternOf, ruleOf}
+use Rattle.judge.specs.File.{blockCount, patternOf, ruleOf, fileAtoms, usedEntries}
 use Rattle.judge.specs.Laid.{TermBlock, RuleBlock, SecretBlock, GoodBlock, Laid}
 use Rattle.judge.specs.Verdict.{lengthRight, lengthFault, blockFault, formFrom, formFault}
-use Rattle.judge.specs.File.{fileAtoms, usedEntries}
 use Rattle.judge.specs.Meaning.{LengthRight, KindRight, first, later, BlockRight}
 use Rattle.judge.proofs.Files.Exact.{first-block}
 use Rattle.judge.proofs.Files.Judged.{length-judged, used-both, used-length, block-judged}

@@ -2,8 +2,7 @@
 use mathlib.Core.Path.{_≡_, refl, sym, ap, subst}
 use mathlib.Core.Logic.{_⊎_, inl, inr, ⊎-elim}
 use mathlib.Core.Bool.{Bool, true, false}
-use mathlib.Core.List.{List, [], _∷_, List·Memᴰ, List·Memᴰ·head, List·Memᴰ·tail, List·Memᴰ·not-nil}
-use mathlib.Core.List.{List·Memᴰ·cases-cons, map, Memᴰ·of-map}
+use mathlib.Core.List.{List, [], _∷_, List·Memᴰ, List·Memᴰ·head, List·Memᴰ·tail, List·Memᴰ·not-nil, List·Memᴰ·cases-cons, map, Memᴰ·of-map}
 use Prim.Native.Nat.{ℕ, zero, suc, _+_, _<_, _≤_}
 use native.Mathlib.Decide.{ℕ-discrete}
 use native.Mathlib.Omega.{arith}
@@ -12,9 +11,8 @@ use lib.ListN.{length, getD}
 use Rattle.blocks.specs.Block.{blockAt, kindOf}
 use Rattle.terms.proofs.AnswerLaws.{says-eq}
 use Rattle.terms.specs.Decisions.{Says}
-use Rattle.judge.specs.File.{blocksFrom, blocksOf, ofKind, blockCount}
+use Rattle.judge.specs.File.{blocksFrom, blocksOf, ofKind, blockCount, kindCount}
 use Rattle.judge.specs.Meaning.{HasKind, Every}
-use Rattle.judge.specs.File.{kindCount}
 
 -- The block of a kind at a number.
 pub record BlockOf (file : List ℕ) (kind : ℕ) (b : List ℕ) : Type 0 where

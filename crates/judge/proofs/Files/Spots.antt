@@ -10,11 +10,10 @@ use native.Mathlib.Omega.{arith}
 use lib.ListN.{drop}
 use Rattle.terms.specs.Term.{Term, Variable}
 use Rattle.terms.specs.Place.{Place, subtermAt}
-use Rattle.terms.specs.Entry.{termOf, size}
+use Rattle.terms.specs.Entry.{termOf, size, Placed}
 use Rattle.terms.proofs.EntryLaws.{termOf-reads, size-positive}
 use Rattle.terms.specs.OneTerm.{OneTerm}
 use Rattle.terms.proofs.OneTermLaws.{one-alone}
-use Rattle.terms.specs.Entry.{Placed}
 use Rattle.terms.proofs.PlacedLaws.{placed, spot-placed, placed-reads, one-place, one-subterm, placed-within}
 use Rattle.judge.specs.Certificate.{Certificate, Rule}
 use Rattle.judge.specs.Cover.{Risky, Covered, FineAt}

@@ -26,16 +26,14 @@ use Rattle.judge.specs.declared.listed.Condition.{Condition}
 use Rattle.judge.specs.declared.listed.Condition.the-variants.{Unknown, Closed, Kept}
 use Rattle.judge.specs.declared.verdict.Verdict.the-variants.{Accepted, Refused}
 use Rattle.judge.specs.Certificate.{Certificate, Rule}
-use Rattle.judge.specs.File.{blockCount, ruleOf, certificateOf}
+use Rattle.judge.specs.File.{blockCount, ruleOf, certificateOf, kindCount, countsOf}
 use Rattle.judge.specs.Cover.{Risky, Covered, Dead, Passes, dead, covered}
 use Rattle.judge.specs.Conditions.{KnownAtom}
 use Rattle.judge.specs.Decisions.{known-atom?, risky?, dead?}
 use Rattle.judge.specs.Verdict.{missingFault, onKind, kindFault, kindAsked, Meets, meets?, faultOn, conditionAt, conditionFault, spotAt, FineSpot, fine?}
 use Rattle.judge.proofs.Files.Spots.{spot-stands, fine-spot, all-places, each-entry}
-use Rattle.judge.specs.File.{kindCount}
 use Rattle.judge.specs.Verdict.{uncovered, uncoveredRule, ruleFault, certificateFault}
 use Rattle.judge.specs.Verdict.{lengthFault, formFrom, formFault, faultOf, verdictOf, blockFault}
-use Rattle.judge.specs.File.{countsOf}
 use Rattle.judge.specs.Meaning.{LengthRight, BlockRight, BlockFaulty, HasKind, Formed, Every, SecretNotKnown, SecretClosed, RootKeyKept, Passing}
 use Rattle.judge.specs.Meaning.{FirstUncovered, Accepts, FirstAt, RefusedWith, lengthFails, blockFails, missing, secretKnown}
 use Rattle.judge.specs.Meaning.{secretNotClosed, keyNotKept, placeUncovered}

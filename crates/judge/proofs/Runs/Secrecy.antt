@@ -6,8 +6,7 @@ use Prim.Native.Nat.{ℕ}
 use Rattle.terms.specs.Term.{Term, atom, Message, Variable, instance}
 use Rattle.terms.specs.Place.{left, right, inside, Place, subtermAt}
 use Rattle.judge.specs.Certificate.{Certificate, Secret}
-use Rattle.judge.specs.Run.{Derives, Start, known, foreign, Step, Enabled, noPremise, derivable}
-use Rattle.judge.specs.Run.{AfterStep, kept, added, afterFrom, after}
+use Rattle.judge.specs.Run.{Derives, Start, known, foreign, Step, Enabled, noPremise, derivable, AfterStep, kept, added, afterFrom, after}
 use Rattle.judge.specs.Hat.{Protected}
 use Rattle.judge.specs.Conditions.{MeetsAll}
 use Rattle.judge.proofs.Runs.Safe.{Safe, safe-no-secret}

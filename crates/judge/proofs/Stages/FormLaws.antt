@@ -36,13 +36,11 @@ use Rattle.judge.specs.declared.verdict.Fault.{Fault}
 use Rattle.judge.specs.declared.verdict.Fault.the-variants.{Check, Kind, Missing, Layout, AtomEntry, TermEntry, NotOneTerm}
 use Rattle.judge.specs.declared.form.Judged.{Judged}
 use Rattle.judge.specs.declared.form.Judged.the-variants.{Fine, Faulty}
-use Rattle.judge.specs.File.{blockCount, blocksFrom, blocksOf, ofKind}
+use Rattle.judge.specs.File.{blockCount, blocksFrom, blocksOf, ofKind, fileAtoms, usedEntries, kindCount, countsOf}
 use Rattle.judge.specs.Judgement.{judgedOf, Spelled}
 use Rattle.judge.specs.Verdict.{lengthRight, kindRight, atomFault, entryFault, rootRight, patternFault}
-use Rattle.judge.specs.File.{fileAtoms, usedEntries}
 use Rattle.judge.specs.Verdict.{conclusionFault, rulePartsFault, termFault, entriesFault, blockFault, firstFault, formFrom}
 use Rattle.judge.specs.Verdict.{formFault, missingFault}
-use Rattle.judge.specs.File.{kindCount, countsOf}
 use Rattle.judge.proofs.Files.Judged.{used-both, used-length}
 
 -- ---- what the code's answer tells

@@ -27,11 +27,10 @@ use Rattle.judge.specs.declared.listed.Condition.{Condition}
 use Rattle.judge.specs.declared.listed.Condition.the-variants.{Unknown, Closed, Kept}
 use Rattle.judge.specs.Certificate.{Certificate, Rule}
 use Rattle.judge.specs.Decisions.{dead?}
-use Rattle.judge.specs.File.{blockCount, ruleOf, certificateOf}
+use Rattle.judge.specs.File.{blockCount, ruleOf, certificateOf, countsOf}
 use Rattle.judge.specs.Laid.{Laid, RuleBlock}
 use Rattle.judge.specs.Judgement.{judgedOf}
 use Rattle.judge.specs.Verdict.{lengthRight, lengthFault, formFault, missingFault, firstFault, onKind, kindFault}
-use Rattle.judge.specs.File.{countsOf}
 use Rattle.judge.specs.Verdict.{fine?, uncovered, uncoveredRule, kindAsked, conditionAt, conditionFault, ruleFault, certificateFault}
 use Rattle.judge.specs.Verdict.{faultOf, verdictOf}
 use Rattle.judge.specs.Values.{verdictValues, judgingValues}

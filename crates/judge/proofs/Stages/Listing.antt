@@ -2,8 +2,7 @@
 use mathlib.Core.Path.{_≡_, sym, ap, subst, _∙_}
 use mathlib.Core.Bool.{Bool, true, false}
 use mathlib.Core.Logic.{_⊎_, inl, inr}
-use mathlib.Core.List.{List, map, List·Memᴰ, List·Memᴰ·not-nil}
-use mathlib.Core.List.{Memᴰ·cast, Memᴰ·map, Memᴰ·of-map}
+use mathlib.Core.List.{List, map, List·Memᴰ, List·Memᴰ·not-nil, Memᴰ·cast, Memᴰ·map, Memᴰ·of-map}
 use Prim.Native.Nat.{ℕ, _-_, _*_, _<_}
 use lib.ListN.{length}
 use borrow.Author.Tests.{ne-eqb}
@@ -14,8 +13,7 @@ use Rattle.blocks.specs.Block.{blockAt, kindOf, firstCount, firstEntries}
 use Rattle.blocks.proofs.KindLaws.{which-lists}
 use Rattle.terms.specs.Term.{Term, Variable, atom, replace, asTerm}
 use Rattle.terms.proofs.InstanceLaws.{replace-asTerm}
-use Rattle.terms.specs.Entry.{Begins, termOf}
-use Rattle.terms.specs.Entry.{from}
+use Rattle.terms.specs.Entry.{Begins, termOf, from}
 use Rattle.terms.proofs.EntryLaws.{from-length}
 use Rattle.terms.specs.Decisions.{Says, says-same}
 use Rattle.terms.proofs.AnswerLaws.{says-yes, answer-yes, answer-no}

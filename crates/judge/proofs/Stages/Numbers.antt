@@ -12,20 +12,15 @@ use borrow.Author.Tests.{eq-eqb, ne-eqb}
 use Rattle.blocks.specs.Block.{blockAt, kindOf, firstEntries}
 use Rattle.terms.specs.Term.{Term, Message, Variable, variable, atom, pair, encrypted, replace, asTerm}
 use Rattle.terms.specs.Tag.{atomTag, pairTag, encryptionTag}
-use Rattle.terms.specs.Entry.{Begins, Reads, termsOf, termOf, symbolOf, withZero, before, beforeAll, tagAt, valueAt, size}
-use Rattle.terms.specs.Reading.{First, first-atom, first-pair, first-encrypted, first-variable}
-use Rattle.terms.specs.Reading.{first}
-use Rattle.terms.proofs.EntryLaws.{reads-atom, reads-pair, reads-encrypted, termOf-reads}
-use Rattle.terms.specs.Entry.{from}
-use Rattle.terms.proofs.EntryLaws.{pair-first, encryption-first, right-begins}
+use Rattle.terms.specs.Entry.{Begins, Reads, termsOf, termOf, symbolOf, withZero, before, beforeAll, tagAt, valueAt, size, from}
+use Rattle.terms.specs.Reading.{First, first-atom, first-pair, first-encrypted, first-variable, first}
+use Rattle.terms.proofs.EntryLaws.{reads-atom, reads-pair, reads-encrypted, termOf-reads, pair-first, encryption-first, right-begins}
 use Rattle.terms.specs.Atom.{Atom, atomsOf, atomAt, knownOf}
-use Rattle.terms.proofs.AtomLaws.{length-atoms}
-use Rattle.terms.proofs.AtomLaws.{known-byte, partner-bytes}
+use Rattle.terms.proofs.AtomLaws.{length-atoms, known-byte, partner-bytes}
 use Rattle.terms.specs.OneTerm.{IsEncryption}
 use Rattle.terms.specs.Decisions.{Says, says-same}
-use Rattle.terms.proofs.AnswerLaws.{says-eq, says-yes, says-no}
+use Rattle.terms.proofs.AnswerLaws.{says-eq, says-yes, says-no, answer-yes, answer-no}
 use Rattle.terms.specs.Decide.{answer}
-use Rattle.terms.proofs.AnswerLaws.{answer-yes, answer-no}
 use Rattle.judge.specs.declared.form.Judged.the-variants.{Fine, Faulty}
 use Rattle.judge.specs.declared.listed.Condition.{Condition}
 use Rattle.judge.specs.Certificate.{Certificate, Secret, inverse}

@@ -21,10 +21,9 @@ use Rattle.terms.specs.Slot.{slotCount}
 use Rattle.terms.specs.Instance.{Matches, Share}
 use Rattle.terms.proofs.InstanceLaws.{replace-asTerm}
 use Rattle.terms.specs.Occurs.{replace-twice}
-use Rattle.terms.specs.Entry.{Begins, termOf, tagAt, valueAt}
+use Rattle.terms.specs.Entry.{Begins, termOf, tagAt, valueAt, from}
 use Rattle.terms.specs.Reading.{First, first, first-atom, first-pair, first-encrypted, first-variable}
 use Rattle.terms.proofs.EntryLaws.{termOf-reads, begins, pair-first, from-length}
-use Rattle.terms.specs.Entry.{from}
 use Rattle.terms.proofs.RootLaws.{tags-apart, values-apart}
 use Rattle.judge.specs.File.{blockCount, patternOf, certificateOf}
 use mathlib.Core.Logic.{_⊎_, inl, inr, ⊎-elim, _↔_}

@@ -11,10 +11,9 @@ use Rattle.blocks.specs.Block.{blockAt, kindOf, firstEntries}
 use Rattle.blocks.proofs.Parts.{first-length}
 use Rattle.terms.specs.Term.{Term, variable, atom, pair, encrypted, replace}
 use Rattle.terms.specs.Instance.{Share}
-use Rattle.terms.specs.Entry.{termOf, size}
+use Rattle.terms.specs.Entry.{termOf, size, from}
 use Rattle.terms.proofs.EntryLaws.{size-positive}
 use Rattle.terms.specs.TermGraph.{SizesOf}
-use Rattle.terms.specs.Entry.{from}
 use Rattle.terms.specs.Sizes.{SizedFrom, KeptBelow}
 use Rattle.terms.proofs.SizeLaws.{sizes-at, sizes-kept}
 use Rattle.judge.specs.File.{blockCount, patternOf}

@@ -4,8 +4,7 @@ use mathlib.Core.Logic.{⊎-elim}
 use Prim.Native.Nat.{_+_, _-_, _≤_}
 use native.Mathlib.Omega.{arith}
 use Rattle.blocks.specs.Block.{kindOf}
-use Rattle.judge.specs.File.{blockCount}
-use Rattle.judge.specs.File.{kindCount}
+use Rattle.judge.specs.File.{blockCount, kindCount}
 use Rattle.judge.proofs.Stages.FormLaws.{kindLeft, left-all, left-none, left-one, left-other}
 use borrow.Author.Needs.{needs}
 use Rattle.judge.proofs.form.count_kind.Statement.{statement}
