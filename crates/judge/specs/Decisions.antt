@@ -7,7 +7,7 @@ use lib.ListN.{length}
 use Prim.Native.Nat.{ℕ}
 use native.Mathlib.Decide.{ℕ-discrete, decLt}
 use native.Mathlib.Omega.{arith}
-use Rattle.terms.specs.Term.{Term, variable, atom, pair, encrypted, Message, replace, asTerm, Variable, plain, marked, named}
+use Rattle.terms.specs.Term.{Term, variable, atom, pair, encrypted, Message, replace, asTerm, Variable, plain, marked, named, wrapped, encryption}
 use Rattle.terms.specs.Atom.{knownOf, atomAt}
 use Rattle.terms.specs.Place.{Place, subtermAt}
 use Rattle.terms.specs.Decide as decide
@@ -46,7 +46,7 @@ known-atom? certificate (atom a) =
     dec-map (λ h. record { number = a; same = refl; known = h })
     (λ h. let same : h .number ≡ a = cc in rw same at (h .known)) (known? certificate a)
 known-atom? certificate (pair m n) = no (λ h. let e = h .same in let z : _≡_ {A = ℕ} 0 1 = cc in omega arith)
-known-atom? certificate (encrypted k m) = no (λ h. let e = h .same in let z : _≡_ {A = ℕ} 0 1 = cc in omega arith)
+known-atom? certificate (wrapped w k m) = no (λ h. let e = h .same in let z : _≡_ {A = ℕ} 0 1 = cc in omega arith)
 
 -- 10
 unfoldable pub weakly-closed? : (certificate : Certificate) (m : Message) → Dec (WeaklyClosed certificate m)
@@ -63,7 +63,7 @@ weakly-closed? certificate (pair m n) =
     })
     (λ h. h .ofPair m n refl)
     (dec-or (secret? certificate m) (λ o. secret? certificate n))
-weakly-closed? certificate (encrypted k m) =
+weakly-closed? certificate (wrapped encryption k m) =
     dec-map (λ h. record {
       ofPair = λ m′ n e. let z : _≡_ {A = ℕ} 0 1 = cc in absurd (omega arith);
       ofEncrypted = λ m′ k′ e. let a : m ≡ m′ = cc in let b : k ≡ k′ = cc in rw (a, b) at h;
@@ -74,7 +74,7 @@ weakly-closed? certificate (encrypted k m) =
 -- 11
 unfoldable pub kept-key? : (certificate : Certificate) (good : Term Variable) → Dec (KeptKey certificate good)
 unfolding dec-map secret?
-kept-key? certificate (encrypted k t) =
+kept-key? certificate (wrapped encryption k t) =
     dec-map (λ h. record { key = k; inner = t; same = refl; kept = h })
     (λ h. let same : h .key ≡ k = cc in rw same at (h .kept)) (secret? certificate (atom (inverse certificate k)))
 kept-key? certificate (variable x) = no (λ h. let e = h .same in let z : _≡_ {A = ℕ} 0 1 = cc in omega arith)
@@ -87,13 +87,13 @@ marked? (variable (named plain n)) = no (λ w. let e = w .1 in let z : _≡_ {A 
 marked? (variable (named marked n)) = yes (n, refl)
 marked? (atom a) = no (λ w. let e = w .1 in let z : _≡_ {A = ℕ} 0 1 = cc in omega arith)
 marked? (pair t u) = no (λ w. let e = w .1 in let z : _≡_ {A = ℕ} 0 1 = cc in omega arith)
-marked? (encrypted k t) = no (λ w. let e = w .1 in let z : _≡_ {A = ℕ} 0 1 = cc in omega arith)
+marked? (wrapped wr k t) = no (λ w. let e = w .1 in let z : _≡_ {A = ℕ} 0 1 = cc in omega arith)
 
 unfoldable pub is-variable? : (t : Term Variable) → Dec ((x : Variable) × (t ≡ variable x))
 is-variable? (variable x) = yes (x, refl)
 is-variable? (atom a) = no (λ w. let e = w .1 in let z : _≡_ {A = ℕ} 0 1 = cc in omega arith)
 is-variable? (pair t u) = no (λ w. let e = w .1 in let z : _≡_ {A = ℕ} 0 1 = cc in omega arith)
-is-variable? (encrypted k t) = no (λ w. let e = w .1 in let z : _≡_ {A = ℕ} 0 1 = cc in omega arith)
+is-variable? (wrapped wr k t) = no (λ w. let e = w .1 in let z : _≡_ {A = ℕ} 0 1 = cc in omega arith)
 
 unfoldable pub mark? : (good : Term Variable) (q p : Place) → Dec (Mark good q p)
 unfolding dec-map dec-and any-place? marked? at-or-above?
@@ -190,7 +190,7 @@ module _ (certificate : Certificate) where
       here q (some (variable x)) e = other q e (λ k t f. let z : _≡_ {A = ℕ} 0 1 = cc in omega arith)
       here q (some (atom a)) e = other q e (λ k t f. let z : _≡_ {A = ℕ} 0 1 = cc in omega arith)
       here q (some (pair u w)) e = other q e (λ k t f. let z : _≡_ {A = ℕ} 0 1 = cc in omega arith)
-      here q (some (encrypted k t)) e =
+      here q (some (wrapped encryption k t)) e =
           dec-map (λ h k′ t′ f. let a : k ≡ k′ = cc in let b : t ≡ t′ = cc in rw (a, b) at h) (λ h. h k t e)
           (no-hat? (encrypted k t))
 

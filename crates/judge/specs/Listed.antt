@@ -11,7 +11,7 @@ use Rattle.blocks.specs.Limits.{mostTermBytes}
 use Rattle.blocks.specs.Block.{blockAt, kindOf, firstEntries}
 use Rattle.terms.specs.Term.{Term, Variable, asTerm, replace}
 use Rattle.terms.specs.Instance.{Matches, Share}
-use Rattle.terms.specs.Tag.{pairTag, SymbolTag, Tagged, isAtom, isPair, isEncryption, isVariable, isNone, tagged}
+use Rattle.terms.specs.Tag.{pairTag, SymbolTag, Tagged, isAtom, isPair, isWrapper, isVariable, isNone, tagged}
 use Rattle.terms.specs.Slot.{slotCount}
 use Rattle.terms.specs.Entry.{Begins, termOf, size, tagAt, valueAt, from}
 use Rattle.terms.specs.TermGraph.{SizesOf}
@@ -107,7 +107,7 @@ rootSlots = variableRoots + slotCount
 abbrev pub slotFor : {tag : ℕ} → Tagged tag → ℕ → ℕ → ℕ
 slotFor (isAtom e) n left = n % pairRoots
 slotFor (isPair e) n left = pairRoots + left % pairRoots
-slotFor (isEncryption e) n left = encryptionRoots + n % pairRoots
+slotFor (isWrapper w e) n left = encryptionRoots + n % pairRoots
 slotFor (isVariable s e) n left = variableRoots + n % slotCount
 slotFor (isNone (inl low)) n left = n % pairRoots
 slotFor (isNone (inr high)) n left = variableRoots + n % slotCount

@@ -21,7 +21,7 @@ use Rattle.terms.specs.OneTerm.{encryption?}
 use Rattle.terms.specs.Reading.{oneTerm?}
 use Rattle.terms.specs.First.{firstNot}
 use Rattle.terms.specs.Decisions.{dec-implies, dec-not}
-use Rattle.terms.specs.Term.{Term, Variable}
+use Rattle.terms.specs.Term.{Term, Variable, encryption}
 use Rattle.terms.specs.Place.{Spot, spots}
 use Rattle.terms.specs.Decide.{answer}
 use Rattle.judge.specs.declared.verdict.Fault.{Fault}

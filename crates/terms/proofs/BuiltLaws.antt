@@ -6,7 +6,7 @@ use Prim.Native.Nat.{ℕ}
 use native.Mathlib.Omega.{arith}
 use native.Mathlib.Decide.{decLt, decLe}
 use lib.ListN.{length}
-use Rattle.terms.specs.Term.{Term, variable, atom, pair, encrypted, Variable, replace}
+use Rattle.terms.specs.Term.{Term, variable, atom, pair, Variable, replace, wrapped}
 use Rattle.terms.specs.Instance.{Matches, Share}
 use Rattle.terms.specs.Atom.{Atom, IsKey, isKey?}
 use Rattle.terms.specs.Occurs.{replace-none}
@@ -22,7 +22,7 @@ module _ {A K : ℕ → Type 0} (A? : (a : ℕ) → Dec (A a)) (K? : (k : ℕ) �
   mend (variable x) = variable x
   mend (atom a) = elim (A? a) [ yes p ↦ atom a | no n ↦ atom f ]
   mend (pair t u) = pair (mend t) (mend u)
-  mend (encrypted k t) = elim (K? k) [ yes p ↦ encrypted k (mend t) | no n ↦ atom f ]
+  mend (wrapped w k t) = elim (K? k) [ yes p ↦ wrapped w k (mend t) | no n ↦ atom f ]
 
   -- What is mended is built.
   mend-built : {X : Type 0} (t : Term X) → Built A K (mend t)
@@ -34,9 +34,9 @@ module _ {A K : ℕ → Type 0} (A? : (a : ℕ) → Dec (A a)) (K? : (k : ℕ) �
       go (yes p) = p
       go (no n) = ok
   mend-built (pair t u) = (mend-built t, mend-built u)
-  mend-built {X} (encrypted k t) = go (K? k) (mend-built t)
+  mend-built {X} (wrapped w k t) = go (K? k) (mend-built t)
     where
-      go : (q : Dec (K k)) → Built A K (mend t) → Built {X = X} A K (elim q [ yes p ↦ encrypted k (mend t) | no n ↦ atom f ])
+      go : (q : Dec (K k)) → Built A K (mend t) → Built {X = X} A K (elim q [ yes p ↦ wrapped w k (mend t) | no n ↦ atom f ])
       go (yes p) b = (p, b)
       go (no n) b = ok
 
@@ -51,12 +51,12 @@ module _ {A K : ℕ → Type 0} (A? : (a : ℕ) → Dec (A a)) (K? : (k : ℕ) �
       go (yes p) = refl
       go (no n) = absurd (n b)
   mend-replace by (pair t u) b = ap₂ pair (mend-replace by t (b .0)) (mend-replace by u (b .1))
-  mend-replace {X} {Y} by (encrypted k t) b = go (K? k) (mend-replace by t (b .1))
+  mend-replace {X} {Y} by (wrapped w k t) b = go (K? k) (mend-replace by t (b .1))
     where
       go : (q : Dec (K k)) → mend (replace by t) ≡ replace (λ x. mend (by x)) t
-          → _≡_ {A = Term Y} (elim q [ yes p ↦ encrypted k (mend (replace by t)) | no n ↦ atom f ])
-          (encrypted k (replace (λ x. mend (by x)) t))
-      go (yes p) e = ap (encrypted k) e
+          → _≡_ {A = Term Y} (elim q [ yes p ↦ wrapped w k (mend (replace by t)) | no n ↦ atom f ])
+          (wrapped w k (replace (λ x. mend (by x)) t))
+      go (yes p) e = ap (wrapped w k) e
       go (no n) e = absurd (n (b .0))
 
   -- A built term stays as it is.

@@ -4,10 +4,10 @@ use mathlib.Core.Bool.{Bool, true, false, true≢false}
 use mathlib.Core.List.{List}
 use Prim.Native.Nat.{ℕ, _<_}
 use native.Mathlib.Omega.{arith}
-use Rattle.terms.specs.Term.{variable, atom, pair, encrypted, Message}
-use Rattle.terms.specs.Tag.{atomTag, pairTag, encryptionTag, Tagged, isAtom, isPair, isEncryption, isVariable, isNone, tagged, freeBy, freeTag}
+use Rattle.terms.specs.Term.{variable, atom, pair, encrypted, Message, wrapped, encryption}
+use Rattle.terms.specs.Tag.{atomTag, pairTag, encryptionTag, Tagged, isAtom, isPair, isWrapper, isVariable, isNone, tagged, freeBy, freeTag, wrapping-tag}
 use Rattle.terms.specs.Solve.{form}
-use Rattle.terms.specs.Graph.{atomNode, pairNode, encryptionNode, IsSymbol, made, Valid, Classes, ClassStep, Clash, Outcome, Any}
+use Rattle.terms.specs.Graph.{atomNode, pairNode, wrapperNode, IsSymbol, made, Valid, Classes, ClassStep, Clash, Outcome, Any}
 use Rattle.terms.specs.TermGraph.{variableNodes, nodeFor, nodeBy, nodeTag, nodeValue, firstChild, secondChild, nodeOf, AtHome}
 use Rattle.terms.specs.Meeting.{Symbols}
 use Rattle.terms.proofs.GraphLaws.{merge, stay, done, already, united, united-clash, apart-clash, united-classes}
@@ -18,7 +18,7 @@ unfoldable pub number : Message → ℕ
 number (variable x) = 0
 number (atom a) = a
 number (pair m n) = 0
-number (encrypted k m) = k
+number (wrapped w k m) = k
 
 pub made-form : (v : ℕ → Message) (n x l r : ℕ) → freeTag n ≡ false → form (made v (nodeBy n x l r)) ≡ n
 unfolding form made nodeBy freeTag
@@ -27,7 +27,7 @@ made-form v n x l r f = go (tagged n) f
     go : (w : Tagged n) → freeBy w ≡ false → form (made v (nodeFor w x l r)) ≡ n
     go (isAtom e) f = sym e
     go (isPair e) f = sym e
-    go (isEncryption e) f = sym e
+    go (isWrapper w e) f = sym e
     go (isVariable s e) f = absurd (true≢false f)
     go (isNone e) f = absurd (true≢false f)
 
@@ -38,7 +38,7 @@ made-number v n x l r f off = go (tagged n) f
     go : (w : Tagged n) → freeBy w ≡ false → number (made v (nodeFor w x l r)) ≡ x
     go (isAtom e) f = refl
     go (isPair e) f = absurd (off e)
-    go (isEncryption e) f = refl
+    go (isWrapper w e) f = refl
     go (isVariable s e) f = absurd (true≢false f)
     go (isNone e) f = absurd (true≢false f)
 
@@ -49,7 +49,7 @@ only-atom n f no-pair no-encryption = go (tagged n) f
     go : (w : Tagged n) → freeBy w ≡ false → n ≡ atomTag
     go (isAtom e) f = e
     go (isPair e) f = absurd (no-pair e)
-    go (isEncryption e) f = absurd (no-encryption e)
+    go (isWrapper w e) f = absurd (no-encryption (wrapping-tag w e))
     go (isVariable s e) f = absurd (true≢false f)
     go (isNone e) f = absurd (true≢false f)
 
@@ -130,12 +130,12 @@ module _ (s t : List ℕ) (name : ℕ → ℕ) (cs : Classes (nodeOf s t) name) 
           → Outcome (nodeOf s t) Any name next (λ v. v i ≡ v j) r
       unfolding nodeBy made
       equal-encryptions three same o =
-          let first : nodeOf s t a ≡ encryptionNode (nodeValue s t a) (firstChild s t a) = node-by s t a three in
-          let second : nodeOf s t b ≡ encryptionNode (nodeValue s t b) (firstChild s t b) = node-by s t b (sym tags ∙ three) in
+          let first : nodeOf s t a ≡ wrapperNode encryption (nodeValue s t a) (firstChild s t a) = node-by s t a three in
+          let second : nodeOf s t b ≡ wrapperNode encryption (nodeValue s t b) (firstChild s t b) = node-by s t b (sym tags ∙ three) in
           as-named
           (λ v x e. let q : encrypted (nodeValue s t a) (v (firstChild s t a)) ≡ encrypted (nodeValue s t b) (v (firstChild s t b)) =
           sym (ap (made v) first) ∙ both-make v x e ∙ ap (made v) second in cc)
-          (λ v p is. ap (made v) first ∙ ap₂ encrypted same p ∙ sym (ap (made v) second)) o
+          (λ v p is. ap (made v) first ∙ ap₂ (wrapped encryption) same p ∙ sym (ap (made v) second)) o
 
       pub equal-pairs : {next : ℕ → ℕ} {r : Bool} → nodeTag s t a ≡ pairTag
           → Outcome (nodeOf s t) Any (merge a b name) next

@@ -9,9 +9,9 @@ use native.Mathlib.Numerals.{add-one}
 use lib.Dec.{ltb, eqb}
 use lib.ListN.{length, getD, take, set, length-take, drop-of-length-le}
 use lib.Seq.{take-all, take-suc, take-suc-set, slice, slice-cons}
-use Rattle.terms.specs.Term.{Term, variable, atom, pair, encrypted, Sort, Variable, named}
-use Rattle.terms.specs.Tag.{sortTag, variables, Tagged, isAtom, isPair, isEncryption, isVariable, isNone, tagged, childrenOf}
-use Rattle.terms.specs.Entry.{Symbol, atomSymbol, pairSymbol, encryptionSymbol, variableSymbol, tagOf, numbered, symbolBy, symbolOf, before, beforeAll}
+use Rattle.terms.specs.Term.{Term, variable, atom, pair, Sort, Variable, named, wrapped}
+use Rattle.terms.specs.Tag.{sortTag, variables, Tagged, isAtom, isPair, isWrapper, isVariable, isNone, tagged, childrenOf}
+use Rattle.terms.specs.Entry.{Symbol, atomSymbol, pairSymbol, wrapperSymbol, variableSymbol, tagOf, numbered, symbolBy, symbolOf, before, beforeAll}
 use Rattle.terms.specs.Entry.{withZero, termsOf}
 use Rattle.terms.specs.Each.{Each, none-left, one-more}
 use Rattle.terms.specs.OneTerm.{OneTerm, HasSymbol}
@@ -19,7 +19,7 @@ use Rattle.terms.specs.Decisions.{Says, says-same}
 use Rattle.terms.specs.Reading.{none≢some, never-empty, one-reads}
 use Rattle.terms.specs.Count.{tagsOf, areTerms}
 use Rattle.terms.proofs.AnswerLaws.{says-eq}
-use Rattle.terms.proofs.TagLaws.{sort-childless}
+use Rattle.terms.proofs.TagLaws.{sort-childless, wrapping-child}
 use Rattle.terms.proofs.OneTermLaws.{reads-one}
 
 -- The tag is the symbol's.
@@ -36,7 +36,7 @@ symbol-tag zero tag v {s} e = go (tagged tag) v e
     go (isAtom g) v e = let same : s ≡ atomSymbol v = cc in rw (same, g) refl
     go (isPair g) zero e = let same : s ≡ pairSymbol = cc in rw (same, g) refl
     go (isPair g) (suc v) e = absurd (none≢some _ e)
-    go (isEncryption g) v e = let same : s ≡ encryptionSymbol v = cc in rw (same, g) refl
+    go (isWrapper w g) v e = let same : s ≡ wrapperSymbol w v = cc in rw (same, g) refl
     go (isVariable sort g) v e = variable-of sort g v (ltb v variables) e
     go (isNone g) v e = absurd (none≢some _ e)
 
@@ -58,9 +58,9 @@ count-down pairSymbol (some []) need r = absurd (none≢some _ (r .are))
 count-down pairSymbol (some (t ∷ [])) need r = absurd (none≢some _ (r .are))
 count-down pairSymbol (some (t ∷ u ∷ l)) need r =
     let c : length (r .terms) ≡ suc (length l) = cc in let d = r .many in record { terms = t ∷ u ∷ l; are = refl; many = omega arith }
-count-down (encryptionSymbol k) (some []) need r = absurd (none≢some _ (r .are))
-count-down (encryptionSymbol k) (some (t ∷ l)) need r =
-    let c : length (r .terms) ≡ suc (length l) = cc in let d = r .many in record { terms = t ∷ l; are = refl; many = omega arith }
+count-down (wrapperSymbol w k) (some []) need r = absurd (none≢some _ (r .are))
+count-down (wrapperSymbol w k) (some (t ∷ l)) need r =
+    let c : length (r .terms) ≡ suc (length l) = cc in let d = r .many in record { terms = t ∷ l; are = refl; many = omega (arith, wrapping-child w) }
 
 count-up : (s : Symbol) (o : Option (List (Term Variable))) (need : ℕ) → Count o (need + childrenOf (tagOf s)) → Count (beforeAll (some s) o) (suc need)
 unfolding beforeAll before childrenOf tagOf
@@ -77,10 +77,10 @@ count-up pairSymbol (some (t ∷ [])) need r =
     let c : length (r .terms) ≡ 1 = cc in let d = r .many in absurd (omega arith)
 count-up pairSymbol (some (t ∷ u ∷ l)) need r =
     let c : length (r .terms) ≡ suc (suc (length l)) = cc in let d = r .many in record { terms = pair t u ∷ l; are = refl; many = omega arith }
-count-up (encryptionSymbol k) (some []) need r =
-    let c : length (r .terms) ≡ 0 = cc in let d = r .many in absurd (omega arith)
-count-up (encryptionSymbol k) (some (t ∷ l)) need r =
-    let c : length (r .terms) ≡ suc (length l) = cc in let d = r .many in record { terms = encrypted k t ∷ l; are = refl; many = omega arith }
+count-up (wrapperSymbol w k) (some []) need r =
+    let c : length (r .terms) ≡ 0 = cc in let d = r .many in absurd (omega (arith, wrapping-child w))
+count-up (wrapperSymbol w k) (some (t ∷ l)) need r =
+    let c : length (r .terms) ≡ suc (length l) = cc in let d = r .many in record { terms = wrapped w k t ∷ l; are = refl; many = omega (arith, wrapping-child w) }
 
 count-step : (s : Symbol) (o : Option (List (Term Variable))) (need k : ℕ) → childrenOf (tagOf s) ≡ k → (b : Bool) → Says b (Count o (need + k))
     → Says b (Count (beforeAll (some s) o) (suc need))

@@ -9,7 +9,7 @@ use native.Mathlib.Decide.{decLt, ℕ-discrete}
 use lib.ListN.{length, getD, set, length-set}
 use lib.Seq.{getD-set-same, getD-set-other}
 use Rattle.terms.specs.Term.{Message}
-use Rattle.terms.specs.Tag.{pairTag, encryptionTag, Tagged, isAtom, isPair, isEncryption, isVariable, isNone, tagged}
+use Rattle.terms.specs.Tag.{pairTag, encryptionTag, Tagged, isAtom, isPair, isWrapper, isVariable, isNone, tagged, wrapping-tag}
 use Rattle.terms.specs.Entry.{size}
 use Rattle.terms.specs.Graph.{IsSymbol, Child, Valid, Respects, Finite, finite}
 use Rattle.terms.specs.TermGraph.{rightNodes, variableNodes, nodeFor, nodeBy, nodeTag, nodeValue, firstChild, secondChild, nodeOf, TwoTerms, AtHome}
@@ -55,7 +55,7 @@ module _ (s t : List ℕ) (i : ℕ) where
       go : (w : Tagged (nodeTag s t i)) (j : ℕ) → Child j (nodeFor w (nodeValue s t i) (firstChild s t i) (secondChild s t i)) → ⊥
       go (isAtom e) j child = child
       go (isPair e) j child = no-pair e
-      go (isEncryption e) j child = no-encryption e
+      go (isWrapper w e) j child = no-encryption (wrapping-tag w e)
       go (isVariable v e) j child = child
       go (isNone e) j child = child
 

@@ -7,10 +7,10 @@ use native.Mathlib.Omega.{arith}
 use lib.ListN.{getD, length, drop, length-drop}
 use lib.Seq.{drop-drop}
 use borrow.Rule.Slice.PartAt.{part-to-end}
-use Rattle.terms.specs.Term.{Term, variable, atom, pair, encrypted, Sort, Variable, named}
-use Rattle.terms.specs.Tag.{atomTag, pairTag, encryptionTag, sortTag, variables}
+use Rattle.terms.specs.Term.{Term, variable, atom, pair, encrypted, Sort, Variable, named, wrapped, Wrapping, encryption}
+use Rattle.terms.specs.Tag.{atomTag, pairTag, encryptionTag, sortTag, variables, wrappingTag, wrapping-tag}
 use Rattle.terms.specs.Entry.{size, symbolOf, withZero, termsOf, firstOf, termOf, Reads, Begins, tagAt, valueAt, from}
-use Rattle.terms.specs.Reading.{First, first-atom, first-pair, first-encrypted, first-variable, none≢some, nothing-read, first, entry-zero, never-empty}
+use Rattle.terms.specs.Reading.{First, first-atom, first-pair, first-wrapped, first-variable, none≢some, nothing-read, first, entry-zero, never-empty}
 
 -- The second byte of an entry is zero.
 pub zero-byte : {e : List ℕ} {t : Term Variable} {l : List (Term Variable)} → Reads e (t ∷ l) → getD e 1 0 ≡ 0
@@ -52,7 +52,7 @@ module _ {e : List ℕ} {l : List (Term Variable)} where
       go : First (tagAt e) (valueAt e) (drop 4 e) (atom a ∷ l) → (tagAt e ≡ atomTag) × (valueAt e ≡ a) × Reads (drop 4 e) l
       go (first-atom {m} g q k) = let same : m ≡ l = cc in (g, cc, rw same at k)
       go (first-pair {t} {u} {m} g n q k) = let z : _≡_ {A = ℕ} 0 1 = cc in absurd (omega arith)
-      go (first-encrypted {t} {m} g q k) = let z : _≡_ {A = ℕ} 0 1 = cc in absurd (omega arith)
+      go (first-wrapped {t} {m} i g q k) = let z : _≡_ {A = ℕ} 0 1 = cc in absurd (omega arith)
       go (first-variable g v n q k) = let z : _≡_ {A = ℕ} 0 1 = cc in absurd (omega arith)
 
   pub reads-pair : {v w : Term Variable} → Reads e (pair v w ∷ l) → (tagAt e ≡ pairTag) × (valueAt e ≡ 0) × Reads (drop 4 e) (v ∷ w ∷ l)
@@ -61,17 +61,24 @@ module _ {e : List ℕ} {l : List (Term Variable)} where
       go : First (tagAt e) (valueAt e) (drop 4 e) (pair v w ∷ l) → (tagAt e ≡ pairTag) × (valueAt e ≡ 0) × Reads (drop 4 e) (v ∷ w ∷ l)
       go (first-atom {m} g q k) = let z : _≡_ {A = ℕ} 0 1 = cc in absurd (omega arith)
       go (first-pair {t} {u} {m} g n q k) = let same : t ∷ u ∷ m ≡ v ∷ w ∷ l = cc in (g, n, rw same at k)
-      go (first-encrypted {t} {m} g q k) = let z : _≡_ {A = ℕ} 0 1 = cc in absurd (omega arith)
+      go (first-wrapped {t} {m} i g q k) = let z : _≡_ {A = ℕ} 0 1 = cc in absurd (omega arith)
       go (first-variable g v n q k) = let z : _≡_ {A = ℕ} 0 1 = cc in absurd (omega arith)
 
-  pub reads-encrypted : {k0 : ℕ} {v : Term Variable} → Reads e (encrypted k0 v ∷ l) → (tagAt e ≡ encryptionTag) × (valueAt e ≡ k0) × Reads (drop 4 e) (v ∷ l)
-  reads-encrypted {k0} {v} r = go (first r)
+  pub reads-wrapped : {w : Wrapping} {k0 : ℕ} {v : Term Variable} → Reads e (wrapped w k0 v ∷ l)
+      → (tagAt e ≡ wrappingTag w) × (valueAt e ≡ k0) × Reads (drop 4 e) (v ∷ l)
+  reads-wrapped {w} {k0} {v} r = go (first r)
     where
-      go : First (tagAt e) (valueAt e) (drop 4 e) (encrypted k0 v ∷ l) → (tagAt e ≡ encryptionTag) × (valueAt e ≡ k0) × Reads (drop 4 e) (v ∷ l)
+      go : First (tagAt e) (valueAt e) (drop 4 e) (wrapped w k0 v ∷ l) → (tagAt e ≡ wrappingTag w) × (valueAt e ≡ k0) × Reads (drop 4 e) (v ∷ l)
       go (first-atom {m} g q k) = let z : _≡_ {A = ℕ} 0 1 = cc in absurd (omega arith)
       go (first-pair {t} {u} {m} g n q k) = let z : _≡_ {A = ℕ} 0 1 = cc in absurd (omega arith)
-      go (first-encrypted {t} {m} g q k) = let same : t ∷ m ≡ v ∷ l = cc in (g, cc, rw same at k)
+      go (first-wrapped {w = w′} {t = t} {m = m} i g q k) =
+          let same : t ∷ m ≡ v ∷ l = cc in let around : w′ ≡ w = cc in (rw around at i, cc, rw same at k)
       go (first-variable g v n q k) = let z : _≡_ {A = ℕ} 0 1 = cc in absurd (omega arith)
+
+  -- An encryption's tag is read.
+  pub reads-encrypted : {k0 : ℕ} {v : Term Variable} → Reads e (encrypted k0 v ∷ l)
+      → (tagAt e ≡ encryptionTag) × (valueAt e ≡ k0) × Reads (drop 4 e) (v ∷ l)
+  reads-encrypted r = let w = reads-wrapped r in (wrapping-tag encryption (w .0), w .1, w .2)
 
   pub reads-variable : {s : Sort} {x : ℕ} → Reads e (variable (named s x) ∷ l)
       → (tagAt e ≡ sortTag s) × (valueAt e ≡ x) × (x < variables) × Reads (drop 4 e) l
@@ -81,7 +88,7 @@ module _ {e : List ℕ} {l : List (Term Variable)} where
           → (tagAt e ≡ sortTag s) × (valueAt e ≡ x) × (x < variables) × Reads (drop 4 e) l
       go (first-atom {m} g q k) = let z : _≡_ {A = ℕ} 0 1 = cc in absurd (omega arith)
       go (first-pair {t} {u} {m} g n q k) = let z : _≡_ {A = ℕ} 0 1 = cc in absurd (omega arith)
-      go (first-encrypted {t} {m} g q k) = let z : _≡_ {A = ℕ} 0 1 = cc in absurd (omega arith)
+      go (first-wrapped {t} {m} i g q k) = let z : _≡_ {A = ℕ} 0 1 = cc in absurd (omega arith)
       go (first-variable {s = s′} {m = m} g v n q k) =
           let same : m ≡ l = cc in
           let number : valueAt e ≡ x = cc in
@@ -97,8 +104,8 @@ past (pair t u) {l} {e} r =
     let right : Reads (drop (4 * size u) (drop (4 * size t) (drop 4 e))) l = past u (past t (reads-pair r .2)) in
     let far : 4 + (4 * size t + 4 * size u) ≡ 4 * (1 + (size t + size u)) = omega arith in
     rw (drop-drop, drop-drop, far) at right
-past (encrypted k t) {l} {e} r =
-    let below : Reads (drop (4 * size t) (drop 4 e)) l = past t (reads-encrypted r .2) in
+past (wrapped w k t) {l} {e} r =
+    let below : Reads (drop (4 * size t) (drop 4 e)) l = past t (reads-wrapped r .2) in
     let far : 4 + 4 * size t ≡ 4 * (1 + size t) = omega arith in
     rw (drop-drop, far) at below
 
@@ -112,8 +119,8 @@ fits (pair t u) {l} {e} r =
     let b = fits u (past t (reads-pair r .2)) in
     let c = four r in
     omega (arith, length-drop 4 e, length-drop (4 * size t) (drop 4 e))
-fits (encrypted k t) {l} {e} r =
-    let a = fits t (reads-encrypted r .2) in
+fits (wrapped w k t) {l} {e} r =
+    let a = fits t (reads-wrapped r .2) in
     let c = four r in
     omega (arith, length-drop 4 e)
 
@@ -122,7 +129,7 @@ unfolding size
 size-positive (variable x) = omega arith
 size-positive (atom a) = omega arith
 size-positive (pair t u) = omega arith
-size-positive (encrypted k t) = omega arith
+size-positive (wrapped w k t) = omega arith
 
 pub begins : {e : List ℕ} {t : Term Variable} {l : List (Term Variable)} → Reads e (t ∷ l) → Begins e
 begins {t = t} {l = l} r = record { term = t; others = l; reads = r; room = four r }
@@ -134,7 +141,7 @@ rest-reads {e} {t} {l} r = go (first r)
     go : First (tagAt e) (valueAt e) (drop 4 e) (t ∷ l) → (m : List (Term Variable)) × Reads (drop 4 e) m
     go (first-atom {m} g q k) = (m, k)
     go (first-pair {t} {u} {m} g n q k) = (t ∷ u ∷ m, k)
-    go (first-encrypted {t} {m} g q k) = (t ∷ m, k)
+    go (first-wrapped {t} {m} i g q k) = (t ∷ m, k)
     go (first-variable {m = m} g v n q k) = (m, k)
 
 -- Entries that are no terms at all are no entries.
@@ -175,7 +182,7 @@ pair-first {e} b is = go (first (b .reads))
     go : First (tagAt e) (valueAt e) (drop 4 e) (b .term ∷ b .others) → PairFirst e
     go (first-pair {t} {u} {m} g n q k) = record { left = t; right = u; others = m; whole = rw q at (b .reads); below = rw part-to-end k }
     go (first-atom g q k) = absurd (omega arith)
-    go (first-encrypted g q k) = absurd (omega arith)
+    go (first-wrapped i g q k) = absurd (omega arith)
     go (first-variable g v n q k) = absurd (omega arith)
 
 -- An encryption stands first.
@@ -189,7 +196,7 @@ pub encryption-first : {e : List ℕ} → Begins e → tagAt e ≡ encryptionTag
 encryption-first {e} b is = go (first (b .reads))
   where
     go : First (tagAt e) (valueAt e) (drop 4 e) (b .term ∷ b .others) → EncryptionFirst e
-    go (first-encrypted {t} {m} g q k) = record { content = t; others = m; whole = rw q at (b .reads); below = rw part-to-end k }
+    go (first-wrapped {w = encryption} {t = t} {m = m} i g q k) = record { content = t; others = m; whole = rw q at (b .reads); below = rw part-to-end k }
     go (first-pair g n q k) = absurd (omega arith)
     go (first-atom g q k) = absurd (omega arith)
     go (first-variable g v n q k) = absurd (omega arith)
@@ -206,7 +213,7 @@ leaf-first {e} b no-pair no-encryption = go (first (b .reads))
     go (first-atom g q k) = one (atom (valueAt e)) refl (termOf-reads (rw q at (b .reads)))
     go (first-variable {s = s} g v n q k) = one (variable (named s (valueAt e))) refl (termOf-reads (rw q at (b .reads)))
     go (first-pair g n q k) = absurd (no-pair g)
-    go (first-encrypted g q k) = absurd (no-encryption g)
+    go (first-wrapped i g q k) = absurd (no-encryption g)
 
 -- The right half of a pair begins past the left one.
 pub right-begins : {e : List ℕ} (p : PairFirst e) {r : ℕ} → r ≡ size (termOf (from 4 e)) → Reads (from (4 * (1 + r)) e) (p .right ∷ p .others)

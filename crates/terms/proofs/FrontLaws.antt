@@ -7,20 +7,20 @@ use Prim.Native.Nat.{ℕ, zero, suc, _+_, _*_, _-_, _≤_}
 use native.Mathlib.Omega.{arith}
 use lib.ListN.{length, take, drop, length-drop}
 use borrow.Rule.Slice.PartAt.{part-to-end}
-use Rattle.terms.specs.Term.{Term, variable, atom, pair, encrypted, Variable, named, replace}
-use Rattle.terms.specs.Tag.{Tagged, isAtom, isPair, isEncryption, isVariable, isNone, tagged, childrenOf, sort-tagged}
-use Rattle.terms.specs.Entry.{Symbol, atomSymbol, pairSymbol, encryptionSymbol, variableSymbol, tagOf, valueOf, size, before, termOf, Reads, Begins}
+use Rattle.terms.specs.Term.{Term, variable, atom, pair, Variable, named, replace, wrapped}
+use Rattle.terms.specs.Tag.{Tagged, isAtom, isPair, isWrapper, isVariable, isNone, tagged, childrenOf, sort-tagged, wrapping-tagged}
+use Rattle.terms.specs.Entry.{Symbol, atomSymbol, pairSymbol, wrapperSymbol, variableSymbol, tagOf, valueOf, size, before, termOf, Reads, Begins}
 use Rattle.terms.specs.Entry.{tagAt, valueAt, from}
-use Rattle.terms.specs.Reading.{First, first-atom, first-pair, first-encrypted, first-variable, none≢some, first}
+use Rattle.terms.specs.Reading.{First, first-atom, first-pair, first-wrapped, first-variable, none≢some, first}
 use Rattle.terms.specs.Front.{listOf, frontOf, Front, Takes, SameFirst, Alike}
-use Rattle.terms.proofs.TagLaws.{sort-childless}
+use Rattle.terms.proofs.TagLaws.{sort-childless, wrapping-child}
 use Rattle.terms.proofs.EntryLaws.{termOf-reads, past, fits, size-positive, begins}
 
 -- A symbol is known by its tag and its value.
 symbolFor : {tag : ℕ} → Tagged tag → ℕ → Symbol
 symbolFor (isAtom e) n = atomSymbol n
 symbolFor (isPair e) n = pairSymbol
-symbolFor (isEncryption e) n = encryptionSymbol n
+symbolFor (isWrapper w e) n = wrapperSymbol w n
 symbolFor (isVariable s e) n = variableSymbol (named s n)
 symbolFor (isNone e) n = pairSymbol
 
@@ -28,7 +28,7 @@ symbol-for : (s : Symbol) → symbolFor (tagged (tagOf s)) (valueOf s) ≡ s
 unfolding symbolFor tagged tagOf valueOf
 symbol-for (atomSymbol a) = refl
 symbol-for pairSymbol = refl
-symbol-for (encryptionSymbol k) = refl
+symbol-for (wrapperSymbol w k) = rw (wrapping-tagged w) refl
 symbol-for (variableSymbol (named s x)) = rw (sort-tagged s) refl
 
 same-symbol : (s r : Symbol) → tagOf s ≡ tagOf r → valueOf s ≡ valueOf r → s ≡ r
@@ -41,14 +41,14 @@ topOf [] = none
 topOf (variable x ∷ l) = some (variableSymbol x)
 topOf (atom a ∷ l) = some (atomSymbol a)
 topOf (pair t u ∷ l) = some pairSymbol
-topOf (encrypted k t ∷ l) = some (encryptionSymbol k)
+topOf (wrapped w k t ∷ l) = some (wrapperSymbol w k)
 
 after : List (Term Variable) → List (Term Variable)
 after [] = []
 after (variable x ∷ l) = l
 after (atom a ∷ l) = l
 after (pair t u ∷ l) = t ∷ u ∷ l
-after (encrypted k t ∷ l) = t ∷ l
+after (wrapped w k t ∷ l) = t ∷ l
 
 -- The symbol is no variable, or one that is replaced by itself.
 abbrev Keeps : (Variable → Term Variable) → Symbol → Type 0
@@ -63,8 +63,8 @@ module _ {m : List (Term Variable)} where
   before-shows pairSymbol [] e = absurd (none≢some _ e)
   before-shows pairSymbol (t ∷ []) e = absurd (none≢some _ e)
   before-shows pairSymbol (t ∷ u ∷ l) e = let q : m ≡ pair t u ∷ l = cc in rw q (refl, refl)
-  before-shows (encryptionSymbol k) [] e = absurd (none≢some _ e)
-  before-shows (encryptionSymbol k) (t ∷ l) e = let q : m ≡ encrypted k t ∷ l = cc in rw q (refl, refl)
+  before-shows (wrapperSymbol w k) [] e = absurd (none≢some _ e)
+  before-shows (wrapperSymbol w k) (t ∷ l) e = let q : m ≡ wrapped w k t ∷ l = cc in rw q (refl, refl)
 
   -- A symbol that is kept makes the same of replaced terms.
   before-replaced : (by : Variable → Term Variable) (s : Symbol) → Keeps by s → (l : List (Term Variable)) → before s l ≡ some m
@@ -75,8 +75,8 @@ module _ {m : List (Term Variable)} where
   before-replaced by pairSymbol k [] e = absurd (none≢some _ e)
   before-replaced by pairSymbol k (t ∷ []) e = absurd (none≢some _ e)
   before-replaced by pairSymbol k (t ∷ u ∷ l) e = let q : m ≡ pair t u ∷ l = cc in rw q refl
-  before-replaced by (encryptionSymbol n) k [] e = absurd (none≢some _ e)
-  before-replaced by (encryptionSymbol n) k (t ∷ l) e = let q : m ≡ encrypted n t ∷ l = cc in rw q refl
+  before-replaced by (wrapperSymbol w n) k [] e = absurd (none≢some _ e)
+  before-replaced by (wrapperSymbol w n) k (t ∷ l) e = let q : m ≡ wrapped w n t ∷ l = cc in rw q refl
 
 -- The first terms of entries that read as these.
 front-reads : {e : List ℕ} {l : List (Term Variable)} → Reads e l → (n : ℕ) → frontOf n e ≡ take n l
@@ -142,10 +142,10 @@ opened (suc n) {e} f some-left = front-some f some-left (λ t l r h. go t l r h 
         let same : l ≡ m = cc in
         let long : length l ≡ length m = ap length same in
         opening pairSymbol (suc n) (suc (suc n)) (t ∷ l) (v ∷ w ∷ m) r k g z (rw g (omega arith)) (omega arith) (cc)
-    go t l r h (first-encrypted {t = v} {m} g q k) =
+    go t l r h (first-wrapped {w = w} {t = v} {m = m} i g q k) =
         let same : l ≡ m = cc in
         let long : length l ≡ length m = ap length same in
-        opening (encryptionSymbol (valueAt e)) (suc n) (suc n) (t ∷ l) (v ∷ m) r k g refl (rw g (omega arith)) (omega arith) (cc)
+        opening (wrapperSymbol w (valueAt e)) (suc n) (suc n) (t ∷ l) (v ∷ m) r k i refl (rw i (omega (arith, wrapping-child w))) (omega arith) (cc)
     go t l r h (first-variable {s = s} {m = m} g v z q k) =
         let same : l ≡ m = cc in
         let long : length l ≡ length m = ap length same in

@@ -6,10 +6,10 @@ use Prim.Native.Nat.{ℕ, _<_}
 use native.Mathlib.Omega.{arith}
 use lib.Dec.{eqb}
 use borrow.Author.Tests.{eqb-true, eqb-false, eq-eqb, ne-eqb}
-use Rattle.terms.specs.Term.{atom, pair, encrypted, Message}
+use Rattle.terms.specs.Term.{atom, pair, Message, wrapped}
 use Rattle.terms.specs.Entry.{size}
 use Rattle.terms.specs.Decisions.{pick}
-use Rattle.terms.specs.Graph.{Node, free, atomNode, pairNode, encryptionNode, IsSymbol, made, Child, Valid, Respects, ClosedFor, Classes, ClassStep}
+use Rattle.terms.specs.Graph.{Node, free, atomNode, pairNode, wrapperNode, IsSymbol, made, Child, Valid, Respects, ClosedFor, Classes, ClassStep}
 use Rattle.terms.specs.Graph.{Clash, Outcome, Finite, finite, Any}
 
 -- a is renamed to b.
@@ -175,7 +175,7 @@ abbrev assembled : (n : Node) → ((j : ℕ) → Child j n → Message) → Mess
 assembled free f = atom 1000
 assembled (atomNode a) f = atom a
 assembled (pairNode l r) f = pair (f l (inl refl)) (f r (inr refl))
-assembled (encryptionNode k c) f = encrypted k (f c refl)
+assembled (wrapperNode w k c) f = wrapped w k (f c refl)
 
 module _ (node : ℕ → Node) (name : ℕ → ℕ) where
   build : {i : ℕ} → Finite node name i → Message
@@ -186,21 +186,21 @@ module _ (node : ℕ → Node) (name : ℕ → ℕ) where
   assembled-same free free e f g same = refl
   assembled-same free (atomNode b) e f g same = let z : _≡_ {A = ℕ} 0 1 = cc in absurd (omega arith)
   assembled-same free (pairNode x y) e f g same = let z : _≡_ {A = ℕ} 0 1 = cc in absurd (omega arith)
-  assembled-same free (encryptionNode k c) e f g same = let z : _≡_ {A = ℕ} 0 1 = cc in absurd (omega arith)
+  assembled-same free (wrapperNode w k c) e f g same = let z : _≡_ {A = ℕ} 0 1 = cc in absurd (omega arith)
   assembled-same (atomNode a) free e f g same = let z : _≡_ {A = ℕ} 0 1 = cc in absurd (omega arith)
   assembled-same (atomNode a) (atomNode b) e f g same = let p : a ≡ b = cc in ap atom p
   assembled-same (atomNode a) (pairNode x y) e f g same = let z : _≡_ {A = ℕ} 0 1 = cc in absurd (omega arith)
-  assembled-same (atomNode a) (encryptionNode k c) e f g same = let z : _≡_ {A = ℕ} 0 1 = cc in absurd (omega arith)
+  assembled-same (atomNode a) (wrapperNode w k c) e f g same = let z : _≡_ {A = ℕ} 0 1 = cc in absurd (omega arith)
   assembled-same (pairNode l r) free e f g same = let z : _≡_ {A = ℕ} 0 1 = cc in absurd (omega arith)
   assembled-same (pairNode l r) (atomNode b) e f g same = let z : _≡_ {A = ℕ} 0 1 = cc in absurd (omega arith)
   assembled-same (pairNode l r) (pairNode x y) e f g same =
       let p : l ≡ x = cc in let q : r ≡ y = cc in ap₂ pair (same l x (inl refl) (inl refl) p) (same r y (inr refl) (inr refl) q)
-  assembled-same (pairNode l r) (encryptionNode k c) e f g same = let z : _≡_ {A = ℕ} 0 1 = cc in absurd (omega arith)
-  assembled-same (encryptionNode k c) free e f g same = let z : _≡_ {A = ℕ} 0 1 = cc in absurd (omega arith)
-  assembled-same (encryptionNode k c) (atomNode b) e f g same = let z : _≡_ {A = ℕ} 0 1 = cc in absurd (omega arith)
-  assembled-same (encryptionNode k c) (pairNode x y) e f g same = let z : _≡_ {A = ℕ} 0 1 = cc in absurd (omega arith)
-  assembled-same (encryptionNode k c) (encryptionNode k′ d) e f g same =
-      let p : k ≡ k′ = cc in let q : c ≡ d = cc in ap₂ encrypted p (same c d refl refl q)
+  assembled-same (pairNode l r) (wrapperNode w k c) e f g same = let z : _≡_ {A = ℕ} 0 1 = cc in absurd (omega arith)
+  assembled-same (wrapperNode w k c) free e f g same = let z : _≡_ {A = ℕ} 0 1 = cc in absurd (omega arith)
+  assembled-same (wrapperNode w k c) (atomNode b) e f g same = let z : _≡_ {A = ℕ} 0 1 = cc in absurd (omega arith)
+  assembled-same (wrapperNode w k c) (pairNode x y) e f g same = let z : _≡_ {A = ℕ} 0 1 = cc in absurd (omega arith)
+  assembled-same (wrapperNode w k c) (wrapperNode w′ k′ d) e f g same =
+      let o : w ≡ w′ = cc in let p : k ≡ k′ = cc in let q : c ≡ d = cc in let s = same c d refl refl q in cc
 
   build-same : {i j : ℕ} (x : Finite node name i) (y : Finite node name j) → name i ≡ name j → build x ≡ build y
   unfolding build
@@ -218,7 +218,7 @@ module _ (node : ℕ → Node) (name : ℕ → ℕ) where
     assembled-made free f e = refl
     assembled-made (atomNode a) f e = refl
     assembled-made (pairNode l r) f e = ap₂ pair (e l (inl refl)) (e r (inr refl))
-    assembled-made (encryptionNode k c) f e = ap (encrypted k) (e c refl)
+    assembled-made (wrapperNode w k c) f e = ap (wrapped w k) (e c refl)
 
     build-made : {i : ℕ} (x : Finite node name i) → build x ≡ made value (node (name i))
     unfolding build
@@ -244,7 +244,7 @@ pub child-symbol : (n : Node) (j : ℕ) → Child j n → IsSymbol n
 child-symbol free j h = h
 child-symbol (atomNode a) j h = absurd h
 child-symbol (pairNode x y) j h = tt
-child-symbol (encryptionNode k c) j h = tt
+child-symbol (wrapperNode w k c) j h = tt
 
 -- Where a valid valuation respects the classes, a child's message is smaller than its parent's.
 module _ (node : ℕ → Node) (name : ℕ → ℕ) (v : ℕ → Message) (valid : Valid node v) (r : Respects name v) where
@@ -254,7 +254,7 @@ module _ (node : ℕ → Node) (name : ℕ → ℕ) (v : ℕ → Message) (valid
   smaller (atomNode a) j h = absurd h
   smaller (pairNode x y) j (inl e) = rw e (omega arith)
   smaller (pairNode x y) j (inr e) = rw e (omega arith)
-  smaller (encryptionNode k c) j h = rw h (omega arith)
+  smaller (wrapperNode w k c) j h = rw h (omega arith)
 
   pub falls : (i j : ℕ) → Child j (node (name i)) → size (v j) < size (v i)
   falls i j h =

@@ -1,6 +1,6 @@
 -- Laws of replacements and instances.
 use mathlib.Core.Path.{_≡_, refl, sym, ap, _∙_}
-use Rattle.terms.specs.Term.{Term, variable, atom, pair, encrypted, Message, replace, asTerm}
+use Rattle.terms.specs.Term.{Term, variable, atom, pair, Message, replace, asTerm, wrapped}
 use Rattle.terms.specs.Place.{left, right}
 use Rattle.terms.specs.Instance.{Matches, Share}
 use Rattle.terms.specs.Occurs.{replace-twice}
@@ -11,7 +11,7 @@ unfolding replace
 replace-message by (variable x) = absurd x
 replace-message by (atom a) = refl
 replace-message by (pair m n) = cc (replace-message by m, replace-message by n)
-replace-message by (encrypted k m) = cc (replace-message by m)
+replace-message by (wrapped w k m) = cc (replace-message by m)
 
 pub replace-asTerm : {X : Type 0} (by : X → Message) (m : Message) → replace by (asTerm m) ≡ m
 unfolding asTerm

@@ -9,7 +9,7 @@ use lib.Dec.{eqb}
 use lib.ListN.{length, getD, set, length-set}
 use lib.Seq.{getD-set-same, getD-set-other}
 use borrow.Author.Tests.{eq-eqb, ne-eqb}
-use Rattle.terms.specs.Term.{Term, variable, atom, pair, encrypted, Variable, replace}
+use Rattle.terms.specs.Term.{Term, variable, atom, pair, Variable, replace, wrapped}
 use Rattle.terms.specs.Instance.{Share}
 use Rattle.terms.specs.Tag.{SymbolTag, childrenOf}
 use Rattle.terms.specs.Entry.{size, termOf, Begins, tagAt, from}
@@ -195,7 +195,7 @@ unfolding slotOf
 slot-variable (variable x) low = record { x = x; is = refl }
 slot-variable (atom a) low = absurd (omega arith)
 slot-variable (pair t u) low = absurd (omega arith)
-slot-variable (encrypted k t) low = absurd (omega arith)
+slot-variable (wrapped w k t) low = absurd (omega arith)
 
 -- One more of them.
 pub distinct-none : (s m : List ℕ) → Distinct s m 0

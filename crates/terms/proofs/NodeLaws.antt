@@ -9,7 +9,7 @@ use native.Mathlib.Decide.{decLt}
 use lib.ListN.{length, getD}
 use borrow.Author.Tests.{lt-ltb, le-ltb}
 use Rattle.terms.specs.Term.{Sort, plain, marked}
-use Rattle.terms.specs.Tag.{pairTag, encryptionTag, plainTag, markedTag, sortTag, variables, Tagged, isAtom, isPair, isEncryption, isVariable, isNone}
+use Rattle.terms.specs.Tag.{pairTag, encryptionTag, plainTag, markedTag, sortTag, variables, Tagged, isAtom, isPair, isWrapper, isVariable, isNone, wrapping-tag}
 use Rattle.terms.specs.Tag.{tagged, freeBy, freeTag}
 use Rattle.terms.specs.Entry.{Begins}
 use Rattle.terms.specs.Graph.{free, IsSymbol}
@@ -42,7 +42,7 @@ module _ (e : List ℕ) (base slots k : ℕ) where
       go : (w : Tagged (tagIn e k)) → base + k ≡ homeFor w (valueIn e k) slots (base + k)
       go (isAtom g) = refl
       go (isPair g) = refl
-      go (isEncryption g) = refl
+      go (isWrapper w g) = refl
       go (isVariable s g) = absurd (sort s g)
       go (isNone g) = refl
 
@@ -79,14 +79,14 @@ module _ (s t : List ℕ) where
   free-node : {n : ℕ} (w : Tagged n) (v l r : ℕ) → freeBy w ≡ true → IsSymbol (nodeFor w v l r) → ⊥
   free-node (isAtom e) v l r f is = false≢true f
   free-node (isPair e) v l r f is = false≢true f
-  free-node (isEncryption e) v l r f is = false≢true f
+  free-node (isWrapper w e) v l r f is = false≢true f
   free-node (isVariable s e) v l r f is = is
   free-node (isNone e) v l r f is = is
 
   symbol-node : {n : ℕ} (w : Tagged n) (v l r : ℕ) → freeBy w ≡ false → IsSymbol (nodeFor w v l r)
   symbol-node (isAtom e) v l r f = tt
   symbol-node (isPair e) v l r f = tt
-  symbol-node (isEncryption e) v l r f = tt
+  symbol-node (isWrapper w e) v l r f = tt
   symbol-node (isVariable s e) v l r f = absurd (true≢false f)
   symbol-node (isNone e) v l r f = absurd (true≢false f)
 
@@ -97,7 +97,7 @@ module _ (s t : List ℕ) where
   symbol-by : {n : ℕ} (w : Tagged n) (v l r : ℕ) → IsSymbol (nodeFor w v l r) → freeBy w ≡ false
   symbol-by (isAtom e) v l r is = refl
   symbol-by (isPair e) v l r is = refl
-  symbol-by (isEncryption e) v l r is = refl
+  symbol-by (isWrapper w e) v l r is = refl
   symbol-by (isVariable s e) v l r is = absurd is
   symbol-by (isNone e) v l r is = absurd is
 
@@ -125,7 +125,7 @@ some-symbol s t i is = go (tagged (nodeTag s t i)) is
     go : {n : ℕ} (w : Tagged n) → IsSymbol (nodeFor w (nodeValue s t i) (firstChild s t i) (secondChild s t i)) → 0 < n
     go (isAtom e) is = omega arith
     go (isPair e) is = omega arith
-    go (isEncryption e) is = omega arith
+    go (isWrapper w e) is = let n = wrapping-tag w e in omega arith
     go (isVariable v e) is = absurd is
     go (isNone e) is = absurd is
 

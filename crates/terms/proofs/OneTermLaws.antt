@@ -11,10 +11,10 @@ use lib.Dec.{ltb, eqb}
 use borrow.Author.Tests.{lt-ltb, ltb-true}
 use Rattle.blocks.specs.Kinds.{secretKind, goodKind}
 use Rattle.terms.specs.declared.valid.Found.the-variants.{Nothing}
-use Rattle.terms.specs.Term.{Term, variable, atom, pair, encrypted, Message, Sort, plain, marked, Variable, named, replace, asTerm}
+use Rattle.terms.specs.Term.{Term, variable, atom, pair, encrypted, Message, Sort, plain, marked, Variable, named, replace, asTerm, wrapped, encryption}
 use Rattle.terms.specs.Atom.{Atom, IsKey}
 use Rattle.terms.specs.Tag.{encryptionTag, variables, sort-tagged}
-use Rattle.terms.specs.Entry.{Symbol, atomSymbol, pairSymbol, encryptionSymbol, variableSymbol, tagOf, valueOf, entryOf, termEntries, size, numbered}
+use Rattle.terms.specs.Entry.{Symbol, atomSymbol, pairSymbol, wrapperSymbol, variableSymbol, tagOf, valueOf, entryOf, termEntries, size, numbered}
 use Rattle.terms.specs.Entry.{symbolOf, withZero, termsOf, termOf, Reads, Begins, tagAt, valueAt}
 use Rattle.terms.specs.Each.{Each, none-left, one-more}
 use Rattle.terms.specs.TermEntry.{MayStand, TagRight, atomEntry, pairEntry, encryptionEntry, variableEntry, EntryRight, Asked, asked, rightAt?}
@@ -22,10 +22,10 @@ use Rattle.terms.specs.TermEntry.{wrongEntry}
 use Rattle.terms.specs.OneTerm.{Numbered, OneTerm, HasSymbol, IsEncryption}
 use Rattle.terms.specs.Decisions.{Says, says-same}
 use Rattle.terms.specs.Occurs.{Occurs}
-use Rattle.terms.specs.Reading.{First, first-atom, first-pair, first-encrypted, first-variable, none≢some, first, never-empty, entriesAll, AllOf}
+use Rattle.terms.specs.Reading.{First, first-atom, first-pair, first-wrapped, first-variable, none≢some, first, never-empty, entriesAll, AllOf}
 use Rattle.terms.specs.Reading.{read-entries, one-reads}
 use Rattle.terms.proofs.AnswerLaws.{says-eq}
-use Rattle.terms.proofs.EntryLaws.{termOf-reads, reads-encrypted, begins, encryption-first}
+use Rattle.terms.proofs.EntryLaws.{reads-encrypted, termOf-reads, begins, encryption-first}
 use Rattle.terms.proofs.EachLaws.{each-of, each-map}
 use Rattle.terms.proofs.FirstLaws.{first-none}
 
@@ -49,7 +49,7 @@ entry-symbol {atoms} {kind} {tag} {zeroByte} {value} w = go (w .tagged)
     go : TagRight atoms kind tag value → HasSymbol tag zeroByte value
     go (atomEntry t l) = record { symbol = atomSymbol value; is = rw (w .blank, t) }
     go (pairEntry t z) = record { symbol = pairSymbol; is = rw (w .blank, t, z) }
-    go (encryptionEntry t k) = record { symbol = encryptionSymbol value; is = rw (w .blank, t) }
+    go (encryptionEntry t k) = record { symbol = wrapperSymbol encryption value; is = rw (w .blank, t) }
     go (variableEntry s t l k) = record { symbol = variableSymbol (named s value); is = rw (w .blank, t, sort-tagged s, lt-ltb value variables l) }
 
 pub right-symbols : {atoms : List Atom} {kind : ℕ} {e : List ℕ} → Each (EntryRight atoms kind) e → Each HasSymbol e
@@ -85,7 +85,7 @@ symbols-numbered (atom a) each = (tt, each-first each .1)
 symbols-numbered (pair t u) {r} each =
     let f = symbols-numbered t (rw (append-assoc (termEntries t) (termEntries u) r) at (each-first each .1)) in
     let g = symbols-numbered u (f .1) in ((f .0, g .0), g .1)
-symbols-numbered (encrypted k t) each = symbols-numbered t (each-first each .1)
+symbols-numbered (wrapped w k t) each = symbols-numbered t (each-first each .1)
 
 pub some-term : {e : List ℕ} → Each HasSymbol e → (t : Term Variable) → e ≡ termEntries t → OneTerm e
 some-term {e} each t is =
@@ -116,7 +116,7 @@ right-terms {atoms} {kind} (one-more {tag} {zeroByte} {low} {high} {rest} p each
         → ((m : List (Term Variable)) → Reads rest m → AllOf (TermRight atoms kind) m) → AllOf (TermRight atoms kind) n
     go n (first-atom {m} g q k) a ih = rw q (atomRight (rw g at a), ih m k)
     go n (first-pair {t = u} {u = v} {m} g z q k) a ih = let w = ih (u ∷ v ∷ m) k in rw q (pairRight (w .0) (w .1 .0), w .1 .1)
-    go n (first-encrypted {t = u} {m} g q k) a ih = let w = ih (u ∷ m) k in rw q (encryptedRight (rw g at a) (w .0), w .1)
+    go n (first-wrapped {w = encryption} {t = u} {m = m} i g q k) a ih = let w = ih (u ∷ m) k in rw q (encryptedRight (rw g at a) (w .0), w .1)
     go n (first-variable {s = s} {m = m} g v low q k) a ih = rw q (variableRight low ((rw (g, sort-tagged s) at a) .1), ih m k)
 
 pub right-term : {atoms : List Atom} {kind : ℕ} {e : List ℕ} → Each (EntryRight atoms kind) e → OneTerm e → TermRight atoms kind (termOf e)
@@ -155,7 +155,7 @@ unfolding termEntries entryOf size
 entries-length (variable x) = omega arith
 entries-length (atom a) = omega arith
 entries-length (pair t u) = omega (arith, length-append (termEntries t) (termEntries u), entries-length t, entries-length u)
-entries-length (encrypted k t) = omega (arith, entries-length t)
+entries-length (wrapped w k t) = omega (arith, entries-length t)
 
 pub one-whole : {e : List ℕ} → OneTerm e → 4 * size (termOf e) ≡ length e
 one-whole {e} o =

@@ -4,7 +4,7 @@ use mathlib.Core.Logic.{_⊎_, inl, inr}
 use mathlib.Core.List.{[], _∷_, _++_, append-assoc, nil≢cons}
 use mathlib.Core.Option.{Option, some, Option·none-ne-some}
 use Prim.Native.Nat.{ℕ}
-use Rattle.terms.specs.Term.{Term, variable, atom, pair, encrypted, replace}
+use Rattle.terms.specs.Term.{Term, variable, atom, pair, replace, wrapped, Wrapping}
 use Rattle.terms.specs.Place.{Turn, left, right, inside, Place, subtermAt, StrictlyAbove, AtOrAbove}
 use Rattle.terms.specs.Turns.{by-turns}
 
@@ -57,7 +57,7 @@ pub subtermAt-append : {X : Type 0} (q r : Place) (t : Term X) {u : Term X} → 
 unfolding subtermAt
 subtermAt-append {X} q r t e =
     by-turns (λ (q : Place) (t u : Term X). subtermAt (q ++ r) t ≡ subtermAt r u)
-    (λ t. refl) (λ p t u s h. h) (λ p t u s h. h) (λ p k t s h. h) q t e
+    (λ t. refl) (λ p t u s h. h) (λ p t u s h. h) (λ p w k t s h. h) q t e
 
 -- The same place of an instance holds the subterm's instance.
 pub subtermAt-replace : {X Y : Type 0} (by : X → Term Y) (p : Place) (t : Term X) {u : Term X} →
@@ -65,7 +65,7 @@ pub subtermAt-replace : {X Y : Type 0} (by : X → Term Y) (p : Place) (t : Term
 unfolding subtermAt replace
 subtermAt-replace {X} by p t e =
     by-turns (λ (p : Place) (t u : Term X). subtermAt p (replace by t) ≡ some (replace by u))
-    (λ t. refl) (λ p t u s h. h) (λ p t u s h. h) (λ p k t s h. h) p t e
+    (λ t. refl) (λ p t u s h. h) (λ p t u s h. h) (λ p w k t s h. h) p t e
 
 -- On the way to a place: what is found first is a subterm, and the rest of the way leads on from it.
 pub record OnTheWay {X : Type 0} (first : Option (Term X)) (r : Place) (s : Term X) : Type 0 where
@@ -79,13 +79,13 @@ unfolding subtermAt
 on-the-way [] r t e = record { subterm = t; stands = refl; onward = e }
 on-the-way (left ∷ q) r (pair t u) e = on-the-way q r t e
 on-the-way (right ∷ q) r (pair t u) e = on-the-way q r u e
-on-the-way (inside ∷ q) r (encrypted k t) e = on-the-way q r t e
+on-the-way (inside ∷ q) r (wrapped w k t) e = on-the-way q r t e
 on-the-way (left ∷ q) r (variable x) {s} e = absurd (Option·none-ne-some s e)
 on-the-way (left ∷ q) r (atom a) {s} e = absurd (Option·none-ne-some s e)
-on-the-way (left ∷ q) r (encrypted k t) {s} e = absurd (Option·none-ne-some s e)
+on-the-way (left ∷ q) r (wrapped w k t) {s} e = absurd (Option·none-ne-some s e)
 on-the-way (right ∷ q) r (variable x) {s} e = absurd (Option·none-ne-some s e)
 on-the-way (right ∷ q) r (atom a) {s} e = absurd (Option·none-ne-some s e)
-on-the-way (right ∷ q) r (encrypted k t) {s} e = absurd (Option·none-ne-some s e)
+on-the-way (right ∷ q) r (wrapped w k t) {s} e = absurd (Option·none-ne-some s e)
 on-the-way (inside ∷ q) r (variable x) {s} e = absurd (Option·none-ne-some s e)
 on-the-way (inside ∷ q) r (atom a) {s} e = absurd (Option·none-ne-some s e)
 on-the-way (inside ∷ q) r (pair t u) {s} e = absurd (Option·none-ne-some s e)
@@ -128,25 +128,25 @@ module _ {X Y : Type 0} (by : X → Term Y) where
   origin (variable x) p e = origin-root (variable x) p (below refl) e
   origin (atom a) [] e = origin-root (atom a) [] (exact refl) e
   origin (pair t u) [] e = origin-root (pair t u) [] (exact refl) e
-  origin (encrypted k t) [] e = origin-root (encrypted k t) [] (exact refl) e
+  origin (wrapped w k t) [] e = origin-root (wrapped w k t) [] (exact refl) e
   origin (pair t u) (left ∷ p) e = origin-turn left (λ q. refl) (origin t p e)
   origin (pair t u) (right ∷ p) e = origin-turn right (λ q. refl) (origin u p e)
-  origin (encrypted k t) (inside ∷ p) e = origin-turn inside (λ q. refl) (origin t p e)
+  origin (wrapped w k t) (inside ∷ p) e = origin-turn inside (λ q. refl) (origin t p e)
   origin (atom a) (left ∷ p) {s} e = absurd (Option·none-ne-some s e)
   origin (atom a) (right ∷ p) {s} e = absurd (Option·none-ne-some s e)
   origin (atom a) (inside ∷ p) {s} e = absurd (Option·none-ne-some s e)
   origin (pair t u) (inside ∷ p) {s} e = absurd (Option·none-ne-some s e)
-  origin (encrypted k t) (left ∷ p) {s} e = absurd (Option·none-ne-some s e)
-  origin (encrypted k t) (right ∷ p) {s} e = absurd (Option·none-ne-some s e)
+  origin (wrapped w k t) (left ∷ p) {s} e = absurd (Option·none-ne-some s e)
+  origin (wrapped w k t) (right ∷ p) {s} e = absurd (Option·none-ne-some s e)
 
--- A term with a place below its root is a pair or an encryption.
+-- A term with a place below its root is a pair or has something around it.
 pub data Composite {X : Type 0} (t : Term X) : Type 0 where
   isPair : {u w : Term X} → t ≡ pair u w → Composite t
-  isEncrypted : {k : ℕ} {u : Term X} → t ≡ encrypted k u → Composite t
+  isWrapped : {w : Wrapping} {k : ℕ} {u : Term X} → t ≡ wrapped w k u → Composite t
 
 pub composite : {X : Type 0} (a : Turn) (p : Place) (t : Term X) {s : Term X} → subtermAt (a ∷ p) t ≡ some s →
     Composite t
 composite {X} a p t e =
     by-turns (λ (q : Place) (t s : Term X). q ≡ a ∷ p → Composite t)
     (λ t f. absurd (nil≢cons f)) (λ q t u s h f. isPair refl) (λ q t u s h f. isPair refl)
-    (λ q k t s h f. isEncrypted refl) (a ∷ p) t e refl
+    (λ q w k t s h f. isWrapped refl) (a ∷ p) t e refl

@@ -12,12 +12,12 @@ use lib.ListN.{length, getD, getElem?, drop, length-append, length-map}
 use lib.Seq.{drop-drop}
 use borrow.Author.Tests.{lt-ltb, le-ltb}
 use borrow.Rule.Slice.PartAt.{part-to-end}
-use Rattle.terms.specs.Term.{Term, variable, atom, pair, encrypted, Variable}
+use Rattle.terms.specs.Term.{Term, variable, atom, pair, Variable, wrapped}
 use Rattle.terms.specs.Place.{Turn, left, right, inside, Place, subtermAt, StrictlyAbove, AtOrAbove, Spot, down, spots}
 use Rattle.terms.specs.Entry.{size, termOf, Reads, Begins, entryAt, Placed, from}
 use Rattle.terms.specs.Turns.{by-turns}
 use Rattle.terms.proofs.PlaceLaws.{subtermAt-append}
-use Rattle.terms.proofs.EntryLaws.{termOf-reads, reads-pair, reads-encrypted, past, size-positive, begins}
+use Rattle.terms.proofs.EntryLaws.{termOf-reads, reads-pair, reads-wrapped, past, size-positive, begins}
 
 -- Every place has its entry.
 pub placed : {X : Type 0} (p : Place) (t : Term X) {s : Term X} → subtermAt p t ≡ some s → Placed t (entryAt p t) p s
@@ -28,7 +28,7 @@ entry-within : {X : Type 0} (p : Place) (t : Term X) {s : Term X} → subtermAt 
 unfolding entryAt size
 entry-within {X} p t e =
     by-turns (λ (p : Place) (t s : Term X). entryAt p t + size s ≤ size t)
-    (λ t. omega arith) (λ p t u s h. omega arith) (λ p t u s h. omega arith) (λ p k t s h. omega arith) p t e
+    (λ t. omega arith) (λ p t u s h. omega arith) (λ p t u s h. omega arith) (λ p w k t s h. omega arith) p t e
 
 pub within : {X : Type 0} {t s : Term X} {k : ℕ} {p : Place} → Placed t k p s → k + size s ≤ size t
 within {t = t} {p = p} w = let n = w .number in omega (arith, entry-within p t (w .stands))
@@ -38,7 +38,7 @@ entry-append : {X : Type 0} (q r : Place) (t : Term X) {u : Term X} → subtermA
 unfolding entryAt size
 entry-append {X} q r t e =
     by-turns (λ (q : Place) (t u : Term X). entryAt (q ++ r) t ≡ entryAt q t + entryAt r u)
-    (λ t. omega arith) (λ p t u s h. omega arith) (λ p t u s h. omega arith) (λ p k t s h. omega arith) q t e
+    (λ t. omega arith) (λ p t u s h. omega arith) (λ p t u s h. omega arith) (λ p w k t s h. omega arith) q t e
 
 pub placed-below : {X : Type 0} {t u s : Term X} {h j : ℕ} {q r : Place} → Placed t h q u → Placed u j r s → Placed t (h + j) (q ++ r) s
 placed-below {t = t} {q = q} {r = r} a b = record {
@@ -52,15 +52,15 @@ placeOf (variable x) k = []
 placeOf (atom a) k = []
 placeOf (pair t u) zero = []
 placeOf (pair t u) (suc k) = elim (ltb k (size t)) [ true ↦ left ∷ placeOf t k | false ↦ right ∷ placeOf u (k - size t) ]
-placeOf (encrypted n t) zero = []
-placeOf (encrypted n t) (suc k) = inside ∷ placeOf t k
+placeOf (wrapped w n t) zero = []
+placeOf (wrapped w n t) (suc k) = inside ∷ placeOf t k
 
 place-of-root : {X : Type 0} (t : Term X) → placeOf t 0 ≡ []
 unfolding placeOf
 place-of-root (variable x) = refl
 place-of-root (atom a) = refl
 place-of-root (pair t u) = refl
-place-of-root (encrypted n t) = refl
+place-of-root (wrapped w n t) = refl
 
 -- (By the answer whether the entry lies in the left half.)
 place-left : {X : Type 0} (t u : Term X) (k : ℕ) → k < size t → placeOf (pair t u) (suc k) ≡ left ∷ placeOf t k
@@ -78,7 +78,7 @@ place-of-entry {X} p t e =
     (λ t. (size-positive t, place-of-root t))
     (λ p t u s h. (omega arith, place-left t u (entryAt p t) (h .0) ∙ ap (λ (r : Place). left ∷ r) (h .1)))
     (λ p t u s h. (omega arith, place-right t u (entryAt p u) ∙ ap (λ (r : Place). right ∷ r) (h .1)))
-    (λ p k t s h. (omega arith, ap (λ (r : Place). inside ∷ r) (h .1))) p t e
+    (λ p w k t s h. (omega arith, ap (λ (r : Place). inside ∷ r) (h .1))) p t e
 
 -- It is one of the term's entries.
 pub placed-within : {X : Type 0} {t s : Term X} {k : ℕ} {p : Place} → Placed t k p s → k < size t
@@ -120,8 +120,8 @@ spotted (pair t u) (suc k) h = go (decLt k (size t)) (λ l. spotted t k l) (λ l
       subterm = w .subterm;
       is = record { stands = w .is .stands; number = let m = w .is .number in omega arith };
     }
-spotted (encrypted n t) zero h = spotted-root (encrypted n t)
-spotted (encrypted n t) (suc k) h = let w = spotted t k (omega arith) in record {
+spotted (wrapped w n t) zero h = spotted-root (wrapped w n t)
+spotted (wrapped wr n t) (suc k) h = let w = spotted t k (omega arith) in record {
   place = inside ∷ w .place;
   subterm = w .subterm;
   is = record { stands = w .is .stands; number = ap suc (w .is .number) };
@@ -138,7 +138,7 @@ entry-reads =
     (λ p t u s h e l r. further e 4 (entryAt p t) (suc (entryAt p t)) (omega arith) (h _ _ (reads-pair r .2)))
     (λ p t u s h e l r. further e 4 (size t + entryAt p u) (suc (size t + entryAt p u)) (omega arith)
     (further (drop 4 e) (4 * size t) (entryAt p u) (size t + entryAt p u) (omega arith) (h _ _ (past t (reads-pair r .2)))))
-    (λ p k t s h e l r. further e 4 (entryAt p t) (suc (entryAt p t)) (omega arith) (h _ _ (reads-encrypted r .2)))
+    (λ p w k t s h e l r. further e 4 (entryAt p t) (suc (entryAt p t)) (omega arith) (h _ _ (reads-wrapped r .2)))
   where
     further : (e : List ℕ) (n k i : ℕ) → n + 4 * k ≡ 4 * i → {s : Term Variable} → (m : List (Term Variable)) × Reads (drop (4 * k) (drop n e)) (s ∷ m)
         → (m : List (Term Variable)) × Reads (drop (4 * i) e) (s ∷ m)
@@ -162,7 +162,7 @@ below-root : {X : Type 0} (a : Turn) (r : Place) (t : Term X) {s : Term X} → s
 unfolding entryAt
 below-root {X} a r t e =
     by-turns (λ (p : Place) (t s : Term X). p ≡ a ∷ r → 0 < entryAt p t)
-    (λ t n. absurd (nil≢cons n)) (λ p t u s h n. omega arith) (λ p t u s h n. omega arith) (λ p k t s h n. omega arith) (a ∷ r) t e refl
+    (λ t n. absurd (nil≢cons n)) (λ p t u s h n. omega arith) (λ p t u s h n. omega arith) (λ p w k t s h n. omega arith) (a ∷ r) t e refl
 
 -- Entry h stands at or above entry k if and only if k is an entry of the subterm at h.
 module _ {X : Type 0} {t u s : Term X} {h k : ℕ} {q p : Place} (high : Placed t h q u) (low : Placed t k p s) where
@@ -232,14 +232,14 @@ spots-length (pair t u) =
       spots-length t,
       spots-length u,
     )
-spots-length (encrypted k t) = omega (arith, length-map (spots t) (down inside), spots-length t)
+spots-length (wrapped w k t) = omega (arith, length-map (spots t) (down inside), spots-length t)
 
 root-spot : {X : Type 0} (t : Term X) → getElem? (spots t) 0 ≡ some ([], t)
 unfolding spots
 root-spot (variable x) = refl
 root-spot (atom a) = refl
 root-spot (pair t u) = refl
-root-spot (encrypted k t) = refl
+root-spot (wrapped w k t) = refl
 
 entry-spot : {X : Type 0} (p : Place) (t : Term X) {s : Term X} → subtermAt p t ≡ some s → getElem? (spots t) (entryAt p t) ≡ some (p, s)
 unfolding spots entryAt
@@ -248,7 +248,7 @@ entry-spot {X} =
     (λ p t u s h. element-left (map (down left) (spots t)) (map (down right) (spots u)) (entryAt p t) (element-map (down left) (spots t) (entryAt p t) h))
     (λ p t u s h. let here : length (map (down left) (spots t)) ≡ size t = length-map (spots t) (down left) ∙ spots-length t in
     rw (← here) (element-right (map (down left) (spots t)) (map (down right) (spots u)) (entryAt p u) ∙ element-map (down right) (spots u) (entryAt p u) h))
-    (λ p k t s h. element-map (down inside) (spots t) (entryAt p t) h)
+    (λ p w k t s h. element-map (down inside) (spots t) (entryAt p t) h)
 
 element-is : {A : Type 0} (l : List A) (k : ℕ) {a : A} (d : A) → getElem? l k ≡ some a → getD l k d ≡ a
 element-is [] k {a} d e = absurd (Option·none-ne-some a e)

@@ -4,12 +4,12 @@ use mathlib.Core.List.{List, _∷_}
 use Prim.Native.Nat.{ℕ, _≤_}
 use native.Mathlib.Omega.{arith}
 use lib.ListN.{drop}
-use Rattle.terms.specs.Term.{Term, atom, pair, encrypted, Message, Variable, replace}
+use Rattle.terms.specs.Term.{Term, atom, pair, Message, Variable, replace, wrapped}
 use Rattle.terms.specs.Instance.{Share}
 use Rattle.terms.specs.Tag.{SymbolTag}
 use Rattle.terms.specs.Entry.{termOf, Begins, tagAt, valueAt}
 use Rattle.terms.specs.Solve.{form}
-use Rattle.terms.specs.Reading.{First, first-atom, first-pair, first-encrypted, first-variable, first}
+use Rattle.terms.specs.Reading.{First, first-atom, first-pair, first-wrapped, first-variable, first}
 use Rattle.terms.proofs.EntryLaws.{termOf-reads}
 use Rattle.terms.proofs.ClassLaws.{number}
 
@@ -27,8 +27,8 @@ root {e} b = go (first (b .reads)) (termOf-reads (b .reads))
         let here : t ≡ atom n = cc in record { tagged = λ h by. rw here (sym g); valued = λ h by. rw here }
     go {t = t} (first-pair {t = l} {u = r} g zero q k) is =
         let here : t ≡ pair l r = cc in record { tagged = λ h by. rw here (sym g); valued = λ h by. rw here (sym zero) }
-    go {n = n} {t = t} (first-encrypted {t = c} g q k) is =
-        let here : t ≡ encrypted n c = cc in record { tagged = λ h by. rw here (sym g); valued = λ h by. rw here }
+    go {n = n} {t = t} (first-wrapped {w = w} {t = c} i g q k) is =
+        let here : t ≡ wrapped w n c = cc in record { tagged = λ h by. rw here (sym i); valued = λ h by. rw here }
     go (first-variable g v n q k) is = record { tagged = λ h by. absurd (omega arith); valued = λ h by. absurd (omega arith) }
 
 module _ {s t : List ℕ} (left : Begins s) (right : Begins t) (symbol : SymbolTag (tagAt s)) (other : SymbolTag (tagAt t)) where

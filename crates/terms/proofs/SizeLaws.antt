@@ -12,13 +12,13 @@ use lib.Seq.{drop-drop, getD-drop, getD-set-same, getD-set-other}
 use borrow.Author.Tests.{ltb-true, ltb-false}
 use borrow.Rule.Slice.PartAt.{part-to-end}
 use Rattle.blocks.specs.Limits.{mostTermBytes, mostTermEntries}
-use Rattle.terms.specs.Term.{Term, encrypted, Variable}
+use Rattle.terms.specs.Term.{Term, encrypted, Variable, encryption}
 use Rattle.terms.specs.Tag.{pairTag, encryptionTag}
 use Rattle.terms.specs.Entry.{size, termOf, Reads, Begins, from}
 use Rattle.terms.specs.TermGraph.{tagIn, valueIn, rightIn, sizeIn, SizesOf}
 use Rattle.terms.specs.Sizes.{SizedFrom, KeptBelow}
 use Rattle.terms.proofs.EntryLaws.{four, termOf-reads, fits, suffix, pair-first, encryption-first, leaf-first}
-use Rattle.terms.proofs.TermGraphLaws.{tag-in, value-in, PairIn, pair-in, EncryptionIn, encryption-in}
+use Rattle.terms.proofs.TermGraphLaws.{tag-in, value-in, PairIn, pair-in, WrappedIn, wrapped-in}
 
 -- An entry with a tag lies before the end.
 pub tag-inside : (e : List ℕ) (k : ℕ) {n : ℕ} → tagIn e k ≡ suc n → 4 * k < length e
@@ -45,14 +45,14 @@ pair-there {e} k b g =
 pub record EncryptionThere (e : List ℕ) (k : ℕ) : Type 0 where
   pub content : Term Variable
   pub others : List (Term Variable)
-  pub is : EncryptionIn e k (valueIn e k) content others
+  pub is : WrappedIn encryption e k (valueIn e k) content others
 
 pub encryption-there : {e : List ℕ} (k : ℕ) → Begins e → tagIn e k ≡ encryptionTag → EncryptionThere e k
 encryption-there {e} k b g =
     let here = suffix k b (tag-inside e k g) in
     let p = encryption-first here (sym (tag-in e k) ∙ g) in
     let whole : Reads (drop (4 * k) e) (encrypted (valueIn e k) (p .content) ∷ p .others) = rw value-in (p .whole) in
-    record { content = p .content; others = p .others; is = encryption-in e k whole }
+    record { content = p .content; others = p .others; is = wrapped-in e k whole }
 
 -- The size of the term at entry k, by its tag.
 size-read : {e : List ℕ} {t : Term Variable} {l : List (Term Variable)} → Reads e (t ∷ l) → size (termOf e) ≡ size t
@@ -69,7 +69,7 @@ pub encryption-size : {e : List ℕ} (k : ℕ) → Begins e → tagIn e k ≡ en
 unfolding size
 encryption-size {e} k b g =
     let p = encryption-first (suffix k b (tag-inside e k g)) (sym (tag-in e k) ∙ g) in
-    let q = encryption-in e k (p .whole) in
+    let q = wrapped-in e k (p .whole) in
     size-read (p .whole) ∙ sym (ap (λ (x : ℕ). 1 + x) (size-read (q .content)))
 
 pub leaf-size : {e : List ℕ} (k : ℕ) → Begins e → 4 * k < length e → (tagIn e k ≡ pairTag → ⊥) → (tagIn e k ≡ encryptionTag → ⊥) → sizeIn e k ≡ 1

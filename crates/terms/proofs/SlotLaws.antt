@@ -7,10 +7,10 @@ use native.Mathlib.Omega.{arith}
 use lib.Dec.{ltb}
 use lib.ListN.{drop}
 use borrow.Author.Tests.{lt-ltb, le-ltb, ltb-false}
-use Rattle.terms.specs.Term.{variable, Sort, plain, marked, named, Term, atom, pair, encrypted, Variable}
+use Rattle.terms.specs.Term.{variable, Sort, plain, marked, named, Term, atom, pair, wrapped, Variable}
 use Rattle.terms.specs.Tag.{variables, plainTag, markedTag, sortTag, SymbolTag}
 use Rattle.terms.specs.Entry.{termOf, Begins, tagAt, valueAt}
-use Rattle.terms.specs.Reading.{First, first-atom, first-pair, first-encrypted, first-variable, first}
+use Rattle.terms.specs.Reading.{First, first-atom, first-pair, first-wrapped, first-variable, first}
 use Rattle.terms.specs.Slot.{slotCount, slotIn, slotOf, inHalf, inSlot}
 use Rattle.terms.proofs.EntryLaws.{termOf-reads}
 
@@ -76,8 +76,8 @@ slot-first {e} b = go (first (b .reads))
         (symbol-slotted (tagAt e) (valueAt e) (atom (valueAt e)) (omega arith) refl (λ x h. (let z : _≡_ {A = ℕ} 0 1 = cc in omega arith)))
     go (first-pair {t} {u} g n q k) = rw (termOf-reads (rw q at (b .reads)))
         (symbol-slotted (tagAt e) (valueAt e) (pair t u) (omega arith) refl (λ x h. (let z : _≡_ {A = ℕ} 0 1 = cc in omega arith)))
-    go (first-encrypted {t} g q k) = rw (termOf-reads (rw q at (b .reads)))
-        (symbol-slotted (tagAt e) (valueAt e) (encrypted (valueAt e) t) (omega arith) refl (λ x h. (let z : _≡_ {A = ℕ} 0 1 = cc in omega arith)))
+    go (first-wrapped {w = w} {t = t} i g q k) = rw (termOf-reads (rw q at (b .reads)))
+        (symbol-slotted (tagAt e) (valueAt e) (wrapped w (valueAt e) t) (omega arith) refl (λ x h. (let z : _≡_ {A = ℕ} 0 1 = cc in omega arith)))
     go (first-variable {s = s} g v n q k) = rw (termOf-reads (rw q at (b .reads)), g) (variable-slotted s (valueAt e) n)
 
 -- A symbol stands first: it is no variable.

@@ -1,14 +1,19 @@
 -- Laws of tags: how many children an entry has.
 use mathlib.Core.Path.{_≡_, refl}
 use Prim.Native.Nat.{ℕ}
-use Rattle.terms.specs.Term.{Sort}
-use Rattle.terms.specs.Tag.{pairTag, encryptionTag, sortTag, Tagged, isAtom, isPair, isEncryption, isVariable, isNone, tagged, childrenBy, childrenOf}
+use Rattle.terms.specs.Term.{Sort, Wrapping}
+use Rattle.terms.specs.Tag.{pairTag, encryptionTag, sortTag, Tagged, isAtom, isPair, isWrapper, isVariable, isNone, tagged, childrenBy, childrenOf, wrappingTag, wrapping-tag, wrapping-tagged}
 use Rattle.terms.specs.Tag.{sort-tagged}
 
 -- A variable has none.
 pub sort-childless : (s : Sort) → childrenOf (sortTag s) ≡ 0
 unfolding childrenOf
 sort-childless s = rw (sort-tagged s) refl
+
+-- What is put around a term has one.
+pub wrapping-child : (w : Wrapping) → childrenOf (wrappingTag w) ≡ 1
+unfolding childrenOf
+wrapping-child w = rw (wrapping-tagged w) refl
 
 -- Any other tag than a pair's and an encryption's has no children.
 pub no-children : (tag : ℕ) → (tag ≡ pairTag → ⊥) → (tag ≡ encryptionTag → ⊥) → 0 ≡ childrenOf tag
@@ -18,7 +23,7 @@ no-children tag off off′ = go (tagged tag)
     go : (w : Tagged tag) → 0 ≡ childrenBy w
     go (isAtom e) = refl
     go (isPair e) = absurd (off e)
-    go (isEncryption e) = absurd (off′ e)
+    go (isWrapper w e) = absurd (off′ (wrapping-tag w e))
     go (isVariable s e) = refl
     go (isNone e) = refl
 

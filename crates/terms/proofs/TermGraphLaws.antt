@@ -13,15 +13,15 @@ use lib.Seq.{drop-drop, getD-drop}
 use borrow.Author.Tests.{lt-ltb, le-ltb, ltb-true, ltb-false}
 use borrow.Rule.Slice.PartAt.{part-to-end}
 use Rattle.blocks.specs.Limits.{mostTermBytes}
-use Rattle.terms.specs.Term.{Term, variable, atom, pair, encrypted, Message, Sort, Variable, named, replace}
-use Rattle.terms.specs.Tag.{atomTag, pairTag, encryptionTag, sortTag, variables, sort-tagged}
+use Rattle.terms.specs.Term.{Term, variable, atom, pair, Message, Sort, Variable, named, replace, wrapped, Wrapping}
+use Rattle.terms.specs.Tag.{atomTag, pairTag, sortTag, variables, sort-tagged, wrappingTag, wrapping-tagged}
 use Rattle.terms.specs.Entry.{size, termOf, Reads, Begins, tagAt, valueAt, from}
-use Rattle.terms.specs.Reading.{First, first-atom, first-pair, first-encrypted, first-variable, first}
+use Rattle.terms.specs.Reading.{First, first-atom, first-pair, first-wrapped, first-variable, first}
 use Rattle.terms.specs.Slot.{slotIn}
-use Rattle.terms.specs.Graph.{Node, free, atomNode, pairNode, encryptionNode, IsSymbol, made, Valid}
+use Rattle.terms.specs.Graph.{Node, free, atomNode, pairNode, wrapperNode, IsSymbol, made, Valid}
 use Rattle.terms.specs.TermGraph.{rightNodes, variableNodes, rightVariables, allNodes, tagIn, valueIn, homeBy, home, rightIn, nodeBy, nodeTag, nodeValue}
 use Rattle.terms.specs.TermGraph.{firstChild, secondChild, nodeOf}
-use Rattle.terms.proofs.EntryLaws.{four, termOf-reads, reads-atom, reads-pair, reads-encrypted, reads-variable, past, suffix}
+use Rattle.terms.proofs.EntryLaws.{four, termOf-reads, reads-atom, reads-pair, reads-wrapped, reads-variable, past, suffix}
 use Rattle.terms.proofs.SlotLaws.{slot-small}
 
 -- The first entry of what is left from entry k on is entry k.
@@ -75,17 +75,17 @@ pair-in e k {t} {u} {l} r =
       after = omega arith;
     }
 
--- An encryption stands at entry k: what it holds stands next.
-pub record EncryptionIn (e : List ℕ) (k q : ℕ) (t : Term Variable) (l : List (Term Variable)) : Type 0 where
-  pub tag : tagIn e k ≡ encryptionTag
+-- A term with something around it stands at entry k: what it holds stands next.
+pub record WrappedIn (w : Wrapping) (e : List ℕ) (k q : ℕ) (t : Term Variable) (l : List (Term Variable)) : Type 0 where
+  pub tag : tagIn e k ≡ wrappingTag w
   pub key : valueIn e k ≡ q
   pub content : Reads (drop (4 * (k + 1)) e) (t ∷ l)
   pub content-fits : 4 * (k + 1) < length e
 
-pub encryption-in : (e : List ℕ) (k : ℕ) {q : ℕ} {t : Term Variable} {l : List (Term Variable)} → Reads (drop (4 * k) e) (encrypted q t ∷ l)
-    → EncryptionIn e k q t l
-encryption-in e k {q} {t} {l} r =
-    let f = reads-encrypted r in
+pub wrapped-in : {w : Wrapping} (e : List ℕ) (k : ℕ) {q : ℕ} {t : Term Variable} {l : List (Term Variable)} → Reads (drop (4 * k) e) (wrapped w q t ∷ l)
+    → WrappedIn w e k q t l
+wrapped-in e k {q} {t} {l} r =
+    let f = reads-wrapped r in
     let below : Reads (drop (4 * (k + 1)) e) (t ∷ l) = rw next-entry at (f .2) in
     let room = four below in
     record { tag = tag-in e k ∙ f .0; key = value-in e k ∙ f .1; content = below; content-fits = omega (arith, length-drop (4 * (k + 1)) e) }
@@ -98,6 +98,15 @@ home-sort s n slots own = rw (sort-tagged s) refl
 node-sort : (s : Sort) (n l r : ℕ) → nodeBy (sortTag s) n l r ≡ free
 unfolding nodeBy
 node-sort s n l r = rw (sort-tagged s) refl
+
+-- An entry with the tag of what is put around a term: its node is its own.
+home-wrapping : (w : Wrapping) (n slots own : ℕ) → homeBy (wrappingTag w) n slots own ≡ own
+unfolding homeBy
+home-wrapping w n slots own = rw (wrapping-tagged w) refl
+
+node-wrapping : (w : Wrapping) (n l r : ℕ) → nodeBy (wrappingTag w) n l r ≡ wrapperNode w n l
+unfolding nodeBy
+node-wrapping w n l r = rw (wrapping-tagged w) refl
 
 mod-small : (n : ℕ) → n % variables < variables
 mod-small n = omega arith
@@ -134,7 +143,7 @@ module _ (node : ℕ → Node) (e : List ℕ) (base slots : ℕ) (short : length
           → (home e base slots k < allNodes) × ((variableNodes ≤ home e base slots k) ⊎ IsSymbol (node (home e base slots k)))
       go (first-atom g q r) = own (tag-in e k ∙ g) refl tt
       go (first-pair g n q r) = own (tag-in e k ∙ g) refl tt
-      go (first-encrypted g q r) = own (tag-in e k ∙ g) refl tt
+      go (first-wrapped i g q r) = own (tag-in e k ∙ g) refl tt
       go (first-variable {s = s} g v n q r) =
           let low = slot-small s (mod-small (valueIn e k)) in
           slot (home-tag k (tag-in e k ∙ g) ∙ home-sort s (valueIn e k) slots (base + k)) (omega arith) (omega arith)
@@ -164,11 +173,12 @@ module _ (node : ℕ → Node) (e : List ℕ) (base slots : ℕ) (short : length
         let first : v (home e base slots (k + 1)) ≡ replace by t = values valid t (k + 1) (omega arith) (p .left) in
         let second : v (home e base slots (rightIn e k)) ≡ replace by u = values valid u (rightIn e k) (omega arith) (p .right) in
         ap v (home-tag k (p .tag)) ∙ valid .makes (base + k) (subst IsSymbol (sym is) tt) ∙ ap (made v) is ∙ ap₂ pair first second
-    values valid (encrypted q t) k h r =
-        let p = encryption-in e k r in
-        let is : node (base + k) ≡ encryptionNode (valueIn e k) (home e base slots (k + 1)) = node-tag h (p .tag) in
+    values valid (wrapped w q t) k h r =
+        let p = wrapped-in e k r in
+        let is : node (base + k) ≡ wrapperNode w (valueIn e k) (home e base slots (k + 1)) = node-tag h (p .tag) ∙ node-wrapping w _ _ _ in
         let first : v (home e base slots (k + 1)) ≡ replace by t = values valid t (k + 1) (omega arith) (p .content) in
-        ap v (home-tag k (p .tag)) ∙ valid .makes (base + k) (subst IsSymbol (sym is) tt) ∙ ap (made v) is ∙ ap₂ encrypted (p .key) first
+        ap v (home-tag k (p .tag) ∙ home-wrapping w _ _ _) ∙ valid .makes (base + k) (subst IsSymbol (sym is) tt) ∙ ap (made v) is
+        ∙ ap₂ (wrapped w) (p .key) first
 
     -- The other way round: where every entry's own node has the instance of its term, the valuation is valid there.
     module _ (own : (k : ℕ) → k < rightNodes → v (base + k) ≡ replace by (termOf (drop (4 * k) e))) where
@@ -182,7 +192,7 @@ module _ (node : ℕ → Node) (e : List ℕ) (base slots : ℕ) (short : length
       home-value k (variable x) h r = variable-value k x r
       home-value k (atom a) h r = own-value k h (tag-in e k ∙ reads-atom r .0) refl ∙ ap (replace by) (termOf-reads r)
       home-value k (pair t u) h r = own-value k h (tag-in e k ∙ reads-pair r .0) refl ∙ ap (replace by) (termOf-reads r)
-      home-value k (encrypted q t) h r = own-value k h (tag-in e k ∙ reads-encrypted r .0) refl ∙ ap (replace by) (termOf-reads r)
+      home-value k (wrapped w q t) h r = own-value k h (tag-in e k ∙ reads-wrapped r .0) (home-wrapping w _ _ _) ∙ ap (replace by) (termOf-reads r)
 
       made-there : (k : ℕ) (t : Term Variable) {l : List (Term Variable)} → k < rightNodes → Reads (drop (4 * k) e) (t ∷ l) → IsSymbol (node (base + k))
           → v (base + k) ≡ made v (node (base + k))
@@ -197,10 +207,11 @@ module _ (node : ℕ → Node) (e : List ℕ) (base slots : ℕ) (short : length
           let first : v (home e base slots (k + 1)) ≡ replace by t = home-value (k + 1) t (omega arith) (p .left) in
           let second : v (home e base slots (rightIn e k)) ≡ replace by u = home-value (rightIn e k) u (omega arith) (p .right) in
           own k h ∙ ap (replace by) (termOf-reads r) ∙ ap₂ pair (sym first) (sym second) ∙ ap (made v) (sym (node-tag h (p .tag)))
-      made-there k (encrypted q t) h r is =
-          let p = encryption-in e k r in
+      made-there k (wrapped w q t) h r is =
+          let p = wrapped-in e k r in
           let first : v (home e base slots (k + 1)) ≡ replace by t = home-value (k + 1) t (omega arith) (p .content) in
-          own k h ∙ ap (replace by) (termOf-reads r) ∙ ap₂ encrypted (sym (p .key)) (sym first) ∙ ap (made v) (sym (node-tag h (p .tag)))
+          own k h ∙ ap (replace by) (termOf-reads r) ∙ ap₂ (wrapped w) (sym (p .key)) (sym first)
+          ∙ ap (made v) (sym (node-tag h (p .tag) ∙ node-wrapping w _ _ _))
 
       pub side-makes : Begins e → (k : ℕ) → k < rightNodes → IsSymbol (node (base + k)) → v (base + k) ≡ made v (node (base + k))
       unfolding nodeBy

@@ -4,7 +4,7 @@ use mathlib.Core.Logic.{_⊎_}
 use mathlib.Core.List.{List}
 use Prim.Native.Nat.{ℕ, _<_}
 use lib.ListN.{length}
-use Rattle.terms.specs.Term.{Term, variable, atom, pair, encrypted, Foreign}
+use Rattle.terms.specs.Term.{Term, variable, atom, pair, Foreign, wrapped}
 use Rattle.terms.specs.Instance.{Matches, Share}
 use Rattle.terms.specs.Atom.{Atom}
 
@@ -13,7 +13,7 @@ unfoldable pub Built : {X : Type 0} (A K : ℕ → Type 0) → Term X → Type 0
 Built A K (variable x) = Unit {0}
 Built A K (atom a) = A a
 Built A K (pair t u) = Built A K t × Built A K u
-Built A K (encrypted k t) = K k × Built A K t
+Built A K (wrapped w k t) = K k × Built A K t
 
 -- A match by built terms alone.
 pub record BuiltMatch (A K : ℕ → Type 0) {X Y : Type 0} (pattern : Term X) (term : Term Y) : Type 0 where

@@ -4,7 +4,7 @@
 use mathlib.Core.HLevel.{Discrete}
 use mathlib.Core.Bool.{Bool, true, false}
 use native.Mathlib.Decide.{ℕ-discrete}
-use Rattle.terms.specs.Term.{Term, Term-discrete, Sort-discrete, Variable, Variable-discrete, replace}
+use Rattle.terms.specs.Term.{Term, Term-discrete, Sort-discrete, Variable, Variable-discrete, replace, Wrapping-discrete}
 use Rattle.terms.specs.Instance.{Matches, Share}
 use Rattle.terms.specs.Seek.{found, found-is}
 use Rattle.terms.specs.Decisions.{decided}
@@ -23,7 +23,7 @@ variable? = Variable-discrete Sort-discrete ℕ-discrete
 -- Are two terms the same?
 unfoldable pub term? : {X : Type 0} → Discrete X → Discrete (Term X)
 unfolding ℕ-discrete
-term? d = Term-discrete d ℕ-discrete
+term? d = Term-discrete d ℕ-discrete Wrapping-discrete
 
 -- Is the term the pattern with its variables replaced by terms?
 unfoldable pub match? : {X Y : Type 0} → Discrete X → Discrete Y → (p : Term X) (t : Term Y) → Dec (Matches p t)

@@ -7,15 +7,15 @@ use Prim.Native.Nat.{ℕ, zero, suc, _+_, _*_, _/_, _%_, _≤_, _-_}
 use lib.Dec.{ltb}
 use lib.ListN.{length, getD, drop, take}
 use Rattle.blocks.specs.Block.{wordAt}
-use Rattle.terms.specs.Term.{Term, variable, atom, pair, encrypted, Variable, named}
+use Rattle.terms.specs.Term.{Term, variable, atom, pair, Variable, named, wrapped, Wrapping}
 use Rattle.terms.specs.Place.{left, right, inside, Place, subtermAt}
-use Rattle.terms.specs.Tag.{atomTag, pairTag, encryptionTag, sortTag, variables, Tagged, isAtom, isPair, isEncryption, isVariable, isNone, tagged}
+use Rattle.terms.specs.Tag.{atomTag, pairTag, sortTag, variables, Tagged, isAtom, isPair, isWrapper, isVariable, isNone, tagged, wrappingTag}
 
 -- What one entry says: an atom, a pair, an encryption under a key, or a variable.
 pub data Symbol : Type 0 where
   atomSymbol : ℕ → Symbol
   pairSymbol : Symbol
-  encryptionSymbol : ℕ → Symbol
+  wrapperSymbol : Wrapping → ℕ → Symbol
   variableSymbol : Variable → Symbol
 
 -- The tag of an entry.
@@ -23,14 +23,14 @@ unfoldable pub tagOf : Symbol → ℕ
 unfolding sortTag
 tagOf (atomSymbol a) = atomTag
 tagOf pairSymbol = pairTag
-tagOf (encryptionSymbol k) = encryptionTag
+tagOf (wrapperSymbol w k) = wrappingTag w
 tagOf (variableSymbol (named s x)) = sortTag s
 
 -- The value: an atom's number, 0 for a pair, the key's number, a variable's number.
 unfoldable pub valueOf : Symbol → ℕ
 valueOf (atomSymbol a) = a
 valueOf pairSymbol = 0
-valueOf (encryptionSymbol k) = k
+valueOf (wrapperSymbol w k) = k
 valueOf (variableSymbol (named s x)) = x
 
 -- A term entry: tag, a zero byte, value (two bytes, little-endian).
@@ -42,14 +42,14 @@ unfoldable pub termEntries : Term Variable → List ℕ
 termEntries (variable x) = entryOf (variableSymbol x)
 termEntries (atom a) = entryOf (atomSymbol a)
 termEntries (pair t u) = entryOf pairSymbol ++ (termEntries t ++ termEntries u)
-termEntries (encrypted k t) = entryOf (encryptionSymbol k) ++ termEntries t
+termEntries (wrapped w k t) = entryOf (wrapperSymbol w k) ++ termEntries t
 
 -- How many entries a term has.
 unfoldable pub size : {X : Type 0} → Term X → ℕ
 size (variable x) = 1
 size (atom a) = 1
 size (pair t u) = 1 + (size t + size u)
-size (encrypted k t) = 1 + size t
+size (wrapped w k t) = 1 + size t
 
 -- Reading back: the variable of a number from 0 to 7.
 abbrev pub numbered : Bool → Variable → Option Symbol
@@ -61,7 +61,7 @@ abbrev pub symbolBy : {tag : ℕ} → Tagged tag → ℕ → Option Symbol
 symbolBy (isAtom e) n = some (atomSymbol n)
 symbolBy (isPair e) zero = some pairSymbol
 symbolBy (isPair e) (suc n) = none
-symbolBy (isEncryption e) n = some (encryptionSymbol n)
+symbolBy (isWrapper w e) n = some (wrapperSymbol w n)
 symbolBy (isVariable s e) n = numbered (ltb n variables) (named s n)
 symbolBy (isNone e) n = none
 
@@ -76,8 +76,8 @@ before (variableSymbol x) l = some (variable x ∷ l)
 before pairSymbol [] = none
 before pairSymbol (t ∷ []) = none
 before pairSymbol (t ∷ u ∷ l) = some (pair t u ∷ l)
-before (encryptionSymbol k) [] = none
-before (encryptionSymbol k) (t ∷ l) = some (encrypted k t ∷ l)
+before (wrapperSymbol w k) [] = none
+before (wrapperSymbol w k) (t ∷ l) = some (wrapped w k t ∷ l)
 
 unfoldable pub beforeAll : Option Symbol → Option (List (Term Variable)) → Option (List (Term Variable))
 beforeAll none l = none
@@ -129,13 +129,13 @@ unfoldable pub entryAt : {X : Type 0} → Place → Term X → ℕ
 entryAt [] t = 0
 entryAt (left ∷ p) (pair t u) = suc (entryAt p t)
 entryAt (right ∷ p) (pair t u) = suc (size t + entryAt p u)
-entryAt (inside ∷ p) (encrypted k t) = suc (entryAt p t)
+entryAt (inside ∷ p) (wrapped w k t) = suc (entryAt p t)
 entryAt (left ∷ p) (variable x) = 0
 entryAt (left ∷ p) (atom a) = 0
-entryAt (left ∷ p) (encrypted k t) = 0
+entryAt (left ∷ p) (wrapped w k t) = 0
 entryAt (right ∷ p) (variable x) = 0
 entryAt (right ∷ p) (atom a) = 0
-entryAt (right ∷ p) (encrypted k t) = 0
+entryAt (right ∷ p) (wrapped w k t) = 0
 entryAt (inside ∷ p) (variable x) = 0
 entryAt (inside ∷ p) (atom a) = 0
 entryAt (inside ∷ p) (pair t u) = 0

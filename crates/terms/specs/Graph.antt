@@ -4,34 +4,34 @@ use mathlib.Core.Path.{_≡_}
 use mathlib.Core.Logic.{_⊎_}
 use mathlib.Core.Bool.{Bool, true, false}
 use Prim.Native.Nat.{ℕ}
-use Rattle.terms.specs.Term.{atom, pair, encrypted, Message}
+use Rattle.terms.specs.Term.{atom, pair, Message, wrapped, Wrapping}
 
 -- What stands at a node: a free node (a variable, or nothing), or a symbol with its children's nodes.
 pub data Node : Type 0 where
   free : Node
   atomNode : ℕ → Node
   pairNode : ℕ → ℕ → Node
-  encryptionNode : ℕ → ℕ → Node
+  wrapperNode : Wrapping → ℕ → ℕ → Node
 
 abbrev pub IsSymbol : Node → Type 0
 IsSymbol free = ⊥
 IsSymbol (atomNode a) = Unit {0}
 IsSymbol (pairNode l r) = Unit {0}
-IsSymbol (encryptionNode k c) = Unit {0}
+IsSymbol (wrapperNode w k c) = Unit {0}
 
 -- The message that a node's symbol makes of its children's messages; a free node gets a foreign atom.
 unfoldable pub made : (ℕ → Message) → Node → Message
 made v free = atom 1000
 made v (atomNode a) = atom a
 made v (pairNode l r) = pair (v l) (v r)
-made v (encryptionNode k c) = encrypted k (v c)
+made v (wrapperNode w k c) = wrapped w k (v c)
 
 -- A child of a node.
 abbrev pub Child : ℕ → Node → Type 0
 Child i free = ⊥
 Child i (atomNode a) = ⊥
 Child i (pairNode l r) = (i ≡ l) ⊎ (i ≡ r)
-Child i (encryptionNode k c) = i ≡ c
+Child i (wrapperNode w k c) = i ≡ c
 
 -- A valuation gives each node a message. It is valid if every symbol node gets what it makes.
 pub record Valid (node : ℕ → Node) (v : ℕ → Message) : Type 0 where

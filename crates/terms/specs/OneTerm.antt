@@ -4,7 +4,7 @@ use mathlib.Core.List.{List}
 use mathlib.Core.Option.{some}
 use Prim.Native.Nat.{ℕ, _<_}
 use native.Mathlib.Omega.{arith}
-use Rattle.terms.specs.Term.{Term, variable, atom, pair, encrypted, Variable, named}
+use Rattle.terms.specs.Term.{Term, variable, atom, pair, encrypted, Variable, named, wrapped, encryption}
 use Rattle.terms.specs.Tag.{variables}
 use Rattle.terms.specs.Entry.{Symbol, termEntries, symbolOf, withZero}
 
@@ -13,7 +13,7 @@ unfoldable pub Numbered : Term Variable → Type 0
 Numbered (variable (named s x)) = x < variables
 Numbered (atom a) = Unit {0}
 Numbered (pair t u) = Numbered t × Numbered u
-Numbered (encrypted k t) = Numbered t
+Numbered (wrapped w k t) = Numbered t
 
 -- Number 8: the entries are exactly one term, "parents before children, left before right".
 pub record OneTerm (e : List ℕ) : Type 0 where
@@ -37,4 +37,4 @@ unfoldable pub encryption? : {X : Type 0} (t : Term X) → Dec (IsEncryption t)
 encryption? (variable x) = no (λ w. (let e = w .is in let z : _≡_ {A = ℕ} 0 1 = cc in omega arith))
 encryption? (atom a) = no (λ w. (let e = w .is in let z : _≡_ {A = ℕ} 0 1 = cc in omega arith))
 encryption? (pair t u) = no (λ w. (let e = w .is in let z : _≡_ {A = ℕ} 0 1 = cc in omega arith))
-encryption? (encrypted k t) = yes (record { key = k; content = t; is = refl })
+encryption? (wrapped encryption k t) = yes (record { key = k; content = t; is = refl })

@@ -3,7 +3,7 @@
 use mathlib.Core.Path.{_≡_}
 use mathlib.Core.List.{List, [], _∷_, _++_, map}
 use mathlib.Core.Option.{Option, none, some}
-use Rattle.terms.specs.Term.{Term, variable, atom, pair, encrypted}
+use Rattle.terms.specs.Term.{Term, variable, atom, pair, wrapped}
 
 -- From a term to a part of it: the halves of a pair, and what an encryption holds. There is no turn to the key.
 pub data Turn : Type 0 where
@@ -21,13 +21,13 @@ unfoldable pub subtermAt : {X : Type 0} → Place → Term X → Option (Term X)
 subtermAt [] t = some t
 subtermAt (left ∷ p) (pair t u) = subtermAt p t
 subtermAt (right ∷ p) (pair t u) = subtermAt p u
-subtermAt (inside ∷ p) (encrypted k t) = subtermAt p t
+subtermAt (inside ∷ p) (wrapped w k t) = subtermAt p t
 subtermAt (left ∷ p) (variable x) = none
 subtermAt (left ∷ p) (atom a) = none
-subtermAt (left ∷ p) (encrypted k t) = none
+subtermAt (left ∷ p) (wrapped w k t) = none
 subtermAt (right ∷ p) (variable x) = none
 subtermAt (right ∷ p) (atom a) = none
-subtermAt (right ∷ p) (encrypted k t) = none
+subtermAt (right ∷ p) (wrapped w k t) = none
 subtermAt (inside ∷ p) (variable x) = none
 subtermAt (inside ∷ p) (atom a) = none
 subtermAt (inside ∷ p) (pair t u) = none
@@ -55,4 +55,4 @@ unfoldable pub spots : {X : Type 0} → Term X → List (Spot X)
 spots (variable x) = ([], variable x) ∷ []
 spots (atom a) = ([], atom a) ∷ []
 spots (pair t u) = ([], pair t u) ∷ (map (down left) (spots t) ++ map (down right) (spots u))
-spots (encrypted k t) = ([], encrypted k t) ∷ map (down inside) (spots t)
+spots (wrapped w k t) = ([], wrapped w k t) ∷ map (down inside) (spots t)

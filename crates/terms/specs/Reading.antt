@@ -9,10 +9,10 @@ use native.Mathlib.Decide.{ℕ-discrete}
 use lib.Dec.{ltb}
 use lib.ListN.{getD, drop}
 use borrow.Author.Tests.{ltb-true, lt-ltb}
-use Rattle.terms.specs.Term.{Term, variable, atom, pair, encrypted, Sort, Variable, named}
-use Rattle.terms.specs.Tag.{atomTag, pairTag, encryptionTag, sortTag, variables, VariableTag, Tagged, isAtom, isPair, isEncryption, isVariable, isNone}
+use Rattle.terms.specs.Term.{Term, variable, atom, pair, Sort, Variable, named, wrapped, Wrapping}
+use Rattle.terms.specs.Tag.{atomTag, pairTag, sortTag, variables, VariableTag, Tagged, isAtom, isPair, isWrapper, isVariable, isNone, wrappingTag, WrapperTag, wrapping-tag, wrapping-tagged}
 use Rattle.terms.specs.Tag.{tagged, sort-tag, sort-tagged}
-use Rattle.terms.specs.Entry.{Symbol, atomSymbol, pairSymbol, encryptionSymbol, variableSymbol, tagOf, valueOf, entryOf, termEntries, numbered, symbolBy}
+use Rattle.terms.specs.Entry.{Symbol, atomSymbol, pairSymbol, wrapperSymbol, variableSymbol, tagOf, valueOf, entryOf, termEntries, numbered, symbolBy}
 use Rattle.terms.specs.Entry.{symbolOf, before, beforeAll, withZero, termsOf, Reads, tagAt, valueAt}
 use Rattle.terms.specs.OneTerm.{Numbered, OneTerm}
 
@@ -20,7 +20,8 @@ use Rattle.terms.specs.OneTerm.{Numbered, OneTerm}
 pub data First (tag n : ℕ) (rest : List ℕ) (l : List (Term Variable)) : Type 0 where
   first-atom : {m : List (Term Variable)} → tag ≡ atomTag → l ≡ atom n ∷ m → Reads rest m → First tag n rest l
   first-pair : {t u : Term Variable} {m : List (Term Variable)} → tag ≡ pairTag → n ≡ 0 → l ≡ pair t u ∷ m → Reads rest (t ∷ u ∷ m) → First tag n rest l
-  first-encrypted : {t : Term Variable} {m : List (Term Variable)} → tag ≡ encryptionTag → l ≡ encrypted n t ∷ m → Reads rest (t ∷ m) → First tag n rest l
+  first-wrapped : {w : Wrapping} {t : Term Variable} {m : List (Term Variable)} → tag ≡ wrappingTag w → WrapperTag tag → l ≡ wrapped w n t ∷ m
+      → Reads rest (t ∷ m) → First tag n rest l
   first-variable : {s : Sort} {m : List (Term Variable)} → tag ≡ sortTag s → VariableTag tag → n < variables → l ≡ variable (named s n) ∷ m
       → Reads rest m → First tag n rest l
 
@@ -40,12 +41,12 @@ module _ (rest : List ℕ) (l : List (Term Variable)) {tag : ℕ} where
   pairCase g (some (t ∷ [])) q r = absurd (none≢some _ r)
   pairCase g (some (t ∷ u ∷ m)) q r = first-pair {t = t} {u = u} {m = m} g refl (cc) (record { is = q })
 
-  encryptedCase : tag ≡ encryptionTag → (n : ℕ) (o : Option (List (Term Variable))) → termsOf rest ≡ o → beforeAll (some (encryptionSymbol n)) o ≡ some l
-      → First tag n rest l
+  wrappedCase : (w : Wrapping) → tag ≡ wrappingTag w → (n : ℕ) (o : Option (List (Term Variable))) → termsOf rest ≡ o
+      → beforeAll (some (wrapperSymbol w n)) o ≡ some l → First tag n rest l
   unfolding beforeAll before
-  encryptedCase g n none q r = absurd (none≢some _ r)
-  encryptedCase g n (some []) q r = absurd (none≢some _ r)
-  encryptedCase g n (some (t ∷ m)) q r = first-encrypted {t = t} {m = m} g (cc) (record { is = q })
+  wrappedCase w g n none q r = absurd (none≢some _ r)
+  wrappedCase w g n (some []) q r = absurd (none≢some _ r)
+  wrappedCase w g n (some (t ∷ m)) q r = first-wrapped {w = w} {t = t} {m = m} g (wrapping-tag w g) (cc) (record { is = q })
 
   variableCase : (s : Sort) → tag ≡ sortTag s → (n : ℕ) (b : Bool) (o : Option (List (Term Variable))) → termsOf rest ≡ o → ltb n variables ≡ b
       → beforeAll (numbered b (named s n)) o ≡ some l → First tag n rest l
@@ -62,7 +63,7 @@ module _ (rest : List ℕ) (l : List (Term Variable)) {tag : ℕ} where
       go (isAtom e) n r = atomCase e n (termsOf rest) refl r
       go (isPair e) zero r = pairCase e (termsOf rest) refl r
       go (isPair e) (suc n) r = absurd (none≢some _ r)
-      go (isEncryption e) n r = encryptedCase e n (termsOf rest) refl r
+      go (isWrapper w e) n r = wrappedCase w e n (termsOf rest) refl r
       go (isVariable s e) n r = variableCase s e n (ltb n variables) (termsOf rest) refl refl r
       go (isNone e) n r = absurd (none≢some _ r)
 
@@ -102,8 +103,8 @@ never-empty (some (variableSymbol x)) (some l) r = let z : _≡_ {A = ℕ} 0 1 =
 never-empty (some pairSymbol) (some []) r = none≢some _ r
 never-empty (some pairSymbol) (some (t ∷ [])) r = none≢some _ r
 never-empty (some pairSymbol) (some (t ∷ u ∷ l)) r = let z : _≡_ {A = ℕ} 0 1 = cc in omega arith
-never-empty (some (encryptionSymbol k)) (some []) r = none≢some _ r
-never-empty (some (encryptionSymbol k)) (some (t ∷ l)) r = let z : _≡_ {A = ℕ} 0 1 = cc in omega arith
+never-empty (some (wrapperSymbol w k)) (some []) r = none≢some _ r
+never-empty (some (wrapperSymbol w k)) (some (t ∷ l)) r = let z : _≡_ {A = ℕ} 0 1 = cc in omega arith
 
 -- A term's entries are read as the term, whatever follows.
 pub entries-read : (t : Term Variable) → Numbered t → {r : List ℕ} {l : List (Term Variable)} → Reads r l → Reads (termEntries t ++ r) (t ∷ l)
@@ -114,9 +115,9 @@ entries-read (atom a) n {r} {l} q = let value : a % 256 + 256 * (a / 256) ≡ a 
 entries-read (pair t u) n {r} {l} q =
     let halves = entries-read t (n .0) (entries-read u (n .1) q) in
     record { is = ap (beforeAll (some pairSymbol)) (ap termsOf (append-assoc (termEntries t) (termEntries u) r) ∙ halves .is) }
-entries-read (encrypted k t) n {r} {l} q =
+entries-read (wrapped w k t) n {r} {l} q =
     let value : k % 256 + 256 * (k / 256) ≡ k = omega arith in
-    let below = entries-read t n q in record { is = rw (below .is, value) }
+    let below = entries-read t n q in record { is = rw (below .is, value, wrapping-tagged w) }
 
 -- The entries of terms, one after the other.
 unfoldable pub entriesAll : List (Term Variable) → List ℕ
@@ -160,8 +161,8 @@ read-entries (a ∷ b ∷ c ∷ d ∷ e) (t ∷ l) r = go (first r) (entry-zero 
           numbers = ((w .numbers .0, w .numbers .1 .0), w .numbers .1 .1);
           same = λ all. rw (append-assoc (termEntries u) (termEntries v) (entriesAll m)) (entry-bytes g z n (all 2) (w .same (later all)));
         })
-    go (first-encrypted {t = u} {m} g q k) z ih = let w = ih (u ∷ m) k in
-        rw q (record { numbers = w .numbers; same = λ all. entry-bytes g z refl (all 2) (w .same (later all)) })
+    go (first-wrapped {t = u} {m} i g q k) z ih = let w = ih (u ∷ m) k in
+        rw q (record { numbers = w .numbers; same = λ all. entry-bytes i z refl (all 2) (w .same (later all)) })
     go (first-variable {m = m} g v n q k) z ih = let w = ih m k in
         rw q (record { numbers = (n, w .numbers); same = λ all. entry-bytes g z refl (all 2) (w .same (later all)) })
 

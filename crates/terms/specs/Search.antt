@@ -4,7 +4,7 @@ use mathlib.Core.Logic.{_⊎_, inl, inr, ⊎-elim}
 use mathlib.Core.List.{List, [], _∷_, _++_, map, nil≢cons, List·Memᴰ, List·Memᴰ·head, List·Memᴰ·tail, List·Memᴰ·not-nil, List·Memᴰ·cases-cons}
 use mathlib.Core.List.{List·Memᴰ·append-cases, List·Memᴰ·eq-of-singleton, Memᴰ·cast, Memᴰ·append-left, Memᴰ·append-right, Memᴰ·map, Memᴰ·of-map}
 use mathlib.Core.Option.{some}
-use Rattle.terms.specs.Term.{Term, variable, atom, pair, encrypted}
+use Rattle.terms.specs.Term.{Term, variable, atom, pair, wrapped}
 use Rattle.terms.specs.Place.{Turn, Turn-discrete, left, right, inside, Place, subtermAt, StrictlyAbove, AtOrAbove, Spot, down, spots}
 use Rattle.terms.specs.Decisions.{dec-map, dec-not, dec-and, dec-or, dec-all}
 use Rattle.terms.specs.Turns.{nothing-above-root, by-turns}
@@ -78,13 +78,13 @@ in-spots {X} p t e =
     by-turns (λ (p : Place) (t s : Term X). List·Memᴰ (p, s) (spots t)) root
     (λ p t u s h. List·Memᴰ·tail (Memᴰ·append-left (map (down right) (spots u)) (Memᴰ·map (down left) h)))
     (λ p t u s h. List·Memᴰ·tail (Memᴰ·append-right (map (down left) (spots t)) (Memᴰ·map (down right) h)))
-    (λ p k t s h. List·Memᴰ·tail (Memᴰ·map (down inside) h)) p t e
+    (λ p w k t s h. List·Memᴰ·tail (Memᴰ·map (down inside) h)) p t e
   where
     root : (t : Term X) → List·Memᴰ ([], t) (spots t)
     root (variable x) = List·Memᴰ·head refl
     root (atom a) = List·Memᴰ·head refl
     root (pair t u) = List·Memᴰ·head refl
-    root (encrypted k t) = List·Memᴰ·head refl
+    root (wrapped w k t) = List·Memᴰ·head refl
 
 -- And nothing else is.
 spots-down : {X : Type 0} (a : Turn) (t u : Term X) → ((q : Place) → subtermAt (a ∷ q) t ≡ subtermAt q u) →
@@ -103,9 +103,9 @@ spots-stand {X} (pair t u) w m =
     (spots-down right (pair t u) u (λ q. refl) (λ v o. spots-stand u v o) w)
     (List·Memᴰ·append-cases (map (down left) (spots t)) n))
     (List·Memᴰ·cases-cons m)
-spots-stand (encrypted k t) w m =
-    ⊎-elim (λ (e : w ≡ ([], encrypted k t)). rw e)
-    (spots-down inside (encrypted k t) t (λ q. refl) (λ v o. spots-stand t v o) w) (List·Memᴰ·cases-cons m)
+spots-stand (wrapped wr k t) w m =
+    ⊎-elim (λ (e : w ≡ ([], wrapped wr k t)). rw e)
+    (spots-down inside (wrapped wr k t) t (λ q. refl) (λ v o. spots-stand t v o) w) (List·Memᴰ·cases-cons m)
 
 unfoldable pub any-place? : {X : Type 0} (t : Term X) {P : Spot X → Type 0} → ((w : Spot X) → Dec (P w)) →
     Dec ((w : Spot X) × Stands t w × P w)

@@ -2,7 +2,7 @@
 use mathlib.Core.Path.{_≡_, _∙_}
 use mathlib.Core.HLevel.{Discrete}
 use mathlib.Core.Logic.{_⊎_, inl, inr, ⊎-elim}
-use Rattle.terms.specs.Term.{Term, variable, atom, pair, encrypted, replace}
+use Rattle.terms.specs.Term.{Term, variable, atom, pair, replace, wrapped}
 use Rattle.terms.specs.Instance.{Matches}
 use Rattle.terms.specs.Occurs.{Occurs, replace-on}
 
@@ -13,11 +13,11 @@ seek d x (atom a) t rest = rest
 seek d x (pair p q) (pair t u) rest = seek d x p t (seek d x q u rest)
 seek d x (pair p q) (variable y) rest = rest
 seek d x (pair p q) (atom a) rest = rest
-seek d x (pair p q) (encrypted k t) rest = rest
-seek d x (encrypted k p) (encrypted l t) rest = seek d x p t rest
-seek d x (encrypted k p) (variable y) rest = rest
-seek d x (encrypted k p) (atom a) rest = rest
-seek d x (encrypted k p) (pair t u) rest = rest
+seek d x (pair p q) (wrapped w k t) rest = rest
+seek d x (wrapped w k p) (wrapped w′ l t) rest = seek d x p t rest
+seek d x (wrapped w k p) (variable y) rest = rest
+seek d x (wrapped w k p) (atom a) rest = rest
+seek d x (wrapped w k p) (pair t u) rest = rest
 
 -- Where the term is the pattern replaced, that part is the variable's replacement.
 seek-is : {X Y : Type 0} (d : Discrete X) (by : X → Term Y) (x : X) (p : Term X) (rest : Term Y) → Occurs x p ⊎ (rest ≡ by x)
@@ -31,7 +31,7 @@ seek-is d by x (variable y) rest o = first (d x y)
 seek-is d by x (atom a) rest o = ⊎-elim (λ e. absurd e) (λ e. e) o
 seek-is d by x (pair p q) rest o = seek-is d by x p _
     (⊎-elim (⊎-elim inl (λ i. inr (seek-is d by x q rest (inl i)))) (λ e. inr (seek-is d by x q rest (inr e))) o)
-seek-is d by x (encrypted k p) rest o = seek-is d by x p rest o
+seek-is d by x (wrapped w k p) rest o = seek-is d by x p rest o
 
 -- The replacement by the parts found; a variable that is not in the pattern gets atom 0.
 unfoldable pub found : {X Y : Type 0} → Discrete X → Term X → Term Y → X → Term Y

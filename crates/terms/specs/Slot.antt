@@ -2,7 +2,7 @@
 use mathlib.Core.Bool.{Bool, true, false}
 use Prim.Native.Nat.{ℕ, _+_, _-_}
 use lib.Dec.{ltb}
-use Rattle.terms.specs.Term.{Term, variable, atom, pair, encrypted, Sort, plain, marked, Variable, named}
+use Rattle.terms.specs.Term.{Term, variable, atom, pair, Sort, plain, marked, Variable, named, wrapped}
 use Rattle.terms.specs.Tag.{variables}
 
 -- How many slots there are.
@@ -20,7 +20,7 @@ unfolding slotIn
 slotOf (variable (named s x)) = slotIn s x
 slotOf (atom a) = slotCount
 slotOf (pair t u) = slotCount
-slotOf (encrypted k t) = slotCount
+slotOf (wrapped w k t) = slotCount
 
 -- The variable of a slot.
 abbrev pub inHalf : Bool → ℕ → Variable

@@ -8,8 +8,8 @@ use lib.ListN.{length}
 use Prim.Native.Nat.{ℕ, zero, suc, _≤_, _<_}
 use native.Mathlib.Omega.{arith}
 use native.Mathlib.Decide.{ℕ-discrete}
-use Rattle.terms.specs.Term.{Term, variable, atom, pair, encrypted, Message, replace}
-use Rattle.terms.specs.Tag.{atomTag, pairTag, encryptionTag}
+use Rattle.terms.specs.Term.{Term, variable, atom, pair, Message, replace, wrapped, Wrapping-discrete}
+use Rattle.terms.specs.Tag.{atomTag, pairTag, wrappingTag, wrapping-tag}
 use Rattle.terms.specs.Decisions.{Says, says-same}
 use Rattle.terms.specs.Occurs.{Occurs, occurs?, replace-on, replace-twice, replace-none, comes, Self, no-cycle}
 use Rattle.terms.specs.Unify.{Equations, clash, done, more, put, equate, single, without, solve, names, unify}
@@ -30,7 +30,7 @@ unfoldable pub form : Message → ℕ
 form (variable x) = 0
 form (atom a) = atomTag
 form (pair m n) = pairTag
-form (encrypted k m) = encryptionTag
+form (wrapped w k m) = wrappingTag w
 
 -- Messages of different forms are never the same.
 never : {m n : Message} {P : Type 0} → ¬ (form m ≡ form n) → ⊥ ↔ ((m ≡ n) × P)
@@ -60,7 +60,7 @@ module _ {Z : Type 0} (d : Discrete Z) where
       go (no n) = put-solves by x (variable y) e
   equate-solves by (variable x) (atom a) e = put-solves by x (atom a) e
   equate-solves by (variable x) (pair t u) e = put-solves by x (pair t u) e
-  equate-solves by (variable x) (encrypted k t) e = put-solves by x (encrypted k t) e
+  equate-solves by (variable x) (wrapped w k t) e = put-solves by x (wrapped w k t) e
   equate-solves by (atom a) (variable y) e = put-back by y (atom a) e
   equate-solves by (atom a) (atom b) e = go (ℕ-discrete a b)
     where
@@ -68,24 +68,25 @@ module _ {Z : Type 0} (d : Discrete Z) where
       go (yes p) = (λ h. (ap atom p, h), λ h. h .1)
       go (no n) = (λ h. absurd h, λ h. n (cc))
   equate-solves by (atom a) (pair t u) e = never (omega arith)
-  equate-solves by (atom a) (encrypted k t) e = never (omega arith)
+  equate-solves by (atom a) (wrapped w k t) e = never (omega (arith, wrapping-tag w refl))
   equate-solves by (pair s r) (variable y) e = put-back by y (pair s r) e
   equate-solves by (pair s r) (atom b) e = never (omega arith)
   equate-solves by (pair s r) (pair t u) e =
       let f = equate-solves by s t (equate d r u e) in
       let g = equate-solves by r u e in
       (λ h. (let a = f .0 h in let b = g .0 (a .1) in (ap₂ pair (a .0) (b .0), b .1)), λ h. f .1 (cc, g .1 (cc, h .1)))
-  equate-solves by (pair s r) (encrypted k t) e = never (omega arith)
-  equate-solves by (encrypted k s) (variable y) e = put-back by y (encrypted k s) e
-  equate-solves by (encrypted k s) (atom b) e = never (omega arith)
-  equate-solves by (encrypted k s) (pair t u) e = never (omega arith)
-  equate-solves by (encrypted k s) (encrypted l t) e = go (ℕ-discrete k l) (equate-solves by s t e)
+  equate-solves by (pair s r) (wrapped w k t) e = never (omega (arith, wrapping-tag w refl))
+  equate-solves by (wrapped w k s) (variable y) e = put-back by y (wrapped w k s) e
+  equate-solves by (wrapped w k s) (atom b) e = never (omega (arith, wrapping-tag w refl))
+  equate-solves by (wrapped w k s) (pair t u) e = never (omega (arith, wrapping-tag w refl))
+  equate-solves by (wrapped w k s) (wrapped w′ l t) e = go (Wrapping-discrete w w′) (ℕ-discrete k l) (equate-solves by s t e)
     where
-      go : (q : Dec (k ≡ l)) → Solves by (equate d s t e) ↔ ((replace by s ≡ replace by t) × Solves by e)
-          → Solves by (elim q [ yes p ↦ equate d s t e | no n ↦ clash ])
-          ↔ ((_≡_ {A = Message} (encrypted k (replace by s)) (encrypted l (replace by t))) × Solves by e)
-      go (yes p) f = (λ h. (let a = f .0 h in (ap₂ encrypted p (a .0), a .1)), λ h. f .1 (cc, h .1))
-      go (no n) f = (λ h. absurd h, λ h. n (cc))
+      go : (o : Dec (w ≡ w′)) (q : Dec (k ≡ l)) → Solves by (equate d s t e) ↔ ((replace by s ≡ replace by t) × Solves by e)
+          → Solves by (elim o [ yes p ↦ elim q [ yes p ↦ equate d s t e | no n ↦ clash ] | no n ↦ clash ])
+          ↔ ((_≡_ {A = Message} (wrapped w k (replace by s)) (wrapped w′ l (replace by t))) × Solves by e)
+      go (yes o) (yes p) f = (λ h. (let a = f .0 h in let b = a .0 in (cc, a .1)), λ h. f .1 (cc, h .1))
+      go (yes o) (no n) f = (λ h. absurd h, λ h. n (cc))
+      go (no n) q f = (λ h. absurd h, λ h. n (cc))
 
   -- Solving the equations with x replaced by t is solving them with t's message for x.
   without-solves : (by : Z → Message) (x : Z) (t : Term Z) (e : Equations Z)
@@ -172,7 +173,7 @@ module _ {Z : Type 0} (d : Discrete Z) (l : List Z) where
       go (no n) = put-within l x (variable y) e (a x refl) b n w
   equate-within (variable x) (atom c) e a b w = put-within l x _ e (a x refl) b (λ p. p) w
   equate-within (variable x) (pair t u) e a b w = put-within l x _ e (a x refl) b (λ p. p) w
-  equate-within (variable x) (encrypted k t) e a b w = put-within l x _ e (a x refl) b (λ p. p) w
+  equate-within (variable x) (wrapped wr k t) e a b w = put-within l x _ e (a x refl) b (λ p. p) w
   equate-within (atom c) (variable y) e a b w = put-within l y _ e (b y refl) a (λ p. p) w
   equate-within (atom c) (atom b′) e a b w = go (ℕ-discrete c b′)
     where
@@ -180,21 +181,23 @@ module _ {Z : Type 0} (d : Discrete Z) (l : List Z) where
       go (yes p) = w
       go (no n) = tt
   equate-within (atom c) (pair t u) e a b w = tt
-  equate-within (atom c) (encrypted k t) e a b w = tt
+  equate-within (atom c) (wrapped wr k t) e a b w = tt
   equate-within (pair s r) (variable y) e a b w = put-within l y _ e (b y refl) a (λ p. p) w
   equate-within (pair s r) (atom c) e a b w = tt
   equate-within (pair s r) (pair t u) e a b w =
       equate-within s t (equate d r u e) (λ y o. a y (inl o)) (λ y o. b y (inl o))
       (equate-within r u e (λ y o. a y (inr o)) (λ y o. b y (inr o)) w)
-  equate-within (pair s r) (encrypted k t) e a b w = tt
-  equate-within (encrypted k s) (variable y) e a b w = put-within l y _ e (b y refl) a (λ p. p) w
-  equate-within (encrypted k s) (atom c) e a b w = tt
-  equate-within (encrypted k s) (pair t u) e a b w = tt
-  equate-within (encrypted k s) (encrypted l′ t) e a b w = go (ℕ-discrete k l′) (equate-within s t e a b w)
+  equate-within (pair s r) (wrapped wr k t) e a b w = tt
+  equate-within (wrapped wr k s) (variable y) e a b w = put-within l y _ e (b y refl) a (λ p. p) w
+  equate-within (wrapped wr k s) (atom c) e a b w = tt
+  equate-within (wrapped wr k s) (pair t u) e a b w = tt
+  equate-within (wrapped wr k s) (wrapped wr′ l′ t) e a b w = go (Wrapping-discrete wr wr′) (ℕ-discrete k l′) (equate-within s t e a b w)
     where
-      go : (q : Dec (k ≡ l′)) → Over l (equate d s t e) → Over l (elim q [ yes p ↦ equate d s t e | no n ↦ clash ])
-      go (yes p) v = v
-      go (no n) v = tt
+      go : (o : Dec (wr ≡ wr′)) (q : Dec (k ≡ l′)) → Over l (equate d s t e)
+          → Over l (elim o [ yes p ↦ elim q [ yes p ↦ equate d s t e | no n ↦ clash ] | no n ↦ clash ])
+      go (yes o) (yes p) v = v
+      go (yes o) (no n) v = tt
+      go (no n) q v = tt
 
 module _ {Z : Type 0} (d : Discrete Z) where
   -- With x replaced by a term in which it does not stand, the variables that are left are over fewer.
@@ -270,7 +273,7 @@ unfolding Occurs names
 names-all (variable x) y o = List·Memᴰ·head o
 names-all (atom a) y o = absurd o
 names-all (pair t u) y o = ⊎-elim (λ i. Memᴰ·append-left (names u) (names-all t y i)) (λ i. Memᴰ·append-right (names t) (names-all u y i)) o
-names-all (encrypted k t) y o = names-all t y o
+names-all (wrapped w k t) y o = names-all t y o
 
 -- Some messages for the variables make two terms the same.
 pub record Unifies {Z : Type 0} (s t : Term Z) : Type 0 where

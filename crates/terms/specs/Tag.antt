@@ -5,7 +5,7 @@ use mathlib.Core.Bool.{Bool, true, false}
 use mathlib.Core.Logic.{_⊎_, inl, inr}
 use Prim.Native.Nat.{ℕ, zero, suc, _≤_, _<_}
 use native.Mathlib.Omega.{arith}
-use Rattle.terms.specs.Term.{Sort, plain, marked}
+use Rattle.terms.specs.Term.{Sort, plain, marked, Wrapping, encryption}
 
 -- Tags: 1 atom; 2 pair; 3 encryption; 4 plain variable; 5 marked variable.
 abbrev pub atomTag : ℕ
@@ -23,6 +23,10 @@ plainTag = 4
 abbrev pub markedTag : ℕ
 markedTag = 5
 
+-- The tag of what is put around a term.
+unfoldable pub wrappingTag : Wrapping → ℕ
+wrappingTag encryption = encryptionTag
+
 -- The tag of a variable of this sort.
 unfoldable pub sortTag : Sort → ℕ
 sortTag plain = plainTag
@@ -39,20 +43,24 @@ VariableTag tag = encryptionTag < tag
 abbrev pub SymbolTag : ℕ → Type 0
 SymbolTag tag = tag ≤ encryptionTag
 
+-- A tag that has one child.
+abbrev pub WrapperTag : ℕ → Type 0
+WrapperTag tag = tag ≡ encryptionTag
+
 -- What a byte says as a tag.
 pub data Tagged (tag : ℕ) : Type 0 where
   isAtom : tag ≡ atomTag → Tagged tag
   isPair : tag ≡ pairTag → Tagged tag
-  isEncryption : tag ≡ encryptionTag → Tagged tag
+  isWrapper : (w : Wrapping) → tag ≡ wrappingTag w → Tagged tag
   isVariable : (s : Sort) → tag ≡ sortTag s → Tagged tag
   isNone : (tag < atomTag) ⊎ (markedTag < tag) → Tagged tag
 
 unfoldable pub tagged : (tag : ℕ) → Tagged tag
-unfolding sortTag
+unfolding sortTag wrappingTag
 tagged zero = isNone (inl (omega arith))
 tagged (suc zero) = isAtom refl
 tagged (suc (suc zero)) = isPair refl
-tagged (suc (suc (suc zero))) = isEncryption refl
+tagged (suc (suc (suc zero))) = isWrapper encryption refl
 tagged (suc (suc (suc (suc zero)))) = isVariable plain refl
 tagged (suc (suc (suc (suc (suc zero))))) = isVariable marked refl
 tagged (suc (suc (suc (suc (suc (suc n)))))) = isNone (inr (omega arith))
@@ -61,7 +69,7 @@ tagged (suc (suc (suc (suc (suc (suc n)))))) = isNone (inr (omega arith))
 abbrev pub childrenBy : {tag : ℕ} → Tagged tag → ℕ
 childrenBy (isAtom e) = 0
 childrenBy (isPair e) = 2
-childrenBy (isEncryption e) = 1
+childrenBy (isWrapper w e) = 1
 childrenBy (isVariable s e) = 0
 childrenBy (isNone e) = 0
 
@@ -73,7 +81,7 @@ childrenOf tag = childrenBy (tagged tag)
 abbrev pub freeBy : {tag : ℕ} → Tagged tag → Bool
 freeBy (isAtom e) = false
 freeBy (isPair e) = false
-freeBy (isEncryption e) = false
+freeBy (isWrapper w e) = false
 freeBy (isVariable s e) = true
 freeBy (isNone e) = true
 
@@ -91,3 +99,12 @@ pub sort-tagged : (s : Sort) → tagged (sortTag s) ≡ isVariable s refl
 unfolding tagged sortTag
 sort-tagged plain = refl
 sort-tagged marked = refl
+
+-- The same of what is put around a term.
+pub wrapping-tag : {tag : ℕ} (w : Wrapping) → tag ≡ wrappingTag w → WrapperTag tag
+unfolding wrappingTag
+wrapping-tag encryption e = e
+
+pub wrapping-tagged : (w : Wrapping) → tagged (wrappingTag w) ≡ isWrapper w refl
+unfolding tagged wrappingTag
+wrapping-tagged encryption = refl

@@ -1,6 +1,11 @@
 -- Messages and terms (document 01, "Messages, intruder, runs").
 use Prim.Native.Nat.{ℕ, _≤_}
 
+-- What may be put around one term, with a number: encryption, whose number is the key's.
+pub data Wrapping : Type 0 where
+  encryption : Wrapping
+  deriving Discrete as Wrapping-discrete
+
 -- A term over the variables X: a variable, an atom by its number, a pair (t, u), or {t}k, t encrypted under the key
 -- atom k. Any number may stand as an atom or as a key: that only makes what is proved of runs stronger, and changes no
 -- answer on shared instances (`built-answer` of proofs/BuiltLaws.antt).
@@ -8,8 +13,12 @@ pub data Term (X : Type 0) : Type 0 where
   variable : X → Term X
   atom : ℕ → Term X
   pair : Term X → Term X → Term X
-  encrypted : ℕ → Term X → Term X
+  wrapped : Wrapping → ℕ → Term X → Term X
   deriving Discrete as Term-discrete
+
+-- {t}k.
+abbrev pub encrypted : {X : Type 0} → ℕ → Term X → Term X
+encrypted k t = wrapped encryption k t
 
 -- A message is an atom, a pair (m, n), or {m}k: a term that holds no variable. Terms and messages are finite.
 abbrev pub Message : Type 0
@@ -35,7 +44,7 @@ unfoldable pub replace : {X Y : Type 0} → (X → Term Y) → Term X → Term Y
 replace by (variable x) = by x
 replace by (atom a) = atom a
 replace by (pair t u) = pair (replace by t) (replace by u)
-replace by (encrypted k t) = encrypted k (replace by t)
+replace by (wrapped w k t) = wrapped w k (replace by t)
 
 -- An instance replaces each variable by a finite message, the same one at all its occurrences.
 abbrev pub instance : {X : Type 0} → (X → Message) → Term X → Message

@@ -7,7 +7,7 @@ use lib.ListN.{length, getD, drop}
 use Rattle.blocks.specs.Kinds.{secretKind, goodKind}
 use Rattle.terms.specs.declared.valid.Found.{Found}
 use Rattle.terms.specs.Term.{Sort, plain, marked}
-use Rattle.terms.specs.Tag.{atomTag, pairTag, encryptionTag, sortTag, variables, Tagged, isAtom, isPair, isEncryption, isVariable, isNone, tagged}
+use Rattle.terms.specs.Tag.{atomTag, pairTag, encryptionTag, sortTag, variables, Tagged, isAtom, isPair, isWrapper, isVariable, isNone, tagged, wrapping-tag}
 use Rattle.terms.specs.Tag.{sort-tagged}
 use Rattle.terms.specs.Entry.{tagAt, valueAt}
 use Rattle.terms.specs.Atom.{Atom, IsKey, isKey?}
@@ -44,7 +44,7 @@ module _ (atoms : List Atom) (kind value : ℕ) where
   abbrev pub AskedBy : {tag : ℕ} → Tagged tag → Type 0
   AskedBy (isAtom e) = value < length atoms
   AskedBy (isPair e) = value ≡ 0
-  AskedBy (isEncryption e) = IsKey atoms value
+  AskedBy (isWrapper w e) = IsKey atoms value
   AskedBy (isVariable s e) = (value < variables) × MayStand s kind
   AskedBy (isNone e) = ⊥
 
@@ -66,7 +66,7 @@ module _ (atoms : List Atom) (kind value : ℕ) where
       go : (w : Tagged tag) → AskedBy w → TagRight atoms kind tag value
       go (isAtom e) a = atomEntry e a
       go (isPair e) a = pairEntry e a
-      go (isEncryption e) a = encryptionEntry e a
+      go (isWrapper w e) a = encryptionEntry (wrapping-tag w e) a
       go (isVariable s e) a = variableEntry s e (a .0) (a .1)
       go (isNone e) a = absurd a
 
@@ -77,7 +77,7 @@ module _ (atoms : List Atom) (kind value : ℕ) where
       go : (w : Tagged tag) → Dec (AskedBy w)
       go (isAtom e) = decLt value (length atoms)
       go (isPair e) = ℕ-discrete value 0
-      go (isEncryption e) = isKey? atoms value
+      go (isWrapper w e) = isKey? atoms value
       go (isVariable s e) = dec-and (decLt value variables) (λ l. mayStand? s kind)
       go (isNone e) = no (λ h. h)
 

@@ -8,11 +8,11 @@ use lib.Dec.{ltb}
 use lib.ListN.{length, getD, drop}
 use Rattle.blocks.specs.Limits.{mostTermBytes}
 use Rattle.blocks.specs.Block.{wordAt}
-use Rattle.terms.specs.Tag.{pairTag, encryptionTag, variables, Tagged, isAtom, isPair, isEncryption, isVariable, isNone, tagged}
+use Rattle.terms.specs.Tag.{pairTag, encryptionTag, variables, Tagged, isAtom, isPair, isWrapper, isVariable, isNone, tagged}
 use Rattle.terms.specs.Decisions.{pick}
 use Rattle.terms.specs.Slot.{slotCount, slotIn}
 use Rattle.terms.specs.Entry.{termOf, size, Begins}
-use Rattle.terms.specs.Graph.{Node, free, atomNode, pairNode, encryptionNode, IsSymbol}
+use Rattle.terms.specs.Graph.{Node, free, atomNode, pairNode, wrapperNode, IsSymbol}
 
 -- Where the nodes of the second term's entries begin, those of the first term's variables and of the second's; and how
 -- many numbers there are for nodes.
@@ -39,7 +39,7 @@ valueIn e k = wordAt e (4 * k + 2)
 abbrev pub homeFor : {tag : ℕ} → Tagged tag → ℕ → ℕ → ℕ → ℕ
 homeFor (isAtom e) n slots own = own
 homeFor (isPair e) n slots own = own
-homeFor (isEncryption e) n slots own = own
+homeFor (isWrapper w e) n slots own = own
 homeFor (isVariable s e) n slots own = slots + slotIn s (n % variables)
 homeFor (isNone e) n slots own = own
 
@@ -59,7 +59,7 @@ rightIn e k = k + 1 + size (termOf (drop (4 * (k + 1)) e))
 abbrev pub nodeFor : {tag : ℕ} → Tagged tag → ℕ → ℕ → ℕ → Node
 nodeFor (isAtom e) n l r = atomNode n
 nodeFor (isPair e) n l r = pairNode l r
-nodeFor (isEncryption e) n l r = encryptionNode n l
+nodeFor (isWrapper w e) n l r = wrapperNode w n l
 nodeFor (isVariable s e) n l r = free
 nodeFor (isNone e) n l r = free
 

@@ -5,7 +5,7 @@ use mathlib.Core.List.{List, [], _∷_, _++_}
 use lib.ListN.{length}
 use Prim.Native.Nat.{ℕ, zero, suc}
 use native.Mathlib.Decide.{ℕ-discrete}
-use Rattle.terms.specs.Term.{Term, variable, atom, pair, encrypted, replace}
+use Rattle.terms.specs.Term.{Term, variable, atom, pair, replace, wrapped, Wrapping-discrete}
 use Rattle.terms.specs.Occurs.{occurs?}
 
 -- Equations between a variable and a term; or a clash, which nothing solves.
@@ -26,19 +26,22 @@ unfolding put
 equate d (variable x) (variable y) e = elim (d x y) [ yes p ↦ e | no n ↦ put x (variable y) e ]
 equate d (variable x) (atom a) e = put x (atom a) e
 equate d (variable x) (pair t u) e = put x (pair t u) e
-equate d (variable x) (encrypted k t) e = put x (encrypted k t) e
+equate d (variable x) (wrapped w k t) e = put x (wrapped w k t) e
 equate d (atom a) (variable y) e = put y (atom a) e
 equate d (atom a) (atom b) e = elim (ℕ-discrete a b) [ yes p ↦ e | no n ↦ clash ]
 equate d (atom a) (pair t u) e = clash
-equate d (atom a) (encrypted k t) e = clash
+equate d (atom a) (wrapped w k t) e = clash
 equate d (pair s r) (variable y) e = put y (pair s r) e
 equate d (pair s r) (atom b) e = clash
 equate d (pair s r) (pair t u) e = equate d s t (equate d r u e)
-equate d (pair s r) (encrypted k t) e = clash
-equate d (encrypted k s) (variable y) e = put y (encrypted k s) e
-equate d (encrypted k s) (atom b) e = clash
-equate d (encrypted k s) (pair t u) e = clash
-equate d (encrypted k s) (encrypted l t) e = elim (ℕ-discrete k l) [ yes p ↦ equate d s t e | no n ↦ clash ]
+equate d (pair s r) (wrapped w k t) e = clash
+equate d (wrapped w k s) (variable y) e = put y (wrapped w k s) e
+equate d (wrapped w k s) (atom b) e = clash
+equate d (wrapped w k s) (pair t u) e = clash
+equate d (wrapped w k s) (wrapped w′ l t) e = elim (Wrapping-discrete w w′) [
+  | yes q ↦ elim (ℕ-discrete k l) [ yes p ↦ equate d s t e | no n ↦ clash ]
+  | no n ↦ clash
+]
 
 -- A single variable replaced.
 unfoldable pub single : {Z : Type 0} → Discrete Z → Z → Term Z → Z → Term Z
@@ -64,7 +67,7 @@ unfoldable pub names : {Z : Type 0} → Term Z → List Z
 names (variable x) = x ∷ []
 names (atom a) = []
 names (pair t u) = names t ++ names u
-names (encrypted k t) = names t
+names (wrapped w k t) = names t
 
 -- Whether messages for the variables make two terms the same.
 unfoldable pub unify : {Z : Type 0} → Discrete Z → Term Z → Term Z → Bool

@@ -18,7 +18,7 @@ use Rattle.terms.specs.Term.{Term, Variable, variable, named}
 use Rattle.terms.specs.Tag.{VariableTag, SymbolTag, sort-tag}
 use Rattle.terms.specs.Place.{Place}
 use Rattle.terms.specs.Entry.{size, termOf, tagAt, valueAt, Reads, Begins, from, entryAt, Placed}
-use Rattle.terms.specs.Reading.{First, first-atom, first-pair, first-encrypted, first-variable, first}
+use Rattle.terms.specs.Reading.{First, first-atom, first-pair, first-wrapped, first-variable, first}
 use Rattle.terms.proofs.EntryLaws.{termOf-reads, suffix, reads-variable, term-reads}
 use Rattle.terms.specs.Decisions.{Says, says-same}
 use Rattle.terms.proofs.AnswerLaws.{answer-yes, answer-no}
@@ -81,7 +81,7 @@ module _ (c : Certificate) {t : List ℕ} (b : Begins t) where
       go (first-variable g v n q k) = risky-is c (termOf t) .1 (inl (_, termOf-reads (rw q at (b .reads))))
       go (first-atom g q k) = absurd (omega arith)
       go (first-pair g n q k) = absurd (omega arith)
-      go (first-encrypted g q k) = absurd (omega arith)
+      go (first-wrapped i g q k) = absurd (omega arith)
 
   no-variable : SymbolTag (tagAt t) → (x : Variable) → ¬ (termOf t ≡ variable x)
   no-variable tag x is = go x (term-reads b is)

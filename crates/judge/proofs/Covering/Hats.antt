@@ -10,7 +10,7 @@ use lib.ListN.{length, getD, replicate}
 use Rattle.blocks.specs.Kinds.{goodKind, badKind, ListsTerm}
 use Rattle.blocks.specs.Block.{blockAt, kindOf, firstEntries}
 use Rattle.blocks.proofs.KindLaws.{good-lists}
-use Rattle.terms.specs.Term.{Term, Variable, replace}
+use Rattle.terms.specs.Term.{Term, Variable, replace, encryption}
 use Rattle.terms.specs.Place.{Place}
 use Rattle.terms.specs.Instance.{Matches}
 use Rattle.terms.specs.Entry.{size, termOf, tagAt, Begins, from, entryAt, Placed}

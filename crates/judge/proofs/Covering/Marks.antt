@@ -12,11 +12,11 @@ use Rattle.terms.specs.Tag.{pairTag, encryptionTag, markedTag, sortTag}
 use Rattle.terms.specs.Place.{Turn, Place, left, right, inside, subtermAt}
 use Rattle.terms.specs.Instance.{Matches}
 use Rattle.terms.specs.Entry.{size, termOf, tagAt, valueAt, Reads, Begins, from, entryAt, Placed}
-use Rattle.terms.specs.Reading.{First, first-atom, first-pair, first-encrypted, first-variable, first}
+use Rattle.terms.specs.Reading.{First, first-atom, first-pair, first-wrapped, first-variable, first}
 use Rattle.terms.proofs.EntryLaws.{termOf-reads, term-reads, begins, fits, PairFirst, pair-first, right-begins, EncryptionFirst, encryption-first, from-length}
 use Rattle.terms.specs.OneTerm.{IsEncryption}
 use Rattle.terms.specs.TermGraph.{rightIn}
-use Rattle.terms.proofs.TermGraphLaws.{pair-in, encryption-in}
+use Rattle.terms.proofs.TermGraphLaws.{pair-in, wrapped-in}
 use Rattle.terms.proofs.PlaceLaws.{subtermAt-replace}
 use Rattle.terms.proofs.PlacedLaws.{placed, within, placed-below, at-or-above-entry}
 use Rattle.judge.specs.Hat.{Mark}
@@ -267,7 +267,7 @@ module _ {p e : List ℕ} {h : ℕ} (l : Laying p e h) where
         c = replace by (f .content);
         more = l .term .others;
         term = term;
-        content-term = encryption-in e h (here term) .content;
+        content-term = wrapped-in e h (here term) .content;
         content-match = record { by = by; same = refl };
       }
 
@@ -303,7 +303,7 @@ module _ {p e : List ℕ} {h : ℕ} (l : Laying p e h) where
           rw (termOf-reads (rw q at (l .pattern .reads)), marked-sort s g, is) (w .1, w .0)
       go k (first-atom g q m) = absurd (omega arith)
       go k (first-pair g n q m) = absurd (omega arith)
-      go k (first-encrypted g q m) = absurd (omega arith)
+      go k (first-wrapped i g q m) = absurd (omega arith)
 
   -- Any other symbol has no mark.
   pub no-mark : ¬ (tagAt p ≡ pairTag) → ¬ (tagAt p ≡ encryptionTag) → ¬ (tagAt p ≡ markedTag) → {a : List ℕ} → length a ≡ 64 → Raised a a (MarkOver (termOf p) (subAt e h) h)
@@ -317,5 +317,5 @@ module _ {p e : List ℕ} {h : ℕ} (l : Laying p e h) where
       go : (k : ℕ) → First (tagAt p) (valueAt p) (drop 4 p) (l .pattern .term ∷ l .pattern .others) → ¬ MarkOver (termOf p) (subAt e h) h k
       go k (first-atom g q m) = rw (termOf-reads (rw q at (l .pattern .reads))) (mark-atom {h = h} {k = k} (valueAt p) (subAt e h))
       go k (first-pair g n q m) = absurd (no-pair g)
-      go k (first-encrypted g q m) = absurd (no-encryption g)
+      go k (first-wrapped i g q m) = absurd (no-encryption g)
       go k (first-variable {s = s} g v n q m) = rw (termOf-reads (rw q at (l .pattern .reads)), plain-sort s g) (mark-plain {h = h} {k = k} (valueAt p) (subAt e h))

@@ -13,7 +13,7 @@ use Rattle.blocks.specs.Limits.{mostEntries}
 use Rattle.blocks.specs.Block.{blockAt, firstEntries}
 use Rattle.blocks.proofs.KindLaws.{secret-lists, good-lists, bad-lists}
 use Rattle.blocks.proofs.Parts.{first-length}
-use Rattle.terms.specs.Term.{Term, variable, atom, pair, encrypted, Variable, instance, replace}
+use Rattle.terms.specs.Term.{Term, variable, atom, pair, Variable, instance, replace, wrapped}
 use Rattle.terms.specs.Atom.{Atom, IsKey, isKey?}
 use Rattle.terms.proofs.AtomLaws.{key-listed, length-atoms}
 use Rattle.terms.specs.Place.{Place, subtermAt}
@@ -57,7 +57,7 @@ module _ {A B K L : ℕ → Type 0} (atoms : (a : ℕ) → A a → B a) (keys : 
   built-more (variable x) b = tt
   built-more (atom a) b = atoms a b
   built-more (pair t u) b = (built-more t (b .0), built-more u (b .1))
-  built-more (encrypted k t) b = (keys k (b .0), built-more t (b .1))
+  built-more (wrapped w k t) b = (keys k (b .0), built-more t (b .1))
 
   holding-more : {certificate : Certificate} → Holding A K certificate → Holding B L certificate
   holding-more w = record {
@@ -73,7 +73,7 @@ built-subterm : (A K : ℕ → Type 0) {X : Type 0} (p : Place) (t : Term X) {s 
 unfolding Built
 built-subterm A K {X} =
     by-turns (λ (p : Place) (t s : Term X). Built A K t → Built A K s)
-    (λ t b. b) (λ p t u s h b. h (b .0)) (λ p t u s h b. h (b .1)) (λ p k t s h b. h (b .1))
+    (λ t b. b) (λ p t u s h b. h (b .0)) (λ p t u s h b. h (b .1)) (λ p w k t s h b. h (b .1))
 
 -- ---- a file that has passed numbers 1 to 8
 

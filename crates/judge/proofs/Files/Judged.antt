@@ -17,6 +17,7 @@ use Rattle.blocks.specs.Layout.{LayoutRight, layoutRight, within}
 use Rattle.blocks.proofs.Sealing.{check-right, right-check}
 use Rattle.blocks.proofs.Layouts.{layout-right, right-layout, layout-fits}
 use Rattle.blocks.proofs.Parts.{first-length, second-length, entries-used}
+use Rattle.terms.specs.Term.{encryption}
 use Rattle.terms.specs.Entry.{termOf}
 use Rattle.terms.specs.Atom.{Atom, atomsOf, atomRight?, wrongAtom}
 use Rattle.terms.proofs.AtomLaws.{length-atoms}

@@ -4,11 +4,11 @@ use mathlib.Core.List.{[], _∷_, _++_}
 use mathlib.Core.Option.{some}
 use Prim.Native.Nat.{ℕ}
 use native.Mathlib.Omega.{arith}
-use Rattle.terms.specs.Term.{Term, Message, Variable, replace, instance}
+use Rattle.terms.specs.Term.{Term, Message, Variable, replace, instance, encryption}
 use Rattle.terms.specs.Place.{Place, subtermAt}
 use Rattle.terms.specs.Instance.{Matches, Share}
 use Rattle.terms.proofs.InstanceLaws.{replace-message, replace-asTerm, matches-replace}
-use Rattle.terms.proofs.PlaceLaws.{subtermAt-replace, strictly-above-below, at-or-above-below, OnTheWay, on-the-way, Composite, composite, isPair, isEncrypted}
+use Rattle.terms.proofs.PlaceLaws.{subtermAt-replace, strictly-above-below, at-or-above-below, OnTheWay, on-the-way, Composite, composite, isPair, isWrapped}
 use Rattle.terms.proofs.PlaceLaws.{Edge, exact, below, Origin, origin}
 use Rattle.judge.specs.Certificate.{Rule, Certificate, Secret}
 use Rattle.judge.specs.Hat.{Hat, Protected}
@@ -48,7 +48,7 @@ module _ {certificate : Certificate} (meets : MeetsAll certificate) (by : Variab
       go (isPair e) =
           let f = root .same in let g = same in let h = ap (instance by) e in
           let z : _≡_ {A = ℕ} 0 1 = cc in omega arith
-      go (isEncrypted {k = k} {u = u} e) =
+      go (isWrapped {w = encryption} {k = k} {u = u} e) =
           no-hat (isOpen .every (x .place) (x .above) k u (way .stands ∙ ap some e)) (rw (same, e) at (x .hat))
 
   -- What stands at an open place of a safe premise is safe itself.

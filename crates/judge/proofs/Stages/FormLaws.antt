@@ -17,6 +17,7 @@ use Rattle.blocks.specs.Check.{checkRight}
 use Rattle.blocks.specs.Layout.{layoutRight}
 use Rattle.blocks.proofs.Layouts.{layout-right, layout-fits}
 use Rattle.blocks.proofs.Parts.{first-length}
+use Rattle.terms.specs.Term.{encryption}
 use Rattle.terms.specs.declared.valid.Found.{Found}
 use Rattle.terms.specs.declared.valid.Found.the-variants.{At, Nothing}
 use Rattle.terms.specs.Entry.{Begins, termOf}

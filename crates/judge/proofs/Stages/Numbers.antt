@@ -10,10 +10,10 @@ use lib.Dec.{eqb}
 use lib.ListN.{length, getD, drop, List·getD-eq-default}
 use borrow.Author.Tests.{eq-eqb, ne-eqb}
 use Rattle.blocks.specs.Block.{blockAt, kindOf, firstEntries}
-use Rattle.terms.specs.Term.{Term, Message, Variable, variable, atom, pair, encrypted, replace, asTerm}
+use Rattle.terms.specs.Term.{Term, Message, Variable, variable, atom, pair, encrypted, replace, asTerm, wrapped, encryption}
 use Rattle.terms.specs.Tag.{atomTag, pairTag, encryptionTag}
 use Rattle.terms.specs.Entry.{Begins, Reads, termsOf, termOf, symbolOf, withZero, before, beforeAll, tagAt, valueAt, size, from}
-use Rattle.terms.specs.Reading.{First, first-atom, first-pair, first-encrypted, first-variable, first}
+use Rattle.terms.specs.Reading.{First, first-atom, first-pair, first-wrapped, first-variable, first}
 use Rattle.terms.proofs.EntryLaws.{reads-atom, reads-pair, reads-encrypted, termOf-reads, pair-first, encryption-first, right-begins}
 use Rattle.terms.specs.Atom.{Atom, atomsOf, atomAt, knownOf}
 use Rattle.terms.proofs.AtomLaws.{length-atoms, known-byte, partner-bytes}
@@ -49,7 +49,7 @@ unfolding asTerm replace
 pair-message (variable x) e = absurd x
 pair-message (atom a) e = let z : _≡_ {A = ℕ} 0 1 = cc in absurd (omega arith)
 pair-message (pair l r) e = (l, r, refl, (cc), (cc))
-pair-message (encrypted k m) e = let z : _≡_ {A = ℕ} 0 1 = cc in absurd (omega arith)
+pair-message (wrapped w k m) e = let z : _≡_ {A = ℕ} 0 1 = cc in absurd (omega arith)
 
 encrypted-message : (m : Message) {k : ℕ} {t : Term Variable} → encrypted k t ≡ asTerm m
     → (n : Message) × (m ≡ encrypted k n) × (t ≡ asTerm n)
@@ -57,7 +57,7 @@ unfolding asTerm replace
 encrypted-message (variable x) e = absurd x
 encrypted-message (atom a) e = let z : _≡_ {A = ℕ} 0 1 = cc in absurd (omega arith)
 encrypted-message (pair l r) e = let z : _≡_ {A = ℕ} 0 1 = cc in absurd (omega arith)
-encrypted-message (encrypted j n) {k} e = let same : k ≡ j = cc in (n, rw same refl, (cc))
+encrypted-message (wrapped encryption j n) {k} e = let same : k ≡ j = cc in (n, rw same refl, (cc))
 
 -- A term of a known form stands first.
 read : {e : List ℕ} (b : Begins e) {t : Term Variable} → termOf e ≡ t → Reads e (t ∷ b .others)
@@ -69,7 +69,7 @@ atom-first {e} b is = go (first (b .reads))
     go : First (tagAt e) (valueAt e) (drop 4 e) (b .term ∷ b .others) → termOf e ≡ atom (valueAt e)
     go (first-atom g q k) = termOf-reads (rw q at (b .reads))
     go (first-pair g n q k) = absurd (omega arith)
-    go (first-encrypted g q k) = absurd (omega arith)
+    go (first-wrapped i g q k) = absurd (omega arith)
     go (first-variable g v n q k) = absurd (omega arith)
 
 -- The entry of an atom, alone.

@@ -14,15 +14,15 @@ use lib.Seq.{getD-set-same, getD-set-other, getD-drop}
 use Rattle.blocks.specs.Kinds.{secretKind}
 use Rattle.blocks.specs.Block.{blockAt, kindOf, firstEntries}
 use Rattle.blocks.proofs.KindLaws.{secret-lists}
-use Rattle.terms.specs.Term.{Term, Message, Variable, variable, atom, pair, encrypted, Sort, named, replace, asTerm}
-use Rattle.terms.specs.Tag.{atomTag, pairTag, encryptionTag, sortTag, VariableTag, SymbolTag, sort-tag, sort-tagged}
-use Rattle.terms.specs.Tag.{Tagged, isAtom, isPair, isEncryption, isVariable, isNone, tagged}
+use Rattle.terms.specs.Term.{Term, Message, Variable, variable, atom, pair, Sort, named, replace, asTerm, wrapped, Wrapping}
+use Rattle.terms.specs.Tag.{atomTag, pairTag, encryptionTag, sortTag, VariableTag, SymbolTag, sort-tag, sort-tagged, wrappingTag, wrapping-tag, wrapping-tagged}
+use Rattle.terms.specs.Tag.{Tagged, isAtom, isPair, isWrapper, isVariable, isNone, tagged}
 use Rattle.terms.specs.Slot.{slotCount}
 use Rattle.terms.specs.Instance.{Matches, Share}
 use Rattle.terms.proofs.InstanceLaws.{replace-asTerm}
 use Rattle.terms.specs.Occurs.{replace-twice}
 use Rattle.terms.specs.Entry.{Begins, termOf, tagAt, valueAt, from}
-use Rattle.terms.specs.Reading.{First, first, first-atom, first-pair, first-encrypted, first-variable}
+use Rattle.terms.specs.Reading.{First, first, first-atom, first-pair, first-wrapped, first-variable}
 use Rattle.terms.proofs.EntryLaws.{termOf-reads, begins, pair-first, from-length}
 use Rattle.terms.proofs.RootLaws.{tags-apart, values-apart}
 use Rattle.judge.specs.File.{blockCount, patternOf, certificateOf}
@@ -46,7 +46,7 @@ slot-leaf tag n l m off = go (tagged tag)
     go : (w : Tagged tag) → slotFor w n l ≡ slotFor w n m
     go (isAtom e) = refl
     go (isPair e) = absurd (off e)
-    go (isEncryption e) = refl
+    go (isWrapper w e) = refl
     go (isVariable s e) = refl
     go (isNone (inl low)) = refl
     go (isNone (inr high)) = refl
@@ -59,7 +59,7 @@ slot-low tag n l low no-pair no-key = go (tagged tag)
     go : (w : Tagged tag) → n % pairRoots ≡ slotFor w n l
     go (isAtom e) = refl
     go (isPair e) = absurd (no-pair e)
-    go (isEncryption e) = absurd (no-key e)
+    go (isWrapper w e) = absurd (no-key (wrapping-tag w e))
     go (isVariable s e) = let high = sort-tag s e in absurd (omega arith)
     go (isNone (inl none)) = refl
     go (isNone (inr high)) = absurd (omega arith)
@@ -71,10 +71,15 @@ slot-high tag n l high = go (tagged tag)
     go : (w : Tagged tag) → variableRoots + n % slotCount ≡ slotFor w n l
     go (isAtom e) = absurd (omega arith)
     go (isPair e) = absurd (omega arith)
-    go (isEncryption e) = absurd (omega arith)
+    go (isWrapper w e) = let low = wrapping-tag w e in absurd (omega arith)
     go (isVariable s e) = refl
     go (isNone (inl low)) = absurd (omega arith)
     go (isNone (inr high)) = refl
+
+-- Something around a term.
+slot-wrapping : (w : Wrapping) (n l : ℕ) → slotBy (wrappingTag w) n l ≡ encryptionRoots + n % pairRoots
+unfolding slotBy
+slot-wrapping w n l = rw (wrapping-tagged w) refl
 
 -- A variable of any sort.
 slot-sort : (s : Sort) (n l : ℕ) → slotBy (sortTag s) n l ≡ variableRoots + n % slotCount
@@ -105,13 +110,13 @@ rootValue : Term Variable → ℕ
 rootValue (variable (named s x)) = x
 rootValue (atom a) = a
 rootValue (pair t u) = 0
-rootValue (encrypted k t) = k
+rootValue (wrapped w k t) = k
 
 termSlot : Term Variable → ℕ
 termSlot (variable (named s x)) = variableRoots + x % slotCount
 termSlot (atom a) = a % pairRoots
 termSlot (pair t u) = pairRoots + rootValue t % pairRoots
-termSlot (encrypted k t) = encryptionRoots + k % pairRoots
+termSlot (wrapped w k t) = encryptionRoots + k % pairRoots
 
 value-term : {e : List ℕ} → Begins e → valueAt e ≡ rootValue (termOf e)
 unfolding rootValue
@@ -120,7 +125,7 @@ value-term {e} b = go (first (b .reads)) (termOf-reads (b .reads))
     go : First (tagAt e) (valueAt e) (drop 4 e) (b .term ∷ b .others) → termOf e ≡ b .term → valueAt e ≡ rootValue (termOf e)
     go (first-atom g q k) is = let t : termOf e ≡ atom (valueAt e) = cc in rw t refl
     go (first-pair {t} {u} g n q k) is = let w : termOf e ≡ pair t u = cc in rw w n
-    go (first-encrypted {t} g q k) is = let w : termOf e ≡ encrypted (valueAt e) t = cc in rw w refl
+    go (first-wrapped {w = wr} {t = t} i g q k) is = let w : termOf e ≡ wrapped wr (valueAt e) t = cc in rw w refl
     go (first-variable {s = s} g v l q k) is = let w : termOf e ≡ variable (named s (valueAt e)) = cc in rw w refl
 
 slot-term : {e : List ℕ} → Begins e → slotAt e ≡ termSlot (termOf e)
@@ -136,7 +141,8 @@ slot-term {e} b = go (first (b .reads)) (termOf-reads (b .reads))
         let w : termOf e ≡ pair t u = cc in
         let left : valueAt (drop 4 e) ≡ rootValue t = value-term (begins k) ∙ ap rootValue (termOf-reads k) in
         rw w (by-tag pairTag g ∙ ap (λ (n : ℕ). pairRoots + n % pairRoots) left)
-    go (first-encrypted {t} g q k) is = let w : termOf e ≡ encrypted (valueAt e) t = cc in rw w (by-tag encryptionTag g)
+    go (first-wrapped {w = wr} {t = t} i g q k) is =
+        let w : termOf e ≡ wrapped wr (valueAt e) t = cc in rw w (by-tag (wrappingTag wr) i ∙ slot-wrapping wr (valueAt e) (valueAt (drop 4 e)))
     go (first-variable {s = s} g v l q k) is =
         let w : termOf e ≡ variable (named s (valueAt e)) = cc in rw w (by-tag (sortTag s) g ∙ slot-sort s (valueAt e) (valueAt (drop 4 e)))
 
@@ -203,12 +209,12 @@ message-symbol {e} b m same = go (first (b .reads)) (termOf-reads (b .reads))
     no-variable x (variable y) e = y
     no-variable x (atom a) e = let z : _≡_ {A = ℕ} 0 1 = cc in omega arith
     no-variable x (pair m n) e = let z : _≡_ {A = ℕ} 0 1 = cc in omega arith
-    no-variable x (encrypted k m) e = let z : _≡_ {A = ℕ} 0 1 = cc in omega arith
+    no-variable x (wrapped w k m) e = let z : _≡_ {A = ℕ} 0 1 = cc in omega arith
 
     go : {tag n : ℕ} {rest : List ℕ} → First tag n rest (b .term ∷ b .others) → termOf e ≡ b .term → SymbolTag tag
     go (first-atom g q k) is = omega arith
     go (first-pair g n q k) is = omega arith
-    go (first-encrypted g q k) is = omega arith
+    go (first-wrapped i g q k) is = omega arith
     go {n = n} (first-variable {s = s} g v l q k) is =
         let t : b .term ≡ variable (named s n) = cc in absurd (no-variable (named s n) m (sym t ∙ sym is ∙ same))
 

@@ -9,7 +9,7 @@ use Rattle.blocks.specs.Kinds.{secretKind, ListsTerm}
 use Rattle.blocks.specs.Limits.{mostTermBytes}
 use Rattle.blocks.specs.Block.{blockAt, kindOf, firstEntries}
 use Rattle.blocks.proofs.Parts.{first-length}
-use Rattle.terms.specs.Term.{Term, variable, atom, pair, encrypted, replace}
+use Rattle.terms.specs.Term.{Term, variable, atom, pair, replace, wrapped}
 use Rattle.terms.specs.Instance.{Share}
 use Rattle.terms.specs.Entry.{termOf, size, from}
 use Rattle.terms.proofs.EntryLaws.{size-positive}
@@ -68,7 +68,7 @@ unfolding replace size
 grown by (variable x) = omega (arith, size-positive (by x))
 grown by (atom a) = omega arith
 grown by (pair t u) = let left = grown by t in let right = grown by u in omega arith
-grown by (encrypted k t) = let content = grown by t in omega arith
+grown by (wrapped w k t) = let content = grown by t in omega arith
 
 -- A secret that is smaller is no instance.
 pub too-small : {file e t : List ℕ} {i n : ℕ} → Laid file → i < blockCount file → kindOf (blockAt file i) ≡ secretKind → TermPart file i t → SizeOf e n → length t < 4 * n
