@@ -30,7 +30,7 @@ uint32_t zepayong_check(const uint8_t *file, size_t length);
 #define ZEPAYONG_LONGEST 32768
 
 /* Bytes of stack that a call takes at most, for any input, its return address included. */
-#define ZEPAYONG_STACK 32144
+#define ZEPAYONG_STACK 32192
 
 /* The numbers. Blocks and entries count from 0. Where a number names no place, the place is 0. */
 enum zepayong_verdict {

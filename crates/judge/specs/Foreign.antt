@@ -8,7 +8,7 @@ use Prim.Native.Nat.{ℕ, _<_}
 use Rattle.terms.specs.Term.{Term, variable, encrypted, Message, Variable, Foreign}
 use Rattle.terms.specs.Atom.{IsKey}
 use Rattle.terms.specs.Place.{Place, subtermAt, StrictlyAbove}
-use Rattle.terms.specs.Proper.{Built, BuiltMatch, BuiltShare, MessageAtom}
+use Rattle.terms.specs.Built.{Built, BuiltMatch, BuiltShare, MessageAtom}
 use Rattle.judge.specs.Certificate.{Rule, Certificate, Secret, Good, Bad, Listed}
 use Rattle.judge.specs.Hat.{Mark}
 use Rattle.judge.specs.Cover.{Risky, SureHat, Open}

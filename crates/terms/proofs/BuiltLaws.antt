@@ -11,7 +11,7 @@ use Rattle.terms.specs.Instance.{Matches, Share}
 use Rattle.terms.specs.Atom.{Atom, IsKey, isKey?}
 use Rattle.terms.specs.Occurs.{replace-none}
 use Rattle.terms.specs.Decide.{answer}
-use Rattle.terms.specs.Proper.{Built, BuiltMatch, BuiltShare, MessageAtom}
+use Rattle.terms.specs.Built.{Built, BuiltMatch, BuiltShare, MessageAtom}
 use Rattle.terms.proofs.AnswerLaws.{answer-same}
 use Rattle.terms.proofs.OneTermLaws.{TermRight, atomRight, pairRight, encryptedRight, variableRight}
 

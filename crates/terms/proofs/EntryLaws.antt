@@ -251,3 +251,7 @@ from-from a b e = rw (part-to-end, part-to-end, part-to-end, drop-drop)
 
 pub from-length : (n : ℕ) (e : List ℕ) → length (from n e) ≡ length e - n
 from-length n e = rw part-to-end (length-drop n e)
+
+-- The part from the first entry on is all of it.
+pub from-start : (e : List ℕ) → from (4 * 0) e ≡ e
+from-start e = part-to-end e 0

@@ -1,77 +1,24 @@
--- Laws of matching by a walk over the pattern's entries left: slots of variables, bindings, and a step for each branch.
-use mathlib.Core.Path.{_≡_, refl, sym, ap, _∙_}
+-- Laws of matching by a walk over the pattern's entries left: bindings, and a step for each branch.
+use mathlib.Core.Path.{_≡_, refl, sym, _∙_}
 use mathlib.Core.Bool.{Bool, true, false}
-use mathlib.Core.List.{List, _∷_}
+use mathlib.Core.List.{List}
 use mathlib.Core.Logic.{_↔_}
 use Prim.Native.Nat.{ℕ, _+_, _*_, _-_, _<_, _≤_}
 use native.Mathlib.Omega.{arith}
 use native.Mathlib.Decide.{ℕ-discrete}
-use lib.ListN.{length, getD, set, drop, replicate, getD-replicate}
+use lib.ListN.{length, getD, set, replicate, getD-replicate}
 use lib.Seq.{getD-set-same, getD-set-other}
-use Rattle.terms.specs.Term.{Term, variable, atom, pair, Sort, plain, marked, Variable, named, replace, wrapped}
-use Rattle.terms.specs.Tag.{plainTag, markedTag, sortTag, variables, SymbolTag, childrenOf}
-use Rattle.terms.specs.Entry.{size, termOf, Begins, tagAt, valueAt, from}
+use Rattle.terms.specs.Term.{Term, variable, Variable, replace}
+use Rattle.terms.specs.Tag.{childrenOf}
+use Rattle.terms.specs.Entry.{size, termOf, Begins, tagAt, from}
 use Rattle.terms.specs.Decisions.{Says, says-same}
 use Rattle.terms.specs.Decide.{answer}
-use Rattle.terms.specs.Reading.{First, first-atom, first-pair, first-wrapped, first-variable, first}
-use Rattle.terms.specs.Slot.{slotCount, slotIn, slotOf, inSlot}
+use Rattle.terms.specs.Slot.{slotCount, slotOf, inSlot}
 use Rattle.terms.specs.Front.{Front, Takes, SameFirst, Bound, Agrees, Comparable, Bindable, Ready, Made}
 use Rattle.terms.proofs.AnswerLaws.{yes-of, no-of}
 use Rattle.terms.proofs.EntryLaws.{termOf-reads, fits, from-from, from-length}
-use Rattle.terms.proofs.SlotLaws.{slot-in, slot-of-slot}
+use Rattle.terms.proofs.SlotLaws.{slot-of-slot, slot-first}
 use Rattle.terms.proofs.FrontLaws.{next, front-begins, opened, parted, KeepsFirst, next-term, next-symbol, other-symbol, none-compared}
-
--- The slot of a term that stands first, by its tag and value.
-pub record Slotted (tag n : ℕ) (t : Term Variable) : Type 0 where
-  pub plain-slot : tag ≡ plainTag → n ≡ slotOf t
-  pub marked-slot : tag ≡ markedTag → variables + n ≡ slotOf t
-  pub no-slot : ¬ (tag ≡ plainTag) → ¬ (tag ≡ markedTag) → slotCount ≡ slotOf t
-  pub in-slot : slotOf t < slotCount → t ≡ variable (inSlot (slotOf t))
-  pub off-slot : slotCount ≤ slotOf t → (x : Variable) → ¬ (t ≡ variable x)
-
-variable-slotted : (s : Sort) (n : ℕ) → n < variables → Slotted (sortTag s) n (variable (named s n))
-unfolding slotOf slotIn sortTag
-variable-slotted plain n small = record {
-  plain-slot = λ h. refl;
-  marked-slot = λ h. absurd (omega arith);
-  no-slot = λ h i. absurd (h refl);
-  in-slot = λ h. ap variable (sym (slot-in plain small));
-  off-slot = λ h x. absurd (omega arith);
-}
-variable-slotted marked n small = record {
-  plain-slot = λ h. absurd (omega arith);
-  marked-slot = λ h. refl;
-  no-slot = λ h i. absurd (i refl);
-  in-slot = λ h. ap variable (sym (slot-in marked small));
-  off-slot = λ h x. absurd (omega arith);
-}
-
-symbol-slotted : (tag n : ℕ) (t : Term Variable) → SymbolTag tag → slotOf t ≡ slotCount → ((x : Variable) → ¬ (t ≡ variable x)) → Slotted tag n t
-symbol-slotted tag n t small is off = record {
-  plain-slot = λ h. absurd (omega arith);
-  marked-slot = λ h. absurd (omega arith);
-  no-slot = λ h i. sym is;
-  in-slot = λ h. absurd (omega arith);
-  off-slot = λ h. off;
-}
-
-pub slot-first : {e : List ℕ} → Begins e → Slotted (tagAt e) (valueAt e) (termOf e)
-unfolding slotOf
-slot-first {e} b = go (first (b .reads))
-  where
-    go : First (tagAt e) (valueAt e) (drop 4 e) (b .term ∷ b .others) → Slotted (tagAt e) (valueAt e) (termOf e)
-    go (first-atom g q k) = rw (termOf-reads (rw q at (b .reads)))
-        (symbol-slotted (tagAt e) (valueAt e) (atom (valueAt e)) (omega arith) refl (λ x h. (let z : _≡_ {A = ℕ} 0 1 = cc in omega arith)))
-    go (first-pair {t} {u} g n q k) = rw (termOf-reads (rw q at (b .reads)))
-        (symbol-slotted (tagAt e) (valueAt e) (pair t u) (omega arith) refl (λ x h. (let z : _≡_ {A = ℕ} 0 1 = cc in omega arith)))
-    go (first-wrapped {w = w} {t = t} i g q k) = rw (termOf-reads (rw q at (b .reads)))
-        (symbol-slotted (tagAt e) (valueAt e) (wrapped w (valueAt e) t) (omega arith) refl (λ x h. (let z : _≡_ {A = ℕ} 0 1 = cc in omega arith)))
-    go (first-variable {s = s} g v n q k) = rw (termOf-reads (rw q at (b .reads)), g) (variable-slotted s (valueAt e) n)
-
--- A symbol stands first: it is no variable.
-pub symbol-slot : {e : List ℕ} → Begins e → SymbolTag (tagAt e) → (x : Variable) → ¬ (termOf e ≡ variable x)
-symbol-slot {e} b low =
-    let none : slotCount ≡ slotOf (termOf e) = slot-first b .no-slot (λ z. omega arith) (λ z. omega arith) in slot-first b .off-slot (omega arith)
 
 -- What the answer of a decision says.
 answered : {P : Type 0} (b : Bool) (d : Dec P) → b ≡ answer d → Says b P

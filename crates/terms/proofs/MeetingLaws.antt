@@ -19,11 +19,12 @@ use Rattle.terms.specs.Slot.{slotCount, slotOf}
 use Rattle.terms.specs.Front.{Ran, Goes}
 use Rattle.terms.specs.TermGraph.{TwoTerms}
 use Rattle.terms.specs.Meetings.{RootsDiffer, Noted, NotedIn, notedSlot, Distinct, Same, AllSame, Walking, Stops, Reduced}
-use Rattle.terms.proofs.EntryLaws.{size-positive, leaf-first, from-from, from-length}
+use Rattle.terms.proofs.EntryLaws.{size-positive, leaf-first, from-from, from-length, from-start}
+use Rattle.terms.proofs.SlotLaws.{symbol-slot}
 use Rattle.terms.proofs.FrontLaws.{front-begins, parted, alike-term, alike-other, front-few}
 use Rattle.terms.proofs.SameLaws.{alike-none, alike-one}
-use Rattle.terms.proofs.MatchLaws.{symbol-slot}
-use Rattle.terms.proofs.RunLaws.{from-start, alike-share, tag-from}
+use Rattle.terms.proofs.RunLaws.{alike-share}
+use Rattle.terms.proofs.TermGraphLaws.{tag-from}
 
 -- Terms whose roots differ are made the same by no replacements.
 pub roots-apart : {s t : List ℕ} → TwoTerms s t → RootsDiffer s t → (by by′ : Variable → Term Variable) → ¬ (replace by (termOf s) ≡ replace by′ (termOf t))

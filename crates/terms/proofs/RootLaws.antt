@@ -8,8 +8,8 @@ use Rattle.terms.specs.Term.{Term, atom, pair, Message, Variable, replac
 use Rattle.terms.specs.Instance.{Share}
 use Rattle.terms.specs.Tag.{SymbolTag}
 use Rattle.terms.specs.Entry.{termOf, Begins, tagAt, valueAt}
-use Rattle.terms.specs.Reading.{First, first-atom, first-pair, first-wrapped, first-variable, first}
 use Rattle.terms.specs.Solve.{form}
+use Rattle.terms.specs.Reading.{First, first-atom, first-pair, first-wrapped, first-variable, first}
 use Rattle.terms.proofs.EntryLaws.{termOf-reads}
 use Rattle.terms.proofs.ClassLaws.{number}
 

@@ -5,29 +5,25 @@ use mathlib.Core.List.{List}
 use mathlib.Core.Logic.{_↔_}
 use Prim.Native.Nat.{ℕ, _+_, _*_, _-_, _≤_}
 use native.Mathlib.Omega.{arith}
-use lib.ListN.{length, getD, replicate}
-use borrow.Rule.Slice.PartAt.{part-to-end}
+use lib.ListN.{length, replicate}
 use Rattle.blocks.specs.Limits.{mostTermBytes}
 use Rattle.terms.specs.Term.{Term, variable, atom, Message, Variable, replace, asTerm}
 use Rattle.terms.specs.Instance.{Matches, Share}
 use Rattle.terms.specs.Tag.{SymbolTag, childrenOf}
 use Rattle.terms.specs.Entry.{termOf, Begins, tagAt, from}
-use Rattle.terms.specs.Occurs.{replace-twice}
 use Rattle.terms.specs.Decisions.{Says, says-same}
+use Rattle.terms.specs.Occurs.{replace-twice}
 use Rattle.terms.specs.Decide.{answer, variable?, term?, match?}
 use Rattle.terms.specs.Slot.{slotCount}
 use Rattle.terms.specs.Front.{Front, Takes, SameFirst, Alike, Ran, Goes, Ready, Made}
 use Rattle.terms.proofs.AnswerLaws.{says-answer}
-use Rattle.terms.proofs.EntryLaws.{from-from, from-length}
+use Rattle.terms.proofs.EntryLaws.{from-from, from-length, from-start}
+use Rattle.terms.proofs.SlotLaws.{symbol-slot}
 use Rattle.terms.proofs.FrontLaws.{next, front-begins, opened, KeepsFirst, next-symbol, alike-symbol, alike-other, front-few}
 use Rattle.terms.proofs.SameLaws.{one-term, alike-one, same-clash, same-answer}
-use Rattle.terms.proofs.MatchLaws.{symbol-slot, none-bound}
-use Rattle.terms.proofs.TermGraphLaws.{tag-in}
+use Rattle.terms.proofs.MatchLaws.{none-bound}
 
 -- Nothing has been compared yet.
-pub from-start : (e : List ℕ) → from (4 * 0) e ≡ e
-from-start e = part-to-end e 0
-
 pub ran-start : {need : ℕ} {e f : List ℕ} → Front need e → Front need f → Ran need e f 0 need
 ran-start {e = e} {f = f} b d = record {
   inside = omega arith;
@@ -123,10 +119,6 @@ alike-share {t} {u} by by′ h =
 -- Terms that no replacements make the same share no instance.
 pub apart-shares : {e f : List ℕ} → Begins e → Begins f → ((by by′ : Variable → Term Variable) → ¬ Alike by by′ 1 e f) → ¬ Share (termOf e) (termOf f)
 apart-shares b d off h = off _ _ (alike-one b d _ _ .1 (share-alike h))
-
--- The tag of an entry, as the code reads it.
-pub tag-from : (e : List ℕ) (k : ℕ) → getD e (4 * k) 0 ≡ tagAt (from (4 * k) e)
-tag-from e k = rw part-to-end (tag-in e k)
 
 -- Matching goes on behind the run, with nothing bound.
 pub run-ready : {e f : List ℕ} {k left : ℕ} → Ran 1 e f k left → length f ≤ mostTermBytes → Ready (from (4 * k) e) f k left (replicate slotCount 255)

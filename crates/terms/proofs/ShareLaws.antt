@@ -16,8 +16,8 @@ use Rattle.terms.specs.Term.{Term, atom, Message, Sort, Variable, named,
 use Rattle.terms.specs.Instance.{Share}
 use Rattle.terms.specs.Tag.{variables}
 use Rattle.terms.specs.Entry.{termOf, Begins, from}
-use Rattle.terms.specs.Occurs.{replace-twice, replace-none}
 use Rattle.terms.specs.Decisions.{pick, Says}
+use Rattle.terms.specs.Occurs.{replace-twice, replace-none}
 use Rattle.terms.specs.Decide.{answer, variable?, share?}
 use Rattle.terms.specs.Slot.{slotIn, inSlot}
 use Rattle.terms.specs.Graph.{free, IsSymbol, made, Valid, Respects, Classes, ClassStep, Clash, Outcome, Finite, Any}

@@ -36,6 +36,10 @@ value-in e k =
 pub value-part : (e : List ℕ) (k : ℕ) {n : ℕ} → n ≡ valueAt (from (4 * k) e) → n ≡ valueIn e k
 value-part e k is = is ∙ ap valueAt (part-to-end e (4 * k)) ∙ sym (value-in e k)
 
+-- The tag of an entry, as the code reads it.
+pub tag-from : (e : List ℕ) (k : ℕ) → getD e (4 * k) 0 ≡ tagAt (from (4 * k) e)
+tag-from e k = rw part-to-end (tag-in e k)
+
 -- The next entry, and the one past the left half of a pair.
 next-entry : (e : List ℕ) (k : ℕ) → drop 4 (drop (4 * k) e) ≡ drop (4 * (k + 1)) e
 next-entry e k = let far : 4 * k + 4 ≡ 4 * (k + 1) = omega arith in rw (drop-drop, far)

@@ -73,5 +73,6 @@ pub record Outcome (node : ℕ → Node) (Q : (ℕ → Message) → Type 0) (nam
 pub data Finite (node : ℕ → Node) (name : ℕ → ℕ) : ℕ → Type 0 where
   finite : {i : ℕ} → ((j : ℕ) → Child j (node (name i)) → Finite node name j) → Finite node name i
 
+-- Nothing is supposed of a valuation.
 abbrev pub Any : (ℕ → Message) → Type 0
 Any v = Unit {0}

@@ -35,4 +35,4 @@ pub mod Meeting
 pub mod Meetings
 pub mod Ending
 -- Messages restricted to given atoms and keys, for the layer above.
-pub mod Proper
+pub mod Built

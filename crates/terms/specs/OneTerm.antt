@@ -1,4 +1,4 @@
--- Exactly one term (document 01, number 8): entries and terms read into each other.
+-- Exactly one term (document 01, number 8). `oneTerm?` of Reading.antt decides it.
 use mathlib.Core.Path.{_≡_, refl}
 use mathlib.Core.List.{List}
 use mathlib.Core.Option.{some}

@@ -89,13 +89,12 @@ unfoldable pub freeTag : ℕ → Bool
 unfolding tagged
 freeTag tag = freeBy (tagged tag)
 
--- The tag of a sort is a variable's.
+-- What the decisions below need of the tag of a sort: it is a variable's, and says that sort.
 pub sort-tag : {tag : ℕ} (s : Sort) → tag ≡ sortTag s → VariableTag tag
 unfolding sortTag
 sort-tag plain e = omega arith
 sort-tag marked e = omega arith
 
--- It says that sort, has no children, and is free.
 pub sort-tagged : (s : Sort) → tagged (sortTag s) ≡ isVariable s refl
 unfolding tagged sortTag
 sort-tagged plain = refl

@@ -6,7 +6,7 @@ use Prim.Native.Nat.{ℕ, _<_}
 use native.Mathlib.Omega.{arith}
 use Rattle.blocks.specs.Kinds.{secretKind, goodKind, ruleKind}
 use Rattle.terms.specs.Term.{Message, atom}
-use Rattle.terms.specs.Proper.{Built}
+use Rattle.terms.specs.Built.{Built}
 use Rattle.judge.specs.declared.verdict.Counts.{Counts}
 use Rattle.judge.specs.declared.verdict.Verdict.the-variants.{Accepted}
 use Rattle.judge.specs.Answer.{packedOf}

@@ -20,7 +20,7 @@ use Rattle.terms.specs.Place.{Place, subtermAt}
 use Rattle.terms.specs.Turns.{by-turns}
 use Rattle.terms.specs.Instance.{Matches, Share}
 use Rattle.terms.specs.Decisions.{dec-or}
-use Rattle.terms.specs.Proper.{Built, MessageAtom}
+use Rattle.terms.specs.Built.{Built, MessageAtom}
 use Rattle.terms.proofs.BuiltLaws.{built-match, built-share}
 use Rattle.terms.proofs.OneTermLaws.{TermRight, secret-bare, atomRight, pairRight, encryptedRight, variableRight}
 use Rattle.judge.specs.Certificate.{Certificate, Rule, Listed}

@@ -4,7 +4,8 @@ use mathlib.Core.Bool.{false≢true}
 use native.Mathlib.Omega.{arith}
 use borrow.Author.Tests.{not-true}
 use Rattle.terms.proofs.AnswerLaws.{says-no}
-use Rattle.terms.proofs.RunLaws.{front-room, tag-from, differ-alike, apart-shares}
+use Rattle.terms.proofs.RunLaws.{front-room, differ-alike, apart-shares}
+use Rattle.terms.proofs.TermGraphLaws.{tag-from}
 use Rattle.terms.proofs.matching.differs.Statement.{statement}
 use Rattle.terms.proofs.matching.differs.Tie as tie
 

@@ -4,7 +4,8 @@ use native.Mathlib.Omega.{arith}
 use Rattle.terms.proofs.AnswerLaws.{says-yes, says-no}
 use Rattle.terms.specs.Decisions.{says-same}
 use Rattle.terms.proofs.FrontLaws.{front-begins}
-use Rattle.terms.proofs.RunLaws.{front-room, tag-from}
+use Rattle.terms.proofs.RunLaws.{front-room}
+use Rattle.terms.proofs.TermGraphLaws.{tag-from}
 use Rattle.terms.proofs.matching.goes_on.Statement.{statement}
 use Rattle.terms.proofs.matching.goes_on.Tie as tie
 

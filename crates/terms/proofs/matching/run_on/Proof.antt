@@ -2,12 +2,12 @@
 use borrow.Author.Needs.{needs}
 use mathlib.Core.Path.{ap, _∙_}
 use Prim.Native.Nat.{_-_}
-use native.Mathlib.Omega.{arith}
 use lib.ListN.{length}
 use Rattle.terms.specs.Tag.{childrenOf}
 use Rattle.terms.proofs.AnswerLaws.{says-yes, says-no}
 use Rattle.terms.specs.Front.{Ran}
-use Rattle.terms.proofs.RunLaws.{ran-start, ran-more, front-room, ran-small, tag-from}
+use Rattle.terms.proofs.RunLaws.{ran-start, ran-more, front-room, ran-small}
+use Rattle.terms.proofs.TermGraphLaws.{tag-from}
 use Rattle.terms.proofs.matching.run_on.Statement.{statement}
 use Rattle.terms.proofs.matching.run_on.Tie as tie
 

@@ -2,7 +2,7 @@
 use borrow.Author.Needs.{needs}
 use mathlib.Core.Path.{ap, _∙_}
 use Prim.Native.Nat.{ℕ, _+_}
-use Rattle.terms.proofs.MatchLaws.{slot-first}
+use Rattle.terms.proofs.SlotLaws.{slot-first}
 use Rattle.terms.proofs.matching.slot.Statement.{statement}
 use Rattle.terms.proofs.matching.slot.Tie as tie
 

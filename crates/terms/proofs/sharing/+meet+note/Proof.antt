@@ -4,7 +4,7 @@ use borrow.Author.Needs.{needs}
 use Rattle.terms.specs.Entry.{termOf, from}
 use Rattle.terms.proofs.EntryLaws.{size-positive}
 use Rattle.terms.proofs.FrontLaws.{front-begins}
-use Rattle.terms.proofs.RunLaws.{tag-from}
+use Rattle.terms.proofs.TermGraphLaws.{tag-from}
 use Rattle.terms.proofs.SizeLaws.{size-at}
 use Rattle.terms.proofs.MeetingLaws.{walking-done, walking-room, walking-apart, walking-more}
 use native.Mathlib.Omega.{arith}
