@@ -17,7 +17,7 @@ use Rattle.terms.specs.Entry.{size, termOf, Begins, from, entryAt}
 use Rattle.judge.specs.Certificate.{Certificate, Good}
 use Rattle.judge.specs.Laid.{Laid}
 use Rattle.judge.specs.Cover.{NoHat, Risky}
-use Rattle.judge.specs.Listed.{IsSecret, slotAt}
+use Rattle.judge.specs.Listed.{IsSecret, rootSlots, slotAt}
 use Rattle.judge.specs.Decisions.{NotBad}
 
 -- The subterm at entry k.
@@ -197,7 +197,7 @@ pub record SomeFlagged (e flags : List ℕ) (P : Term Variable → Type 0) : Typ
 -- the slot of each flagged entry has one; which of several with one slot it has is left open. (Of those below n: as far as
 -- it is filled in.)
 pub record IndexedBelow (e flags : List ℕ) (n : ℕ) (index : List ℕ) : Type 0 where
-  pub long : length index ≡ 400
+  pub long : length index ≡ rootSlots
   pub points : (s : ℕ) → ¬ (getD index s 0 ≡ 0) → On flags (getD index s 0 - 1)
   pub noted : (k : ℕ) → k < n → On flags k → ¬ (getD index (slotAt (from (4 * k) e)) 0 ≡ 0)
 

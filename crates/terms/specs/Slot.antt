@@ -1,13 +1,13 @@
 -- Slots: a number for each variable that a term may have, 0 to 7 for the plain ones, 8 to 15 for the marked ones.
 use mathlib.Core.Bool.{Bool, true, false}
-use Prim.Native.Nat.{ℕ, _+_, _-_}
+use Prim.Native.Nat.{ℕ, _+_, _*_, _-_}
 use lib.Dec.{ltb}
 use Rattle.terms.specs.Term.{Term, variable, atom, pair, Sort, plain, marked, Variable, named, wrapped}
 use Rattle.terms.specs.Tag.{variables}
 
 -- How many slots there are.
 abbrev pub slotCount : ℕ
-slotCount = 16
+slotCount = 2 * variables
 
 -- The slot of a variable.
 unfoldable pub slotIn : Sort → ℕ → ℕ

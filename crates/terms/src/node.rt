@@ -26,7 +26,7 @@ pub const ALL_NODES: usize = 256;
 // The node of entry k, on the side whose entries begin at base and whose variables begin at slots.
 pub fn home(e: &[u8], k: usize, base: usize, slots: usize) -> usize
     requires { ⌜ (4 * (k + 1) ≤ length (now e)) × (length (now e) ≤ mostTermBytes) × (base ≤ graph.rightNodes) × (slots ≤ graph.rightVariables) ⌝ }
-    ensures { λ r. ⌜ (r ≡ graph.home (now (e .entry)) base slots k) × (r < 160) ⌝ }
+    ensures { λ r. ⌜ (r ≡ graph.home (now (e .entry)) base slots k) × (r < graph.allNodes) ⌝ }
 {
     let tag = e[4 * k];
     if tag == PLAIN {

@@ -227,7 +227,7 @@ fn is_free_match(s: &[u8], m: &[u8; NOTES], n: usize) -> bool
     while k < n {
         let at = wide(m[k]);
         let x = slot(&s[4 * at..]);
-        if 15 < x {
+        if SLOTS <= x {
             return false;
         }
         if seen[x] == 1 {

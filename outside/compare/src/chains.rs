@@ -1,7 +1,7 @@
 //! The chain family at its largest: x1 = (x2, x2), x2 = (x3, x3) and so on,
 //! spread over two terms of 63 entries, and its variants.
 
-use literal::numbers::MOST_ENTRIES;
+use literal::numbers::{MOST_ENTRIES, VARIABLES};
 use literal::Term;
 
 const KEY: u16 = 2;
@@ -63,11 +63,13 @@ fn under_key(next: Term) -> Term {
     Term::encryption(next, KEY)
 }
 
-/// Plain 0 to 7, then marked 0 to 7.
+/// The plain ones, then the marked ones.
 fn variable(number: usize) -> Term {
-    match number {
-        0..=7 => Term::Plain(number as u8),
-        _ => Term::Marked(number as u8 - 8),
+    let number = number as u8;
+    if number < VARIABLES {
+        Term::Plain(number)
+    } else {
+        Term::Marked(number - VARIABLES)
     }
 }
 
@@ -113,8 +115,8 @@ fn two_chains(ends: Ends) -> Equations {
     let mut equations = across(8, twice, ends);
     let other = across(8, twice, Ends::Open);
     equations.extend(other.into_iter().map(|(l, r)| (moved(&l), moved(&r))));
-    equations.push((variable(0), Term::Marked(7)));
-    equations.push((Term::Marked(0), Term::Marked(7)));
+    equations.push((variable(0), Term::Marked(VARIABLES - 1)));
+    equations.push((Term::Marked(0), Term::Marked(VARIABLES - 1)));
     equations
 }
 
@@ -164,7 +166,7 @@ fn filler(left: usize, right: usize) -> (Term, Term) {
     let least = left.min(right);
     let side = |size: usize| {
         let core = if size == least && left != right {
-            Term::Marked(7)
+            Term::Marked(VARIABLES - 1)
         } else {
             Term::Atom(0)
         };

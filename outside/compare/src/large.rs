@@ -3,6 +3,7 @@
 use crate::chains;
 use crate::vectors::Vector;
 use crate::words::text_of;
+use literal::numbers::VARIABLES;
 
 const YES: [bool; 4] = [true; 4];
 const NO: [bool; 4] = [false; 4];
@@ -65,14 +66,11 @@ fn all_but_last(item: &str, last: &str, count: usize) -> Vec<String> {
     [all(item, count - 1), all(last, 1)].concat()
 }
 
-/// ?0 to ?7, then *0 to *7.
-fn sixteen() -> Vec<String> {
-    (0..16)
-        .map(|n| match n {
-            0..=7 => format!("?{n}"),
-            _ => format!("*{}", n - 8),
-        })
-        .collect()
+/// The plain variables, then the marked ones.
+fn variables() -> Vec<String> {
+    let plain = (0..VARIABLES).map(|n| format!("?{n}"));
+    let marked = (0..VARIABLES).map(|n| format!("*{n}"));
+    plain.chain(marked).collect()
 }
 
 fn lists() -> Vec<Pair> {
@@ -139,12 +137,13 @@ fn nests() -> Vec<Pair> {
     ]
 }
 
-/// All sixteen variables on both sides.
+/// All variables on both sides, and as many again as fit.
 fn many_variables() -> Vec<Pair> {
-    let once = sixteen();
-    let twice = [once.clone(), once.clone()].concat();
+    let once = variables();
+    let again = 32 - once.len();
+    let twice = [&once[..], &once[..again]].concat();
     let turned = [&once[1..], &once[..1]].concat();
-    let shifted = [once.clone(), turned.clone()].concat();
+    let shifted = [&once[..], &turned[..again]].concat();
     let ends = |last: &str| [all("A", 1), once[1..].to_vec(), all(last, 1)].concat();
     vec![
         (list(&twice), list(&twice), YES),
@@ -152,8 +151,8 @@ fn many_variables() -> Vec<Pair> {
         (list(&shifted), list(&twice), SHARES),
         (list(&twice), list(&all("A", 32)), MATCHES),
         (list(&twice), list(&all_but_last("A", "T", 32)), NO),
-        (list(&all("?x", 17)), list(&ends("A")), SHARES),
-        (list(&all("?x", 17)), list(&ends("I")), NO),
+        (list(&all("?x", once.len() + 1)), list(&ends("A")), SHARES),
+        (list(&all("?x", once.len() + 1)), list(&ends("I")), NO),
         (around("A").0, around("A").1, SHARES),
         (around("?0").0, around("?0").1, NO),
     ]
@@ -161,7 +160,7 @@ fn many_variables() -> Vec<Pair> {
 
 /// Twelve links, each the next one under a key, the last one this under a key.
 fn around(last: &str) -> (String, String) {
-    let links = &sixteen()[..12];
+    let links = &variables()[..12];
     let bodies: Vec<String> = links[1..]
         .iter()
         .map(String::as_str)

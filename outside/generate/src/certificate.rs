@@ -197,11 +197,11 @@ impl<'r> Maker<'r> {
 
     /// Mostly few numbers, so that plain and marked ones meet.
     fn mark(&mut self) -> Term {
-        Term::Marked(*self.random.pick(&[0, 0, 0, 1, 7]))
+        Term::Marked(*self.random.pick(&[0, 0, 0, 1, VARIABLES - 1]))
     }
 
     fn plain(&mut self) -> Term {
-        Term::Plain(*self.random.pick(&[0, 0, 0, 1, 1, 7]))
+        Term::Plain(*self.random.pick(&[0, 0, 0, 1, 1, VARIABLES - 1]))
     }
 
     fn random_pattern(&mut self, depth: usize, marked: bool) -> Term {
@@ -327,7 +327,7 @@ impl<'r> Maker<'r> {
         }
     }
 
-    /// Two or three of the eight, often 0 and 1.
+    /// Two or three of all, often 0 and 1.
     fn choose_variables(&mut self) {
         self.variables = vec![0, 1];
         if self.random.chance(30) {

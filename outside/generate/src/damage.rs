@@ -5,7 +5,7 @@ use crate::random::Random;
 use crate::sketch::Sketch;
 use literal::block::{check_of, entry_at};
 use literal::numbers::{atom_kind, kind, tag, BLOCK, CHECKED, ENTRIES, HEADER, MODULUS};
-use literal::numbers::{MOST_BYTES, MOST_ENTRIES};
+use literal::numbers::{MOST_BYTES, MOST_ENTRIES, VARIABLES};
 use literal::{encode, Term};
 
 /// A certificate with one fault, at times two.
@@ -271,15 +271,24 @@ fn wrong_entry(random: &mut Random, blocks: &mut [Vec<u8>]) {
     seal(&mut blocks[number]);
 }
 
+/// A variable's number, or the first that is none.
+fn some_variable(random: &mut Random) -> u16 {
+    random.below(VARIABLES as usize + 1) as u16
+}
+
 fn spoil_entry(random: &mut Random, block: &mut [u8], entry: usize, atoms: usize) {
     let at = entry_at(entry);
     match random.weighted(&[2, 2, 2, 2, 2, 2, 5, 5, 2]) {
         0 => block[at] = *random.pick(&[0, 6, 7, 8, 9, 10, 255]),
         1 => block[at + 1] = *random.pick(&[1, 2, 255]),
-        2 => set_value(block, entry, *random.pick(&[8, 126, 255, 256, 65_535])),
+        2 => set_value(
+            block,
+            entry,
+            *random.pick(&[VARIABLES as u16, 126, 255, 256, 65_535]),
+        ),
         3 => set_value(block, entry, atoms as u16),
-        4 => set_entry(block, entry, tag::PLAIN, random.below(9) as u16),
-        5 => set_entry(block, entry, tag::MARKED, random.below(9) as u16),
+        4 => set_entry(block, entry, tag::PLAIN, some_variable(random)),
+        5 => set_entry(block, entry, tag::MARKED, some_variable(random)),
         6 => other_value(random, block, tag::ENCRYPTION, atoms),
         7 => mark_a_variable(random, block),
         _ => block[at + 3] = 1,

@@ -3,7 +3,7 @@
 
 use crate::certificate::{replace, replace_at, variables_of};
 use crate::random::Random;
-use literal::numbers::MOST_ENTRIES;
+use literal::numbers::{MOST_ENTRIES, VARIABLES};
 use literal::{encode, Term};
 
 /// A pattern, which may hold marked variables, and a rule term.
@@ -102,7 +102,7 @@ fn small_pair(random: &mut Random) -> (Term, Term) {
 fn deep_pair(random: &mut Random) -> (Term, Term) {
     let shape = Shape {
         depth: 3,
-        variables: random.between(2, 8) as u8,
+        variables: random.between(2, VARIABLES as usize) as u8,
         atoms: 3,
         keys: 2,
         marks: false,
@@ -194,7 +194,7 @@ fn chain_pair(random: &mut Random) -> (Term, Term) {
 }
 
 fn open_chain(random: &mut Random) -> Equations {
-    let length = random.between(2, 16);
+    let length = random.between(2, 2 * VARIABLES as usize);
     let mut equations = chain(&links(random, 0, length));
     if random.chance(50) {
         equations.push((Term::Plain(0), some_atom(random)));
@@ -204,7 +204,7 @@ fn open_chain(random: &mut Random) -> Equations {
 
 /// The last link holds the first: no finite message, unless the chain is cut.
 fn closed_chain(random: &mut Random) -> Equations {
-    let length = random.between(2, 15);
+    let length = random.between(2, 2 * VARIABLES as usize - 1);
     let mut all = links(random, 0, length);
     all.push(all[0]);
     let mut equations = chain(&all);
@@ -216,9 +216,9 @@ fn closed_chain(random: &mut Random) -> Equations {
 
 /// Two chains with equal heads, and at times ends that differ.
 fn two_chains(random: &mut Random) -> Equations {
-    let length = random.between(2, 8);
+    let length = random.between(2, VARIABLES as usize);
     let one = links(random, 0, length);
-    let other = links(random, 8, length);
+    let other = links(random, VARIABLES, length);
     let mut equations = chain(&one);
     equations.extend(chain(&other));
     equations.extend(equal(one[0], other[0]));
@@ -236,7 +236,7 @@ fn some_atom(random: &mut Random) -> Term {
 }
 
 /// Links that change sides at every step. `from` picks the variables: 0 up for
-/// the first chain; with 8, marked ones and the upper rule variables.
+/// the first chain; with `VARIABLES`, marked ones and the upper rule variables.
 fn links(random: &mut Random, from: u8, length: usize) -> Vec<Link> {
     let offset = if from == 0 { 0 } else { 4 };
     let start = random.below(2);
@@ -246,7 +246,7 @@ fn links(random: &mut Random, from: u8, length: usize) -> Vec<Link> {
             if (i + start) % 2 == 0 {
                 Link::Pattern(from + step)
             } else {
-                Link::Rule((offset + step) % 8)
+                Link::Rule((offset + step) % VARIABLES)
             }
         })
         .collect()
@@ -254,7 +254,7 @@ fn links(random: &mut Random, from: u8, length: usize) -> Vec<Link> {
 
 fn variable(link: Link) -> Term {
     match link {
-        Link::Pattern(number) if number >= 8 => Term::Marked(number - 8),
+        Link::Pattern(number) if number >= VARIABLES => Term::Marked(number - VARIABLES),
         Link::Pattern(number) => Term::Plain(number),
         Link::Rule(number) => Term::Plain(number),
     }
@@ -293,8 +293,8 @@ fn equal(one: Link, other: Link) -> Equations {
         return vec![sides(one, variable(other))];
     }
     let between = match one {
-        Link::Pattern(_) => Link::Rule(7),
-        Link::Rule(_) => Link::Pattern(15),
+        Link::Pattern(_) => Link::Rule(VARIABLES - 1),
+        Link::Rule(_) => Link::Pattern(2 * VARIABLES - 1),
     };
     vec![
         sides(one, variable(between)),

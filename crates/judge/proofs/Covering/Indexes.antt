@@ -14,7 +14,7 @@ use Rattle.terms.proofs.AnswerLaws.{says-eq}
 use Rattle.terms.specs.Decisions.{Says, says-same}
 use Rattle.judge.specs.File.{blockCount, patternOf, certificateOf}
 use Rattle.judge.specs.Laid.{Laid}
-use Rattle.judge.specs.Listed.{slotAt, RootsOf, IsSecret, HoldsAt}
+use Rattle.judge.specs.Listed.{rootSlots, slotAt, RootsOf, IsSecret, HoldsAt}
 use Rattle.judge.proofs.Stages.Listing.{none-found}
 use Rattle.judge.specs.CoverEntries.{On, Flagged, SomeFlagged, IndexedBelow, Indexed}
 use Rattle.judge.proofs.Covering.Flags.{zero-at}
@@ -22,8 +22,8 @@ use Rattle.judge.proofs.Stages.Roots.{slot-same}
 use Rattle.judge.proofs.Covering.Covers.{flagged-begins, flagged-below}
 
 -- Nothing is noted yet.
-pub index-none : {e flags : List ℕ} → IndexedBelow e flags 0 (replicate 400 0)
-index-none = record { long = refl; points = λ s off. absurd (off (zero-at 400 s)); noted = λ k l. absurd (omega arith) }
+pub index-none : {e flags : List ℕ} → IndexedBelow e flags 0 (replicate rootSlots 0)
+index-none = record { long = refl; points = λ s off. absurd (off (zero-at rootSlots s)); noted = λ k l. absurd (omega arith) }
 
 -- One entry more, which is flagged or not.
 module _ {e flags index : List ℕ} {k : ℕ} (w : IndexedBelow e flags k index) where
@@ -34,7 +34,7 @@ module _ {e flags index : List ℕ} {k : ℕ} (w : IndexedBelow e flags k index)
       noted j l on (yes is) = absurd (off (rw is at on))
       noted j l on (no ne) = w .noted j (omega arith) on
 
-  pub index-more : {r : ℕ} → r ≡ slotAt (from (4 * k) e) → r < 400 → On flags k → IndexedBelow e flags (k + 1) (set index r (k + 1))
+  pub index-more : {r : ℕ} → r ≡ slotAt (from (4 * k) e) → r < rootSlots → On flags k → IndexedBelow e flags (k + 1) (set index r (k + 1))
   index-more {r} is small on = record {
     long = length-set index r (k + 1) ∙ w .long;
     points = λ s off. points s off (ℕ-discrete s r);

@@ -6,7 +6,7 @@ use lib.ListN.{length, getD}
 use Rattle.blocks.specs.Kinds.{secretKind}
 use Rattle.blocks.specs.Block.{blockAt, kindOf, firstEntries}
 use Rattle.judge.specs.File.{blockCount}
-use Rattle.judge.specs.Listed.{FlaggedAt, SecretSlot}
+use Rattle.judge.specs.Listed.{FlaggedAt, SecretSlot, rootSlots}
 use Rattle.judge.proofs.Stages.Roots.{flags-more, only-more, slots-before}
 use Rattle.judge.proofs.Covering.Flags.{zero-at}
 use borrow.Author.Needs.{needs}
@@ -16,7 +16,7 @@ use Rattle.judge.proofs.listed.secret_roots.Tie as tie
 abbrev Inv-loop : tie.InvT-loop
 Inv-loop file roots₀ count i₀ roots i =
     (i ≤ blockCount file)
-    × (length roots ≡ 400)
+    × (length roots ≡ rootSlots)
     × ((j : ℕ) → j < i → kindOf (blockAt file j) ≡ secretKind → FlaggedAt roots (firstEntries (blockAt file j)))
     × ((k : ℕ) → getD roots k 0 ≤ 1)
     × ((k : ℕ) → getD roots k 0 ≡ 1 → SecretSlot file i k)
@@ -30,8 +30,8 @@ secret-roots-spec = tie.close (tie.spec Inv-loop μ-loop
       search needs,
       refl,
       λ j below kind. absurd (omega arith),
-      λ k. omega (arith, zero-at 400 k),
-      λ k on. absurd (omega (arith, zero-at 400 k)),
+      λ k. omega (arith, zero-at rootSlots k),
+      λ k on. absurd (omega (arith, zero-at rootSlots k)),
     ))  -- loop-holds
     (λ c κs. (c .before .before .before .before .pre, c .before .loop-test .taken, c .before .before .loop .inv .1))  -- flag-root-requires
     (λ c. search needs)  -- add-i

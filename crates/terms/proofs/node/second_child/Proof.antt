@@ -3,7 +3,7 @@ use mathlib.Core.Path.{_≡_, sym, ap, _∙_, subst}
 use mathlib.Core.Logic.{inl}
 use Prim.Native.Nat.{ℕ, _+_, _-_, _<_}
 use native.Mathlib.Omega.{arith}
-use Rattle.terms.specs.TermGraph.{AtHome, home, rightIn}
+use Rattle.terms.specs.TermGraph.{AtHome, home, rightIn, rightNodes, variableNodes, rightVariables}
 use Rattle.terms.proofs.NodeLaws.{RightThere, child-inside, left-right-there, right-right-there, second-on-left, second-on-right, home-left, home-right}
 use borrow.Author.Needs.{needs}
 use Rattle.terms.proofs.node.second_child.Statement.{statement}
@@ -52,13 +52,13 @@ second-child-spec = tie.close (tie.spec
     (omega (arith, right-there (c .before .before) .fits, right-read c), pre .0 .right-short, search needs, search needs))  -- home-requires-2
     (λ c. let start = c .before .before .before .before .before .before .before .before in let s = start .args .s .now in let t = start .args .t .now in
     let i = start .args .i in let there = left-there (c .before .before .before) in
-    let is = c .home .ensures .0 ∙ ap (home s 0 128) (left-read (c .before)) in (
+    let is = c .home .ensures .0 ∙ ap (home s 0 variableNodes) (left-read (c .before)) in (
       is ∙ second-on-left s t i (c .before .before .before .if1 .taken),
       subst (AtHome s t) (sym is) (home-left s t (rightIn s i) (start .pre .0) (there .fits)),
     ))  -- returns
     (λ c. let start = c .before .before .before .before .before .before .before .before in let s = start .args .s .now in let t = start .args .t .now in
     let i = start .args .i in let there = right-there (c .before .before .before) in
-    let is = c .home2 .ensures .0 ∙ ap (home t 64 144) (right-read (c .before)) in (
+    let is = c .home2 .ensures .0 ∙ ap (home t rightNodes rightVariables) (right-read (c .before)) in (
       is ∙ second-on-right s t i (c .before .before .before .if1 .left) (low (c .before .before .before)),
       subst (AtHome s t) (sym is) (home-right s t (rightIn t (i - 64)) (start .pre .0) (there .fits)),
     ))  -- returns-2

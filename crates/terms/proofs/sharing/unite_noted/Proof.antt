@@ -6,7 +6,7 @@ use borrow.Author.Tests.{not-false, not-true}
 use borrow.Author.Needs.{needs}
 use Rattle.terms.specs.Graph.{ClassStep, Any}
 use Rattle.terms.proofs.GraphLaws.{done, failed}
-use Rattle.terms.specs.TermGraph.{nodeOf, home, AtHome}
+use Rattle.terms.specs.TermGraph.{nodeOf, home, AtHome, rightNodes, variableNodes, rightVariables}
 use Rattle.terms.proofs.NodeLaws.{home-left, home-right}
 use Rattle.terms.specs.Names.{nameOf, Linked}
 use Rattle.terms.proofs.NameLaws.{classes-of}
@@ -38,15 +38,15 @@ unite-noted-spec = tie.close (tie.spec Inv-loop μ-loop
       pre .1,
       pre .2,
       c .before .before .before .before .before .before .before .before .loop .inv .1,
-      subst (AtHome (args .s .now) (args .t .now)) (sym (c .before .before .before .before .home .ensures .0 ∙ ap (home (args .s .now) 0 128) (c .before .before .before .before .before .wide .ensures .0)))
+      subst (AtHome (args .s .now) (args .t .now)) (sym (c .before .before .before .before .home .ensures .0 ∙ ap (home (args .s .now) 0 variableNodes) (c .before .before .before .before .before .wide .ensures .0)))
           (home-left (args .s .now) (args .t .now) _ (pre .0) (pre .3 .left k low)),
-      subst (AtHome (args .s .now) (args .t .now)) (sym (c .before .home2 .ensures .0 ∙ ap (home (args .t .now) 64 144) (c .before .before .wide2 .ensures .0)))
+      subst (AtHome (args .s .now) (args .t .now)) (sym (c .before .home2 .ensures .0 ∙ ap (home (args .t .now) rightNodes rightVariables) (c .before .before .wide2 .ensures .0)))
           (home-right (args .s .now) (args .t .now) _ (pre .0) (pre .3 .right k low)),
     ))  -- unite-requires
     (λ c. let args = c .before .before .before .before .before .before .before .before .before .before .before .before .before .before .before .args in let loop = c .before .before .before .before .before .before .before .before .before .before .loop in let u = c .before .unite in (
       u .ensures .0,
-      failed (united-noted-clash _ _ (args .m .now) (loop .k) (loop .inv .2) (c .before .before .before .before .before .before .home .ensures .0 ∙ ap (home (args .s .now) 0 128) (c .before .before .before .before .before .before .before .wide .ensures .0))
-          (c .before .before .before .home2 .ensures .0 ∙ ap (home (args .t .now) 64 144) (c .before .before .before .before .wide2 .ensures .0)) (c .before .before .before .before .before .before .before .before .before .loop-test .taken)
+      failed (united-noted-clash _ _ (args .m .now) (loop .k) (loop .inv .2) (c .before .before .before .before .before .before .home .ensures .0 ∙ ap (home (args .s .now) 0 variableNodes) (c .before .before .before .before .before .before .before .wide .ensures .0))
+          (c .before .before .before .home2 .ensures .0 ∙ ap (home (args .t .now) rightNodes rightVariables) (c .before .before .before .before .wide2 .ensures .0)) (c .before .before .before .before .before .before .before .before .before .loop-test .taken)
           (u .ensures .2 .clashed (not-true (u .result) (c .if1 .taken)))),
     ))  -- returns
     (λ c. let few = c .before .before .before .before .before .before .before .before .before .before .before .before .before .before .before .pre .3 .few in search needs)  -- add-k
@@ -54,8 +54,8 @@ unite-noted-spec = tie.close (tie.spec Inv-loop μ-loop
     (λ c. let args = c .before .before .before .before .before .before .before .before .before .before .before .before .before .before .before .args in let loop = c .before .before .before .before .before .before .before .before .before .before .loop in let u = c .before .unite in (
       search needs,
       u .ensures .0,
-      united-more _ _ (args .m .now) (loop .k) (loop .inv .2) (c .before .before .before .before .before .before .home .ensures .0 ∙ ap (home (args .s .now) 0 128) (c .before .before .before .before .before .before .before .wide .ensures .0))
-          (c .before .before .before .home2 .ensures .0 ∙ ap (home (args .t .now) 64 144) (c .before .before .before .before .wide2 .ensures .0))
+      united-more _ _ (args .m .now) (loop .k) (loop .inv .2) (c .before .before .before .before .before .before .home .ensures .0 ∙ ap (home (args .s .now) 0 variableNodes) (c .before .before .before .before .before .before .before .wide .ensures .0))
+          (c .before .before .before .home2 .ensures .0 ∙ ap (home (args .t .now) rightNodes rightVariables) (c .before .before .before .before .wide2 .ensures .0))
           (u .ensures .2 .stepped (not-false (u .result) (c .if1 .left))),
     ))  -- loop-again
     (λ c. let loop = c .before .loop in let all : loop .k ≡ c .before .before .before .before .before .before .args .n = omega arith in (loop .inv .1, done (rw all at (loop .inv .2))))  -- returns-2

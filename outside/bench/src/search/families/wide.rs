@@ -29,7 +29,7 @@ pub fn variables(random: &mut Random) -> Sketch {
     })
 }
 
-/// Good patterns as wide as they can be, with all sixteen variables, and a
+/// Good patterns as wide as they can be, with all variables of both sorts, and a
 /// clash at the last item.
 pub fn trees(random: &mut Random) -> Sketch {
     let (left, count) = (random.chance(50), random.between(5, 29));
