@@ -28,7 +28,7 @@ use Rattle.judge.specs.declared.verdict.Fault.{Fault}
 use Rattle.judge.specs.declared.verdict.Fault.the-variants.{Length, Check, Kind, Missing, Layout, AtomEntry, TermEntry}
 use Rattle.judge.specs.declared.verdict.Fault.the-variants.{NotOneTerm, KnownSecret, NotClosed, KeyNotKept, Uncovered}
 use Rattle.judge.specs.declared.listed.Condition.{Condition}
-use Rattle.judge.specs.declared.listed.Condition.the-variants.{Unknown, Closed, Kept}
+use Rattle.judge.specs.declared.listed.Condition.the-variants.{NotKnown, Closed, Kept}
 use Rattle.judge.specs.declared.verdict.Verdict.{Verdict}
 use Rattle.judge.specs.declared.verdict.Verdict.the-variants.{Accepted, Refused}
 use Rattle.judge.specs.Certificate.{Certificate, Rule}
@@ -139,23 +139,23 @@ kindFault kind judged file = firstFault (onKind kind judged file) 0 (blockCount 
 -- 9, 10 and 11: the kind of block that each asks, what it asks of a block, and its fault at block i: "a secret is a known
 -- atom", "secret not weakly closed", "inverse of a good pattern's root key is not a listed secret".
 abbrev pub kindAsked : Condition → ℕ
-kindAsked Unknown = secretKind
+kindAsked NotKnown = secretKind
 kindAsked Closed = secretKind
 kindAsked Kept = goodKind
 
 abbrev pub Meets : Condition → Certificate → List ℕ → Type 0
-Meets Unknown certificate b = SecretNotKnown certificate b
+Meets NotKnown certificate b = SecretNotKnown certificate b
 Meets Closed certificate b = SecretClosed certificate b
 Meets Kept certificate b = RootKeyKept certificate b
 
 unfoldable pub meets? : (condition : Condition) (certificate : Certificate) (b : List ℕ) → Dec (Meets condition certificate b)
 unfolding dec-not known-atom? weakly-closed? kept-key?
-meets? Unknown certificate b = dec-not (known-atom? certificate (secretOf b))
+meets? NotKnown certificate b = dec-not (known-atom? certificate (secretOf b))
 meets? Closed certificate b = weakly-closed? certificate (secretOf b)
 meets? Kept certificate b = kept-key? certificate (patternOf b)
 
 abbrev pub faultOn : Condition → ℕ → Fault
-faultOn Unknown i = KnownSecret i
+faultOn NotKnown i = KnownSecret i
 faultOn Closed i = NotClosed i
 faultOn Kept i = KeyNotKept i
 
@@ -198,7 +198,7 @@ ruleFault certificate file = kindFault ruleKind (uncoveredRule certificate) file
 
 -- 9, 10, 11, 12, each over all blocks.
 unfoldable pub certificateFault : Certificate → List ℕ → Option Fault
-certificateFault certificate file = elim (conditionFault Unknown certificate file) [
+certificateFault certificate file = elim (conditionFault NotKnown certificate file) [
   | some f ↦ some f
   | none ↦ elim (conditionFault Closed certificate file) [
     | some f ↦ some f

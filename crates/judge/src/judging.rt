@@ -179,7 +179,7 @@ fn certificate_fault(file: &[u8]) -> Judged
     requires { ⌜ Laid (now file) ⌝ }
     ensures { λ r. ⌜ r ≡ judgedOf (certificateFault (certificateOf (now (file .entry))) (now (file .entry))) ⌝ }
 {
-    if let Judged::Faulty(f) = listed::condition_fault(file, Condition::Unknown) {
+    if let Judged::Faulty(f) = listed::condition_fault(file, Condition::NotKnown) {
         return Judged::Faulty(f);
     }
     if let Judged::Faulty(f) = listed::condition_fault(file, Condition::Closed) {

@@ -36,7 +36,7 @@ use terms::tag::is_variable;
 // What numbers 9, 10 and 11 ask of the blocks of one kind.
 pub enum Condition {
     // 9: the secret is no known atom.
-    Unknown,
+    NotKnown,
     // 10: the secret is weakly closed.
     Closed,
     // 11: the inverse of the good pattern's root key is a listed secret.
@@ -406,7 +406,7 @@ fn kind_asked(condition: Condition) -> u8
     ensures { λ r. ⌜ r ≡ kindAsked condition ⌝ }
 {
     match condition {
-        Condition::Unknown => kinds::SECRET,
+        Condition::NotKnown => kinds::SECRET,
         Condition::Closed => kinds::SECRET,
         Condition::Kept => kinds::GOOD,
     }
@@ -417,7 +417,7 @@ fn fault_on(condition: Condition, block: u8) -> Fault
     ensures { λ r. ⌜ r ≡ faultOn condition block ⌝ }
 {
     match condition {
-        Condition::Unknown => Fault::KnownSecret(block),
+        Condition::NotKnown => Fault::KnownSecret(block),
         Condition::Closed => Fault::NotClosed(block),
         Condition::Kept => Fault::KeyNotKept(block),
     }
@@ -429,7 +429,7 @@ fn is_met(file: &[u8], condition: Condition, i: usize) -> bool
     ensures { λ r. ⌜ Says r (Meets condition (certificateOf (now (file .entry))) (blockAt (now (file .entry)) i)) ⌝ }
 {
     match condition {
-        Condition::Unknown => !is_known(file, term_at(file, i)),
+        Condition::NotKnown => !is_known(file, term_at(file, i)),
         Condition::Closed => is_closed(file, term_at(file, i)),
         Condition::Kept => is_kept(file, term_at(file, i)),
     }

@@ -31,6 +31,11 @@ pub says-answer : {P : Type 0} (b : Bool) → Says b P → (d : Dec P) → b ≡
 says-answer true p d = sym (answer-yes d p)
 says-answer false n d = sym (answer-no d n)
 
+-- What an answer says.
+pub answer-says : {P : Type 0} (b : Bool) (d : Dec P) → b ≡ answer d → Says b P
+answer-says true d is = yes-of d (sym is)
+answer-says false d is = no-of d (sym is)
+
 -- Decisions of claims that follow from each other have the same answer.
 pub answer-same : {P Q : Type 0} (d : Dec P) (e : Dec Q) → (P → Q) → (Q → P) → answer d ≡ answer e
 answer-same (yes p) e f g = sym (answer-yes e (f p))

@@ -15,15 +15,10 @@ use Rattle.terms.specs.Decisions.{Says, says-same}
 use Rattle.terms.specs.Decide.{answer}
 use Rattle.terms.specs.Slot.{slotCount, slotOf, inSlot}
 use Rattle.terms.specs.Front.{Front, Takes, SameFirst, Bound, Agrees, Comparable, Bindable, Ready, Made}
-use Rattle.terms.proofs.AnswerLaws.{yes-of, no-of}
+use Rattle.terms.proofs.AnswerLaws.{yes-of, no-of, answer-says}
 use Rattle.terms.proofs.EntryLaws.{termOf-reads, fits, from-from, from-length}
 use Rattle.terms.proofs.SlotLaws.{slot-of-slot, slot-first}
 use Rattle.terms.proofs.FrontLaws.{next, front-begins, opened, parted, KeepsFirst, next-term, next-symbol, other-symbol, none-compared}
-
--- What the answer of a decision says.
-answered : {P : Type 0} (b : Bool) (d : Dec P) → b ≡ answer d → Says b P
-answered true d is = yes-of d (sym is)
-answered false d is = no-of d (sym is)
 
 -- Where every slot holds 255, nothing is bound.
 pub none-bound : (i : ℕ) → ¬ Bound (replicate slotCount 255) i
@@ -56,7 +51,7 @@ free-slot is = record { same = λ off. absurd (off is) }
 
 pub held-slot : {t : List ℕ} {old at : ℕ} → Comparable t old at → ¬ (old ≡ 255) → (b : Bool)
     (d : Dec (termOf (from (4 * old) t) ≡ termOf (from (4 * at) t))) → b ≡ answer d → Says b (Bindable t old at)
-held-slot both off b d is = says-same b (λ h. record { same = λ o. h }) (λ h. h .same off) (answered b d is)
+held-slot both off b d is = says-same b (λ h. record { same = λ o. h }) (λ h. h .same off) (answer-says b d is)
 
 -- Bound so, a replacement agrees if it agreed before and replaces the slot's variable by that term.
 module _ (t bound : List ℕ) (x at : ℕ) (slot : x < slotCount) (long : x < length bound) (entry : ¬ (at ≡ 255)) where

@@ -89,20 +89,10 @@ fn pass(
         j += count;
         left = run.left;
         if left == 0 {
-            return Passed {
-                i: i,
-                j: j,
-                left: left,
-                n: n,
-            };
+            return Passed { i, j, left, n };
         }
         if !leaves_meet(s[4 * i], t[4 * j]) {
-            return Passed {
-                i: i,
-                j: j,
-                left: left,
-                n: n,
-            };
+            return Passed { i, j, left, n };
         }
         m[n] = i as u8;
         m[RIGHT_NOTES + n] = j as u8;
@@ -111,12 +101,7 @@ fn pass(
         left -= 1;
         n += 1;
     }
-    Passed {
-        i: i,
-        j: j,
-        left: left,
-        n: n,
-    }
+    Passed { i, j, left, n }
 }
 
 // Walks on with `need` terms left on each side, from entry i of s and entry j of t. n entries of each are noted in m: those of

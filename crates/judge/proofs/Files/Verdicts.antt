@@ -23,7 +23,7 @@ use Rattle.judge.specs.declared.verdict.Counts.{Counts}
 use Rattle.judge.specs.declared.verdict.Fault.{Fault}
 use Rattle.judge.specs.declared.verdict.Fault.the-variants.{Length, Missing, Uncovered}
 use Rattle.judge.specs.declared.listed.Condition.{Condition}
-use Rattle.judge.specs.declared.listed.Condition.the-variants.{Unknown, Closed, Kept}
+use Rattle.judge.specs.declared.listed.Condition.the-variants.{NotKnown, Closed, Kept}
 use Rattle.judge.specs.declared.verdict.Verdict.the-variants.{Accepted, Refused}
 use Rattle.judge.specs.Certificate.{Certificate, Rule}
 use Rattle.judge.specs.File.{blockCount, ruleOf, certificateOf, kindCount, countsOf}
@@ -163,14 +163,14 @@ module _ (certificate : Certificate) (file : List ℕ) where
       × (Every goodKind file (RootKeyKept certificate) × Every ruleKind file (Passing certificate)))
 
   abbrev JudgedWrong : Fault → Type 0
-  JudgedWrong g = ConditionWrong Unknown g ⊎ (Every secretKind file (SecretNotKnown certificate)
+  JudgedWrong g = ConditionWrong NotKnown g ⊎ (Every secretKind file (SecretNotKnown certificate)
       × (ConditionWrong Closed g ⊎ (Every secretKind file (SecretClosed certificate)
       × (ConditionWrong Kept g ⊎ (Every goodKind file (RootKeyKept certificate)
       × KindWrong ruleKind file (Passing certificate) RuleWrong g)))))
 
   certificate-judged : Exact Judged JudgedWrong (certificateFault certificate file)
   unfolding certificateFault
-  certificate-judged = then (conditionFault Unknown certificate file) (condition-judged Unknown)
+  certificate-judged = then (conditionFault NotKnown certificate file) (condition-judged NotKnown)
       (λ k. then (conditionFault Closed certificate file) (condition-judged Closed)
       (λ c. then (conditionFault Kept certificate file) (condition-judged Kept) (λ h. rule-judged)))
 

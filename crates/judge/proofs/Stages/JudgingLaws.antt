@@ -24,7 +24,7 @@ use Rattle.judge.specs.declared.verdict.Verdict.{Verdict}
 use Rattle.judge.specs.declared.verdict.Verdict.the-variants.{Accepted, Refused}
 use Rattle.judge.specs.declared.form.Judged.the-variants.{Fine, Faulty}
 use Rattle.judge.specs.declared.listed.Condition.{Condition}
-use Rattle.judge.specs.declared.listed.Condition.the-variants.{Unknown, Closed, Kept}
+use Rattle.judge.specs.declared.listed.Condition.the-variants.{NotKnown, Closed, Kept}
 use Rattle.judge.specs.Certificate.{Certificate, Rule}
 use Rattle.judge.specs.Decisions.{dead?}
 use Rattle.judge.specs.File.{blockCount, ruleOf, certificateOf, countsOf}
@@ -96,11 +96,11 @@ unfolding conditionFault
 condition-start condition c file = kind-start (kindAsked condition) (conditionAt condition c) file
 
 module _ (c : Certificate) (file : List ℕ) where
-  pub certificate-known : {f : Fault} → conditionFault Unknown c file ≡ some f → certificateFault c file ≡ some f
+  pub certificate-known : {f : Fault} → conditionFault NotKnown c file ≡ some f → certificateFault c file ≡ some f
   unfolding certificateFault
   certificate-known h = rw (h, certificateFault)
 
-  module _ (known : conditionFault Unknown c file ≡ none) where
+  module _ (known : conditionFault NotKnown c file ≡ none) where
     pub certificate-closed : {f : Fault} → conditionFault Closed c file ≡ some f → certificateFault c file ≡ some f
     unfolding certificateFault
     certificate-closed h = rw (known, h, certificateFault)

@@ -16,13 +16,6 @@ use Rattle.judge.specs.Cover.{NoHat, sharesNoGood, isBad, Risky, isVaria
 use Rattle.judge.specs.Decisions.{NotBad}
 use Rattle.judge.specs.Listed.{listedOf, MatchesListed, SharesListed, IsSecret}
 
--- What an answer says.
-pub answer-says : {P : Type 0} (b : Bool) (d : Dec P) → b ≡ answer d → Says b P
-answer-says true (yes p) e = p
-answer-says true (no n) e = let z : _≡_ {A = ℕ} 0 1 = cc in absurd (omega arith)
-answer-says false (yes p) e = let z : _≡_ {A = ℕ} 0 1 = cc in absurd (omega arith)
-answer-says false (no n) e = n
-
 -- Sharing is symmetric.
 pub share-sym : {X Y : Type 0} {s : Term X} {t : Term Y} → Share s t → Share t s
 share-sym h = record { message = h .message; left = h .right; right = h .left }

@@ -16,11 +16,10 @@ use Rattle.terms.proofs.InstanceLaws.{replace-asTerm}
 use Rattle.terms.specs.Entry.{Begins, termOf, from}
 use Rattle.terms.proofs.EntryLaws.{from-length}
 use Rattle.terms.specs.Decisions.{Says, says-same}
-use Rattle.terms.proofs.AnswerLaws.{says-yes, answer-yes, answer-no}
+use Rattle.terms.proofs.AnswerLaws.{says-yes, answer-yes, answer-no, answer-says}
 use Rattle.terms.specs.Decide.{answer}
 use Rattle.judge.specs.File.{blockCount, blocksOf, ofKind, patternOf, secretOf, certificateOf}
 use Rattle.judge.specs.Laid.{Laid, TermBlock, SecretBlock}
-use Rattle.judge.proofs.Stages.ListedLaws.{answer-says}
 use Rattle.judge.proofs.Files.Members.{BlockOf, block-listed, listed-block}
 use Rattle.judge.specs.Listed.{listedOf, AnyListed, HoldsAt, Searching, TermPart}
 

@@ -19,7 +19,7 @@ use Rattle.terms.specs.Atom.{Atom, atomsOf, atomAt, knownOf}
 use Rattle.terms.proofs.AtomLaws.{length-atoms, known-byte, partner-bytes}
 use Rattle.terms.specs.OneTerm.{IsEncryption}
 use Rattle.terms.specs.Decisions.{Says, says-same}
-use Rattle.terms.proofs.AnswerLaws.{says-eq, says-yes, says-no, answer-yes, answer-no}
+use Rattle.terms.proofs.AnswerLaws.{says-eq, says-yes, says-no, answer-yes, answer-no, answer-says}
 use Rattle.terms.specs.Decide.{answer}
 use Rattle.judge.specs.declared.form.Judged.the-variants.{Fine, Faulty}
 use Rattle.judge.specs.declared.listed.Condition.{Condition}
@@ -31,7 +31,7 @@ use Rattle.judge.specs.Meaning.{SecretNotKnown, SecretClosed, RootKeyKep
 use Rattle.judge.specs.Judgement.{judgedOf}
 use Rattle.judge.specs.Verdict.{onKind, kindAsked, Meets, meets?, faultOn, conditionAt}
 use Rattle.judge.specs.Listed.{IsSecret, is-secret?, TermPart}
-use Rattle.judge.proofs.Stages.ListedLaws.{answer-says, asTerm-only, secret-is}
+use Rattle.judge.proofs.Stages.ListedLaws.{asTerm-only, secret-is}
 use Rattle.judge.proofs.Stages.Listing.{secret-term}
 
 -- One of two, the first being refused.

@@ -30,7 +30,7 @@ use mathlib.Core.Logic.{_⊎_, inl, inr, ⊎-elim, _↔_}
 use Rattle.judge.specs.Laid.{Laid, SecretBlock}
 use Rattle.terms.specs.Decisions.{Says, says-same}
 use Rattle.terms.specs.Decide.{answer}
-use Rattle.judge.proofs.Stages.ListedLaws.{answer-says}
+use Rattle.terms.proofs.AnswerLaws.{answer-says}
 use Rattle.judge.specs.Listed.{pairRoots, encryptionRoots, variableRoots, rootSlots}
 use Rattle.judge.specs.Listed.{HoldsAt, TermPart, SharesListed, IsSecret, slotFor, slotBy, slotAt, FlaggedAt, FlaggedMore, SecretSlot, RootsOf, NoRoot}
 use Rattle.judge.proofs.Stages.Listing.{none-found}

@@ -1,7 +1,7 @@
 -- `judge::cover::is_risky` meets its contract. Assumes nothing.
 use mathlib.Core.Bool.{false}
 use Rattle.judge.specs.Listed.{shares-listed?}
-use Rattle.judge.proofs.Stages.ListedLaws.{answer-says}
+use Rattle.terms.proofs.AnswerLaws.{answer-says}
 use Rattle.judge.proofs.Covering.Covers.{risky-variable, risky-secret}
 use Rattle.judge.proofs.Stages.Roots.{no-root-shares}
 use borrow.Author.Needs.{needs}

@@ -1,7 +1,7 @@
 -- `judge::cover::is_secret` meets its contract. Assumes nothing.
 use borrow.Author.Needs.{needs}
 use Rattle.judge.specs.Listed.{is-secret?}
-use Rattle.judge.proofs.Stages.ListedLaws.{answer-says}
+use Rattle.terms.proofs.AnswerLaws.{answer-says}
 use Rattle.judge.proofs.Stages.Roots.{no-root-secret}
 use Rattle.judge.proofs.cover.is_secret.Statement.{statement}
 use Rattle.judge.proofs.cover.is_secret.Tie as tie

@@ -1,9 +1,8 @@
 -- `judge::cover::no_hat` meets its contract. Assumes nothing.
 use mathlib.Core.Path.{refl, sym, _∙_}
 use Rattle.blocks.proofs.KindLaws.{bad-lists}
-use Rattle.terms.proofs.AnswerLaws.{yes-of, no-of}
+use Rattle.terms.proofs.AnswerLaws.{yes-of, no-of, answer-says}
 use Rattle.judge.specs.Listed.{matches-listed?, shares-listed?}
-use Rattle.judge.proofs.Stages.ListedLaws.{answer-says}
 use Rattle.judge.proofs.Covering.Opens.{no-good-shares, by-bad}
 use Rattle.judge.proofs.cover.no_hat.Statement.{statement}
 use Rattle.judge.proofs.cover.no_hat.Tie as tie

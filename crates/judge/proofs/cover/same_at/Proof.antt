@@ -2,7 +2,7 @@
 use borrow.Author.Needs.{needs}
 use native.Mathlib.Omega.{arith}
 use Rattle.terms.specs.Decide.{variable?, term?}
-use Rattle.judge.proofs.Stages.ListedLaws.{answer-says}
+use Rattle.terms.proofs.AnswerLaws.{answer-says}
 use Rattle.judge.proofs.Covering.Covers.{begins-at, flagged-holds}
 use Rattle.judge.proofs.cover.same_at.Statement.{statement}
 use Rattle.judge.proofs.cover.same_at.Tie as tie

@@ -6,7 +6,7 @@ use Rattle.terms.proofs.SizeLaws.{sizes-part}
 use Rattle.judge.proofs.Covering.Hats.{searching-at}
 use Rattle.judge.proofs.Covering.Repeats.{remembered-more}
 use Rattle.judge.specs.Listed.{shares-listed?}
-use Rattle.judge.proofs.Stages.ListedLaws.{answer-says}
+use Rattle.terms.proofs.AnswerLaws.{answer-says}
 use Rattle.judge.proofs.cover.shares_bad.Statement.{statement}
 use Rattle.judge.proofs.cover.shares_bad.Tie as tie
 
