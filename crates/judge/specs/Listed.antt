@@ -11,7 +11,7 @@ use Rattle.blocks.specs.Limits.{mostTermBytes}
 use Rattle.blocks.specs.Block.{blockAt, kindOf, firstEntries}
 use Rattle.terms.specs.Term.{Term, Variable, asTerm, replace}
 use Rattle.terms.specs.Instance.{Matches, Share}
-use Rattle.terms.specs.Tag.{pairTag, SymbolTag, Tagged, isAtom, isPair, isWrapper, isVariable, isNone, tagged}
+use Rattle.terms.specs.Tag.{pairTag, SymbolTag, Tagged, anAtom, aPair, aWrapping, aVariable, noTag, tagged}
 use Rattle.terms.specs.Slot.{slotCount}
 use Rattle.terms.specs.Entry.{Begins, termOf, size, tagAt, valueAt, from}
 use Rattle.terms.specs.TermGraph.{SizesOf}
@@ -105,12 +105,12 @@ rootSlots = variableRoots + slotCount
 -- The slot of a root, by its tag, its value and the value of the entry after it: by the root's value; for a pair by that of
 -- its left half's root, which is the entry after it.
 abbrev pub slotFor : {tag : ℕ} → Tagged tag → ℕ → ℕ → ℕ
-slotFor (isAtom e) n left = n % pairRoots
-slotFor (isPair e) n left = pairRoots + left % pairRoots
-slotFor (isWrapper w e) n left = encryptionRoots + n % pairRoots
-slotFor (isVariable s e) n left = variableRoots + n % slotCount
-slotFor (isNone (inl low)) n left = n % pairRoots
-slotFor (isNone (inr high)) n left = variableRoots + n % slotCount
+slotFor (anAtom e) n left = n % pairRoots
+slotFor (aPair e) n left = pairRoots + left % pairRoots
+slotFor (aWrapping w e) n left = encryptionRoots + n % pairRoots
+slotFor (aVariable s e) n left = variableRoots + n % slotCount
+slotFor (noTag (inl low)) n left = n % pairRoots
+slotFor (noTag (inr high)) n left = variableRoots + n % slotCount
 
 unfoldable pub slotBy : ℕ → ℕ → ℕ → ℕ
 unfolding tagged

@@ -12,7 +12,7 @@ use lib.Seq.{getD-drop}
 use borrow.Rule.Slice.PartAt.{part-to-end}
 use Rattle.terms.specs.declared.valid.Found.the-variants.{Nothing, At}
 use Rattle.terms.specs.Atom.{principalKind, nonceKind, publicKind, privateKind, symmetricKind, Atom, atomsOf, atomAt, atomKind, knownOf, partnerOf, IsKey}
-use Rattle.terms.specs.Atom.{key-kind, NamedBack, PartnerRight, principal, nonce, publicKey, privateKey, symmetricKey, AtomRight, Wanted, partner-wanted}
+use Rattle.terms.specs.Atom.{key-kind, NamedBack, PartnerRight, principal, nonce, publicKey, privateKey, symmetricKey, AtomRight, PartnerWanted, partner-wanted}
 use Rattle.terms.specs.Atom.{partner-right, atomRight?, wrongAtom}
 use Rattle.terms.specs.Entry.{tagAt, valueAt, from}
 use Rattle.terms.specs.First.{fails, holds}
@@ -93,7 +93,7 @@ module _ (b : List ℕ) (n : ℕ) (inside : n < length b / 4) where
   atom-unknown k w = let l = w .known in let q = known-byte b inside in omega arith
 
   by-kind : getD b (4 * n + 1) 0 ≤ 1 → (k : ℕ) → getD b (4 * n) 0 ≡ k → (r : Bool)
-      → Says r (Wanted (atomsOf b) n k) → Says r (AtomRight (atomsOf b) n)
+      → Says r (PartnerWanted (atomsOf b) n k) → Says r (AtomRight (atomsOf b) n)
   by-kind known k kind r says =
       let q = known-byte b inside in
       let same : atomKind (atomsOf b) n ≡ k = kind-byte b inside ∙ kind in
@@ -102,23 +102,23 @@ module _ (b : List ℕ) (n : ℕ) (inside : n < length b / 4) where
 
   module _ (known : getD b (4 * n + 1) 0 ≤ 1) {p : ℕ} (partner : p ≡ valueAt (from (4 * n) b)) where
     pub atom-principal : getD b (4 * n) 0 ≡ principalKind → Says (eqb p 0) (AtomRight (atomsOf b) n)
-    unfolding Wanted
+    unfolding PartnerWanted
     atom-principal k = by-kind known principalKind k (eqb p 0) (rw (← is-partner b n inside partner) (says-eq p 0))
 
     pub atom-nonce : getD b (4 * n) 0 ≡ nonceKind → Says (eqb p 0) (AtomRight (atomsOf b) n)
-    unfolding Wanted
+    unfolding PartnerWanted
     atom-nonce k = by-kind known nonceKind k (eqb p 0) (rw (← is-partner b n inside partner) (says-eq p 0))
 
     pub atom-symmetric : getD b (4 * n) 0 ≡ symmetricKind → Says (eqb p n) (AtomRight (atomsOf b) n)
-    unfolding Wanted
+    unfolding PartnerWanted
     atom-symmetric k = by-kind known symmetricKind k (eqb p n) (rw (← is-partner b n inside partner) (says-eq p n))
 
     pub atom-public : getD b (4 * n) 0 ≡ publicKind → (r : Bool) → Says r (NamedBack (atomsOf b) n privateKind) → Says r (AtomRight (atomsOf b) n)
-    unfolding Wanted
+    unfolding PartnerWanted
     atom-public k r says = by-kind known publicKind k r says
 
     pub atom-private : getD b (4 * n) 0 ≡ privateKind → (r : Bool) → Says r (NamedBack (atomsOf b) n publicKind) → Says r (AtomRight (atomsOf b) n)
-    unfolding Wanted
+    unfolding PartnerWanted
     atom-private k r says = by-kind known privateKind k r says
 
   pub atom-no-kind : (getD b (4 * n) 0 ≡ principalKind → ⊥) → (getD b (4 * n) 0 ≡ nonceKind → ⊥) → (getD b (4 * n) 0 ≡ publicKind → ⊥)

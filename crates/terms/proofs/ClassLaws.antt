@@ -5,7 +5,7 @@ use mathlib.Core.List.{List}
 use Prim.Native.Nat.{ℕ, _<_}
 use native.Mathlib.Omega.{arith}
 use Rattle.terms.specs.Term.{variable, atom, pair, encrypted, Message, wrapped, encryption}
-use Rattle.terms.specs.Tag.{atomTag, pairTag, encryptionTag, Tagged, isAtom, isPair, isWrapper, isVariable, isNone, tagged, freeBy, freeTag, wrapping-tag}
+use Rattle.terms.specs.Tag.{atomTag, pairTag, encryptionTag, Tagged, anAtom, aPair, aWrapping, aVariable, noTag, tagged, freeBy, freeTag, wrapping-tag}
 use Rattle.terms.specs.Solve.{form}
 use Rattle.terms.specs.Graph.{atomNode, pairNode, wrapperNode, IsSymbol, made, Valid, Classes, ClassStep, Clash, Outcome, Any}
 use Rattle.terms.specs.TermGraph.{variableNodes, nodeFor, nodeBy, nodeTag, nodeValue, firstChild, secondChild, nodeOf, AtHome}
@@ -25,33 +25,33 @@ unfolding form made nodeBy freeTag
 made-form v n x l r f = go (tagged n) f
   where
     go : (w : Tagged n) → freeBy w ≡ false → form (made v (nodeFor w x l r)) ≡ n
-    go (isAtom e) f = sym e
-    go (isPair e) f = sym e
-    go (isWrapper w e) f = sym e
-    go (isVariable s e) f = absurd (true≢false f)
-    go (isNone e) f = absurd (true≢false f)
+    go (anAtom e) f = sym e
+    go (aPair e) f = sym e
+    go (aWrapping w e) f = sym e
+    go (aVariable s e) f = absurd (true≢false f)
+    go (noTag e) f = absurd (true≢false f)
 
 pub made-number : (v : ℕ → Message) (n x l r : ℕ) → freeTag n ≡ false → (n ≡ pairTag → ⊥) → number (made v (nodeBy n x l r)) ≡ x
 unfolding number made nodeBy freeTag
 made-number v n x l r f off = go (tagged n) f
   where
     go : (w : Tagged n) → freeBy w ≡ false → number (made v (nodeFor w x l r)) ≡ x
-    go (isAtom e) f = refl
-    go (isPair e) f = absurd (off e)
-    go (isWrapper w e) f = refl
-    go (isVariable s e) f = absurd (true≢false f)
-    go (isNone e) f = absurd (true≢false f)
+    go (anAtom e) f = refl
+    go (aPair e) f = absurd (off e)
+    go (aWrapping w e) f = refl
+    go (aVariable s e) f = absurd (true≢false f)
+    go (noTag e) f = absurd (true≢false f)
 
 pub only-atom : (n : ℕ) → freeTag n ≡ false → (n ≡ pairTag → ⊥) → (n ≡ encryptionTag → ⊥) → n ≡ atomTag
 unfolding freeTag
 only-atom n f no-pair no-encryption = go (tagged n) f
   where
     go : (w : Tagged n) → freeBy w ≡ false → n ≡ atomTag
-    go (isAtom e) f = e
-    go (isPair e) f = absurd (no-pair e)
-    go (isWrapper w e) f = absurd (no-encryption (wrapping-tag w e))
-    go (isVariable s e) f = absurd (true≢false f)
-    go (isNone e) f = absurd (true≢false f)
+    go (anAtom e) f = e
+    go (aPair e) f = absurd (no-pair e)
+    go (aWrapping w e) f = absurd (no-encryption (wrapping-tag w e))
+    go (aVariable s e) f = absurd (true≢false f)
+    go (noTag e) f = absurd (true≢false f)
 
 module _ (s t : List ℕ) (name : ℕ → ℕ) (cs : Classes (nodeOf s t) name) (i j : ℕ) {a b : ℕ} (ea : a ≡ name i) (eb : b ≡ name j) where
   -- The step of united classes, said of a and b.

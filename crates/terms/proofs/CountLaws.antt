@@ -10,7 +10,7 @@ use lib.Dec.{ltb, eqb}
 use lib.ListN.{length, getD, take, set, length-take, drop-of-length-le}
 use lib.Seq.{take-all, take-suc, take-suc-set, slice, slice-cons}
 use Rattle.terms.specs.Term.{Term, variable, atom, pair, Sort, Variable, named, wrapped}
-use Rattle.terms.specs.Tag.{sortTag, variables, Tagged, isAtom, isPair, isWrapper, isVariable, isNone, tagged, childrenOf}
+use Rattle.terms.specs.Tag.{sortTag, variables, Tagged, anAtom, aPair, aWrapping, aVariable, noTag, tagged, childrenOf}
 use Rattle.terms.specs.Entry.{Symbol, atomSymbol, pairSymbol, wrapperSymbol, variableSymbol, tagOf, numbered, symbolBy, symbolOf, before, beforeAll}
 use Rattle.terms.specs.Entry.{withZero, termsOf}
 use Rattle.terms.specs.Each.{Each, none-left, one-more}
@@ -33,12 +33,12 @@ symbol-tag zero tag v {s} e = go (tagged tag) v e
     variable-of sort g v false q = absurd (none≢some _ q)
 
     go : (w : Tagged tag) (v : ℕ) → symbolBy w v ≡ some s → tagOf s ≡ tag
-    go (isAtom g) v e = let same : s ≡ atomSymbol v = cc in rw (same, g) refl
-    go (isPair g) zero e = let same : s ≡ pairSymbol = cc in rw (same, g) refl
-    go (isPair g) (suc v) e = absurd (none≢some _ e)
-    go (isWrapper w g) v e = let same : s ≡ wrapperSymbol w v = cc in rw (same, g) refl
-    go (isVariable sort g) v e = variable-of sort g v (ltb v variables) e
-    go (isNone g) v e = absurd (none≢some _ e)
+    go (anAtom g) v e = let same : s ≡ atomSymbol v = cc in rw (same, g) refl
+    go (aPair g) zero e = let same : s ≡ pairSymbol = cc in rw (same, g) refl
+    go (aPair g) (suc v) e = absurd (none≢some _ e)
+    go (aWrapping w g) v e = let same : s ≡ wrapperSymbol w v = cc in rw (same, g) refl
+    go (aVariable sort g) v e = variable-of sort g v (ltb v variables) e
+    go (noTag g) v e = absurd (none≢some _ e)
 
 -- So many terms were read.
 pub record Count (o : Option (List (Term Variable))) (need : ℕ) : Type 0 where

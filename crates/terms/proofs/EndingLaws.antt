@@ -9,7 +9,7 @@ use native.Mathlib.Decide.{decLt, ℕ-discrete}
 use lib.ListN.{length, getD, set, length-set}
 use lib.Seq.{getD-set-same, getD-set-other}
 use Rattle.terms.specs.Term.{Message}
-use Rattle.terms.specs.Tag.{pairTag, encryptionTag, Tagged, isAtom, isPair, isWrapper, isVariable, isNone, tagged, wrapping-tag}
+use Rattle.terms.specs.Tag.{pairTag, encryptionTag, Tagged, anAtom, aPair, aWrapping, aVariable, noTag, tagged, wrapping-tag}
 use Rattle.terms.specs.Entry.{size}
 use Rattle.terms.specs.Graph.{IsSymbol, Child, Valid, Respects, Finite, finite}
 use Rattle.terms.specs.TermGraph.{rightNodes, variableNodes, nodeFor, nodeBy, nodeTag, nodeValue, firstChild, secondChild, nodeOf, TwoTerms, AtHome}
@@ -53,11 +53,11 @@ module _ (s t : List ℕ) (i : ℕ) where
   childless no-pair no-encryption = go (tagged (nodeTag s t i))
     where
       go : (w : Tagged (nodeTag s t i)) (j : ℕ) → Child j (nodeFor w (nodeValue s t i) (firstChild s t i) (secondChild s t i)) → ⊥
-      go (isAtom e) j child = child
-      go (isPair e) j child = no-pair e
-      go (isWrapper w e) j child = no-encryption (wrapping-tag w e)
-      go (isVariable v e) j child = child
-      go (isNone e) j child = child
+      go (anAtom e) j child = child
+      go (aPair e) j child = no-pair e
+      go (aWrapping w e) j child = no-encryption (wrapping-tag w e)
+      go (aVariable v e) j child = child
+      go (noTag e) j child = child
 
   pair-children : nodeTag s t i ≡ pairTag → (j : ℕ) → Child j (nodeOf s t i) → (j ≡ firstChild s t i) ⊎ (j ≡ secondChild s t i)
   unfolding nodeBy

@@ -14,7 +14,7 @@ use Rattle.blocks.specs.Kinds.{secretKind, goodKind}
 use Rattle.terms.specs.declared.valid.Found.the-variants.{At, Nothing}
 use Rattle.terms.specs.Term.{Sort, plain, marked}
 use Rattle.terms.specs.Atom.{publicKind, Atom, atomsOf, atomAt, atomKind, IsKey, key-kind, kind-key}
-use Rattle.terms.specs.Tag.{atomTag, markedTag, sortTag, variables, Tagged, isAtom, isPair, isWrapper, isVariable, isNone, tagged, wrapping-tag}
+use Rattle.terms.specs.Tag.{atomTag, markedTag, sortTag, variables, Tagged, anAtom, aPair, aWrapping, aVariable, noTag, tagged, wrapping-tag}
 use Rattle.terms.specs.Entry.{tagAt, valueAt, from}
 use Rattle.terms.specs.Each.{EntryIs}
 use Rattle.terms.specs.TermEntry.{MayStand, EntryRight, AskedBy, Asked, asked, tagRight, rightAt?, wrongEntry}
@@ -98,11 +98,11 @@ module _ (atoms : List Atom) (kind value : ℕ) where
 
       go : (w : Tagged tag) → value < getD (limitsOf kind (length atoms)) tag 0 → getD leastKinds tag 0 ≤ listedKind atoms value
           → AskedBy atoms kind value w
-      go (isAtom e) below kept = rw e at below
-      go (isPair e) below kept = let h = rw e at below in omega arith
-      go (isWrapper w e) below kept = kind-key-listed (rw (wrapping-tag w e) at kept)
-      go (isVariable s e) below kept = sorted s (rw e at below)
-      go (isNone e) below kept = absurd (none tag e below)
+      go (anAtom e) below kept = rw e at below
+      go (aPair e) below kept = let h = rw e at below in omega arith
+      go (aWrapping w e) below kept = kind-key-listed (rw (wrapping-tag w e) at kept)
+      go (aVariable s e) below kept = sorted s (rw e at below)
+      go (noTag e) below kept = absurd (none tag e below)
 
   asked-within : (tag : ℕ) → Asked atoms kind value tag
       → (value < getD (limitsOf kind (length atoms)) tag 0) × (getD leastKinds tag 0 ≤ listedKind atoms value)
@@ -117,11 +117,11 @@ module _ (atoms : List Atom) (kind value : ℕ) where
       sorted marked low is = (omega (arith, marked-good is), omega arith)
 
       go : (w : Tagged tag) → AskedBy atoms kind value w → Within tag
-      go (isAtom e) a = rw e (a, omega arith)
-      go (isPair e) a = rw e (omega arith, omega arith)
-      go (isWrapper w e) a = rw (wrapping-tag w e) (key-listed a, key-kind-listed a)
-      go (isVariable s e) a = rw e (sorted s (a .0) (a .1))
-      go (isNone e) a = absurd a
+      go (anAtom e) a = rw e (a, omega arith)
+      go (aPair e) a = rw e (omega arith, omega arith)
+      go (aWrapping w e) a = rw (wrapping-tag w e) (key-listed a, key-kind-listed a)
+      go (aVariable s e) a = rw e (sorted s (a .0) (a .1))
+      go (noTag e) a = absurd a
 
 abbrev Right : List ℕ → ℕ → List ℕ → Type 0
 Right b kind e = EntryRight (atomsOf b) kind (tagAt e) (getD e 1 0) (valueAt e)

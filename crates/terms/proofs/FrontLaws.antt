@@ -8,7 +8,7 @@ use native.Mathlib.Omega.{arith}
 use lib.ListN.{length, take, drop, length-drop}
 use borrow.Rule.Slice.PartAt.{part-to-end}
 use Rattle.terms.specs.Term.{Term, variable, atom, pair, Variable, named, replace, wrapped}
-use Rattle.terms.specs.Tag.{Tagged, isAtom, isPair, isWrapper, isVariable, isNone, tagged, childrenOf, sort-tagged, wrapping-tagged}
+use Rattle.terms.specs.Tag.{Tagged, anAtom, aPair, aWrapping, aVariable, noTag, tagged, childrenOf, sort-tagged, wrapping-tagged}
 use Rattle.terms.specs.Entry.{Symbol, atomSymbol, pairSymbol, wrapperSymbol, variableSymbol, tagOf, valueOf, size, before, termOf, Reads, Begins}
 use Rattle.terms.specs.Entry.{tagAt, valueAt, from}
 use Rattle.terms.specs.Reading.{First, first-atom, first-pair, first-wrapped, first-variable, none≢some, first}
@@ -18,11 +18,11 @@ use Rattle.terms.proofs.EntryLaws.{termOf-reads, past, fits, size-posit
 
 -- A symbol is known by its tag and its value.
 symbolFor : {tag : ℕ} → Tagged tag → ℕ → Symbol
-symbolFor (isAtom e) n = atomSymbol n
-symbolFor (isPair e) n = pairSymbol
-symbolFor (isWrapper w e) n = wrapperSymbol w n
-symbolFor (isVariable s e) n = variableSymbol (named s n)
-symbolFor (isNone e) n = pairSymbol
+symbolFor (anAtom e) n = atomSymbol n
+symbolFor (aPair e) n = pairSymbol
+symbolFor (aWrapping w e) n = wrapperSymbol w n
+symbolFor (aVariable s e) n = variableSymbol (named s n)
+symbolFor (noTag e) n = pairSymbol
 
 symbol-for : (s : Symbol) → symbolFor (tagged (tagOf s)) (valueOf s) ≡ s
 unfolding symbolFor tagged tagOf valueOf

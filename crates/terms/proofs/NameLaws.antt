@@ -10,7 +10,7 @@ use lib.Seq.{getD-set-same, getD-set-other}
 use borrow.Author.Tests.{eq-eqb, ne-eqb}
 use Rattle.terms.specs.Graph.{Classes}
 use Rattle.terms.specs.TermGraph.{allNodes, nodeOf, AtHome}
-use Rattle.terms.specs.Names.{linkOf, after, nameOf, Linked, countFrom, classCount}
+use Rattle.terms.specs.Names.{linkOf, linksOn, nameOf, Linked, countFrom, classCount}
 use Rattle.terms.proofs.GraphLaws.{rename, rename-hit, rename-miss, merge}
 use Rattle.terms.proofs.NodeLaws.{symbol-low, home-symbol}
 
@@ -26,10 +26,10 @@ past-link c i h = List·getD-eq-default c i h
 -- ---- following the links
 
 -- From a node that leads to itself no link leads away.
-after-own : (n : ℕ) (c : List ℕ) (i : ℕ) → linkOf c i ≡ i → after n c i ≡ i
-unfolding after
+after-own : (n : ℕ) (c : List ℕ) (i : ℕ) → linkOf c i ≡ i → linksOn n c i ≡ i
+unfolding linksOn
 after-own zero c i e = refl
-after-own (suc n) c i e = ap (after n c) e ∙ after-own n c i e
+after-own (suc n) c i e = ap (linksOn n c) e ∙ after-own n c i e
 
 name-own : (c : List ℕ) (i : ℕ) → linkOf c i ≡ i → nameOf c i ≡ i
 unfolding nameOf
@@ -37,14 +37,14 @@ name-own c i e = after-own allNodes c i e
 
 -- Node k is on the way from node i to its class's name, with n links at most left to follow.
 pub record WayToName (c : List ℕ) (i n k : ℕ) : Type 0 where
-  pub leads : after n c k ≡ nameOf c i
+  pub leads : linksOn n c k ≡ nameOf c i
 
 pub way-starts : (c : List ℕ) (i : ℕ) → WayToName c i allNodes i
 unfolding nameOf
 way-starts c i = record { leads = refl }
 
 pub way-ends : {c : List ℕ} {i n k : ℕ} → WayToName c i n k → n ≡ 0 → k ≡ nameOf c i
-unfolding after
+unfolding linksOn
 way-ends {c} {i} {n} {k} way none = (rw none at (way .leads))
 
 module _ {c : List ℕ} {i n k x : ℕ} (way : WayToName c i n k) (inside : k < length c) (read : x ≡ getD c k 0) where
@@ -55,31 +55,31 @@ module _ {c : List ℕ} {i n k x : ℕ} (way : WayToName c i n k) (inside : k < 
   way-arrives own = sym (after-own n c k (link-read ∙ own)) ∙ way .leads
 
   pub way-goes-on : 0 < n → WayToName c i (n - 1) x
-  unfolding after
+  unfolding linksOn
   way-goes-on some = record { leads = go n some (way .leads) }
     where
-      go : (m : ℕ) → 0 < m → after m c k ≡ nameOf c i → after (m - 1) c x ≡ nameOf c i
+      go : (m : ℕ) → 0 < m → linksOn m c k ≡ nameOf c i → linksOn (m - 1) c x ≡ nameOf c i
       go zero h e = absurd (omega arith)
-      go (suc m) h e = let down : suc m - 1 ≡ m = omega arith in rw down (ap (after m c) (sym link-read) ∙ e)
+      go (suc m) h e = let down : suc m - 1 ≡ m = omega arith in rw down (ap (linksOn m c) (sym link-read) ∙ e)
 
 -- ---- names
 
 module _ {s t c : List ℕ} (linked : Linked s t c) where
-  after-stays : (n i : ℕ) → i ≤ n → linkOf c (after n c i) ≡ after n c i
-  unfolding after
+  after-stays : (n i : ℕ) → i ≤ n → linkOf c (linksOn n c i) ≡ linksOn n c i
+  unfolding linksOn
   after-stays zero i h = ⊎-elim (λ own. own) (λ low. absurd (omega (arith, low .0))) (linked .falls i)
   after-stays (suc n) i h = ⊎-elim
       (λ own. subst (λ (k : ℕ). linkOf c k ≡ k) (sym (after-own (suc n) c i own)) own) (λ low. after-stays n (linkOf c i) (omega (arith, low .0))) (linked .falls i)
 
-  after-low : (n i : ℕ) → after n c i ≤ i
-  unfolding after
+  after-low : (n i : ℕ) → linksOn n c i ≤ i
+  unfolding linksOn
   after-low zero i = omega arith
   after-low (suc n) i =
       let rest = after-low n (linkOf c i) in
       ⊎-elim (λ own. omega arith) (λ low. omega (arith, low .0)) (linked .falls i)
 
-  after-home : (n i : ℕ) → AtHome s t i → AtHome s t (after n c i)
-  unfolding after
+  after-home : (n i : ℕ) → AtHome s t i → AtHome s t (linksOn n c i)
+  unfolding linksOn
   after-home zero i h = h
   after-home (suc n) i h = after-home n (linkOf c i) (⊎-elim (λ own. rw own h) (λ low. low .1) (linked .falls i))
 
@@ -142,16 +142,16 @@ module _ {s t c : List ℕ} {a b : ℕ} (linked : Linked s t c) (first : AtHome 
   b-stays : linkOf (set c a b) b ≡ b
   b-stays = old-link b (omega arith) ∙ own-link linked b b-named
 
-  after-joined : (n i : ℕ) → i ≤ n → after n (set c a b) i ≡ rename a b (after n c i)
-  unfolding after
+  after-joined : (n i : ℕ) → i ≤ n → linksOn n (set c a b) i ≡ rename a b (linksOn n c i)
+  unfolding linksOn
   after-joined zero i h = sym (rename-miss b (omega arith))
   after-joined (suc n) i h = elim (ℕ-discrete i a) [
     | yes e ↦
-        rw e (ap (after n (set c a b)) new-link ∙ after-own n (set c a b) b b-stays
+        rw e (ap (linksOn n (set c a b)) new-link ∙ after-own n (set c a b) b b-stays
         ∙ sym (rename-hit (after-own (suc n) c a (own-link linked a a-named))))
     | no off ↦ ⊎-elim
         (λ own. after-own (suc n) (set c a b) i (old-link i off ∙ own) ∙ sym (ap (rename a b) (after-own (suc n) c i own) ∙ rename-miss b off))
-        (λ low. ap (after n (set c a b)) (old-link i off) ∙ after-joined n (linkOf c i) (omega (arith, low .0))) (linked .falls i)
+        (λ low. ap (linksOn n (set c a b)) (old-link i off) ∙ after-joined n (linkOf c i) (omega (arith, low .0))) (linked .falls i)
   ]
 
   pub joined-names : merge a b (nameOf c) ≡ nameOf (set c a b)

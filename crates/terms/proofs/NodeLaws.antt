@@ -9,7 +9,7 @@ use native.Mathlib.Decide.{decLt}
 use lib.ListN.{length, getD}
 use borrow.Author.Tests.{lt-ltb, le-ltb}
 use Rattle.terms.specs.Term.{Sort, plain, marked}
-use Rattle.terms.specs.Tag.{pairTag, encryptionTag, plainTag, markedTag, sortTag, variables, Tagged, isAtom, isPair, isWrapper, isVariable, isNone, wrapping-tag}
+use Rattle.terms.specs.Tag.{pairTag, encryptionTag, plainTag, markedTag, sortTag, variables, Tagged, anAtom, aPair, aWrapping, aVariable, noTag, wrapping-tag}
 use Rattle.terms.specs.Tag.{tagged, freeBy, freeTag}
 use Rattle.terms.specs.Entry.{Begins}
 use Rattle.terms.specs.Graph.{free, IsSymbol}
@@ -40,11 +40,11 @@ module _ (e : List ℕ) (base slots k : ℕ) where
       sort marked g = no-marked g
 
       go : (w : Tagged (tagIn e k)) → base + k ≡ homeFor w (valueIn e k) slots (base + k)
-      go (isAtom g) = refl
-      go (isPair g) = refl
-      go (isWrapper w g) = refl
-      go (isVariable s g) = absurd (sort s g)
-      go (isNone g) = refl
+      go (anAtom g) = refl
+      go (aPair g) = refl
+      go (aWrapping w g) = refl
+      go (aVariable s g) = absurd (sort s g)
+      go (noTag g) = refl
 
 -- The tag of a node, in each of its three regions.
 module _ (s t : List ℕ) {i : ℕ} where
@@ -77,29 +77,29 @@ module _ (s t : List ℕ) where
   node-by i e = ap (λ (m : ℕ). nodeBy m (nodeValue s t i) (firstChild s t i) (secondChild s t i)) e
 
   free-node : {n : ℕ} (w : Tagged n) (v l r : ℕ) → freeBy w ≡ true → IsSymbol (nodeFor w v l r) → ⊥
-  free-node (isAtom e) v l r f is = false≢true f
-  free-node (isPair e) v l r f is = false≢true f
-  free-node (isWrapper w e) v l r f is = false≢true f
-  free-node (isVariable s e) v l r f is = is
-  free-node (isNone e) v l r f is = is
+  free-node (anAtom e) v l r f is = false≢true f
+  free-node (aPair e) v l r f is = false≢true f
+  free-node (aWrapping w e) v l r f is = false≢true f
+  free-node (aVariable s e) v l r f is = is
+  free-node (noTag e) v l r f is = is
 
   symbol-node : {n : ℕ} (w : Tagged n) (v l r : ℕ) → freeBy w ≡ false → IsSymbol (nodeFor w v l r)
-  symbol-node (isAtom e) v l r f = tt
-  symbol-node (isPair e) v l r f = tt
-  symbol-node (isWrapper w e) v l r f = tt
-  symbol-node (isVariable s e) v l r f = absurd (true≢false f)
-  symbol-node (isNone e) v l r f = absurd (true≢false f)
+  symbol-node (anAtom e) v l r f = tt
+  symbol-node (aPair e) v l r f = tt
+  symbol-node (aWrapping w e) v l r f = tt
+  symbol-node (aVariable s e) v l r f = absurd (true≢false f)
+  symbol-node (noTag e) v l r f = absurd (true≢false f)
 
   pub not-symbol : (i : ℕ) → freeTag (nodeTag s t i) ≡ true → IsSymbol (nodeOf s t i) → ⊥
   unfolding nodeOf nodeBy freeTag
   not-symbol i f is = free-node (tagged (nodeTag s t i)) (nodeValue s t i) (firstChild s t i) (secondChild s t i) f is
 
   symbol-by : {n : ℕ} (w : Tagged n) (v l r : ℕ) → IsSymbol (nodeFor w v l r) → freeBy w ≡ false
-  symbol-by (isAtom e) v l r is = refl
-  symbol-by (isPair e) v l r is = refl
-  symbol-by (isWrapper w e) v l r is = refl
-  symbol-by (isVariable s e) v l r is = absurd is
-  symbol-by (isNone e) v l r is = absurd is
+  symbol-by (anAtom e) v l r is = refl
+  symbol-by (aPair e) v l r is = refl
+  symbol-by (aWrapping w e) v l r is = refl
+  symbol-by (aVariable s e) v l r is = absurd is
+  symbol-by (noTag e) v l r is = absurd is
 
   pub symbol-tag : (i : ℕ) → IsSymbol (nodeOf s t i) → freeTag (nodeTag s t i) ≡ false
   unfolding nodeOf nodeBy freeTag
@@ -123,11 +123,11 @@ unfolding nodeOf nodeBy
 some-symbol s t i is = go (tagged (nodeTag s t i)) is
   where
     go : {n : ℕ} (w : Tagged n) → IsSymbol (nodeFor w (nodeValue s t i) (firstChild s t i) (secondChild s t i)) → 0 < n
-    go (isAtom e) is = omega arith
-    go (isPair e) is = omega arith
-    go (isWrapper w e) is = let n = wrapping-tag w e in omega arith
-    go (isVariable v e) is = absurd is
-    go (isNone e) is = absurd is
+    go (anAtom e) is = omega arith
+    go (aPair e) is = omega arith
+    go (aWrapping w e) is = let n = wrapping-tag w e in omega arith
+    go (aVariable v e) is = absurd is
+    go (noTag e) is = absurd is
 
 -- An entry with a tag is whole.
 some-tag : {e : List ℕ} (k : ℕ) → Begins e → 0 < tagIn e k → 4 * (k + 1) ≤ length e

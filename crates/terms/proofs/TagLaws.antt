@@ -2,7 +2,7 @@
 use mathlib.Core.Path.{_≡_, refl}
 use Prim.Native.Nat.{ℕ}
 use Rattle.terms.specs.Term.{Sort, Wrapping}
-use Rattle.terms.specs.Tag.{pairTag, encryptionTag, sortTag, Tagged, isAtom, isPair, isWrapper, isVariable, isNone, tagged, childrenBy, childrenOf, wrappingTag, wrapping-tag, wrapping-tagged}
+use Rattle.terms.specs.Tag.{pairTag, encryptionTag, sortTag, Tagged, anAtom, aPair, aWrapping, aVariable, noTag, tagged, childrenBy, childrenOf, wrappingTag, wrapping-tag, wrapping-tagged}
 use Rattle.terms.specs.Tag.{sort-tagged}
 
 -- A variable has none.
@@ -21,11 +21,11 @@ unfolding childrenOf
 no-children tag off off′ = go (tagged tag)
   where
     go : (w : Tagged tag) → 0 ≡ childrenBy w
-    go (isAtom e) = refl
-    go (isPair e) = absurd (off e)
-    go (isWrapper w e) = absurd (off′ (wrapping-tag w e))
-    go (isVariable s e) = refl
-    go (isNone e) = refl
+    go (anAtom e) = refl
+    go (aPair e) = absurd (off e)
+    go (aWrapping w e) = absurd (off′ (wrapping-tag w e))
+    go (aVariable s e) = refl
+    go (noTag e) = refl
 
 pub two-children : {tag : ℕ} → tag ≡ pairTag → 2 ≡ childrenOf tag
 unfolding childrenOf

@@ -116,31 +116,31 @@ pub record AtomRight (atoms : List Atom) (n : ℕ) : Type 0 where
 -- The same, decided by the kind.
 module _ (atoms : List Atom) (n : ℕ) where
   -- What an entry of this kind has to have.
-  abbrev pub WantedBy : {kind : ℕ} → AtomKinded kind → Type 0
-  WantedBy (aPrincipal e) = partnerOf atoms n ≡ 0
-  WantedBy (aNonce e) = partnerOf atoms n ≡ 0
-  WantedBy (aPublicKey e) = NamedBack atoms n privateKind
-  WantedBy (aPrivateKey e) = NamedBack atoms n publicKind
-  WantedBy (aSymmetricKey e) = partnerOf atoms n ≡ n
-  WantedBy (noAtom e) = ⊥
+  abbrev pub PartnerWantedBy : {kind : ℕ} → AtomKinded kind → Type 0
+  PartnerWantedBy (aPrincipal e) = partnerOf atoms n ≡ 0
+  PartnerWantedBy (aNonce e) = partnerOf atoms n ≡ 0
+  PartnerWantedBy (aPublicKey e) = NamedBack atoms n privateKind
+  PartnerWantedBy (aPrivateKey e) = NamedBack atoms n publicKind
+  PartnerWantedBy (aSymmetricKey e) = partnerOf atoms n ≡ n
+  PartnerWantedBy (noAtom e) = ⊥
 
-  unfoldable pub Wanted : ℕ → Type 0
+  unfoldable pub PartnerWanted : ℕ → Type 0
   unfolding atomKinded
-  Wanted kind = WantedBy (atomKinded kind)
+  PartnerWanted kind = PartnerWantedBy (atomKinded kind)
 
-  pub partner-wanted : PartnerRight atoms n → Wanted (atomKind atoms n)
-  unfolding Wanted
+  pub partner-wanted : PartnerRight atoms n → PartnerWanted (atomKind atoms n)
+  unfolding PartnerWanted
   partner-wanted (principal k p) = rw k p
   partner-wanted (nonce k p) = rw k p
   partner-wanted (publicKey k p) = rw k p
   partner-wanted (privateKey k p) = rw k p
   partner-wanted (symmetricKey k p) = rw k p
 
-  pub partner-right : (k : ℕ) → atomKind atoms n ≡ k → Wanted k → PartnerRight atoms n
-  unfolding Wanted
+  pub partner-right : (k : ℕ) → atomKind atoms n ≡ k → PartnerWanted k → PartnerRight atoms n
+  unfolding PartnerWanted
   partner-right k is w = go (atomKinded k) w
     where
-      go : (c : AtomKinded k) → WantedBy c → PartnerRight atoms n
+      go : (c : AtomKinded k) → PartnerWantedBy c → PartnerRight atoms n
       go (aPrincipal e) w = principal (is ∙ e) w
       go (aNonce e) w = nonce (is ∙ e) w
       go (aPublicKey e) w = publicKey (is ∙ e) w
@@ -154,11 +154,11 @@ module _ (atoms : List Atom) (n : ℕ) where
       (dec-and (decLt (partnerOf atoms n) (length atoms))
       (λ l. dec-and (ℕ-discrete (atomKind atoms (partnerOf atoms n)) other) (λ k. ℕ-discrete (partnerOf atoms (partnerOf atoms n)) n)))
 
-  wanted? : (k : ℕ) → Dec (Wanted k)
-  unfolding Wanted namedBack? ℕ-discrete atomAt
+  wanted? : (k : ℕ) → Dec (PartnerWanted k)
+  unfolding PartnerWanted namedBack? ℕ-discrete atomAt
   wanted? k = go (atomKinded k)
     where
-      go : (c : AtomKinded k) → Dec (WantedBy c)
+      go : (c : AtomKinded k) → Dec (PartnerWantedBy c)
       go (aPrincipal e) = ℕ-discrete (partnerOf atoms n) 0
       go (aNonce e) = ℕ-discrete (partnerOf atoms n) 0
       go (aPublicKey e) = namedBack? privateKind

@@ -9,7 +9,7 @@ use lib.ListN.{length, getD, drop, take}
 use Rattle.blocks.specs.Block.{wordAt}
 use Rattle.terms.specs.Term.{Term, variable, atom, pair, Variable, named, wrapped, Wrapping}
 use Rattle.terms.specs.Place.{left, right, inside, Place, subtermAt}
-use Rattle.terms.specs.Tag.{atomTag, pairTag, sortTag, variables, Tagged, isAtom, isPair, isWrapper, isVariable, isNone, tagged, wrappingTag}
+use Rattle.terms.specs.Tag.{atomTag, pairTag, sortTag, variables, Tagged, anAtom, aPair, aWrapping, aVariable, noTag, tagged, wrappingTag}
 
 -- What one entry says: an atom, a pair, an encryption under a key, or a variable.
 pub data Symbol : Type 0 where
@@ -58,12 +58,12 @@ numbered false x = none
 
 -- The symbol of a tag and a value, if there is one.
 abbrev pub symbolBy : {tag : ℕ} → Tagged tag → ℕ → Option Symbol
-symbolBy (isAtom e) n = some (atomSymbol n)
-symbolBy (isPair e) zero = some pairSymbol
-symbolBy (isPair e) (suc n) = none
-symbolBy (isWrapper w e) n = some (wrapperSymbol w n)
-symbolBy (isVariable s e) n = numbered (ltb n variables) (named s n)
-symbolBy (isNone e) n = none
+symbolBy (anAtom e) n = some (atomSymbol n)
+symbolBy (aPair e) zero = some pairSymbol
+symbolBy (aPair e) (suc n) = none
+symbolBy (aWrapping w e) n = some (wrapperSymbol w n)
+symbolBy (aVariable s e) n = numbered (ltb n variables) (named s n)
+symbolBy (noTag e) n = none
 
 unfoldable pub symbolOf : ℕ → ℕ → Option Symbol
 unfolding tagged

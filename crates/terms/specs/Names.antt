@@ -13,13 +13,13 @@ abbrev pub linkOf : List ℕ → ℕ → ℕ
 linkOf c i = getD c i i
 
 -- The node that n links lead to.
-unfoldable pub after : ℕ → List ℕ → ℕ → ℕ
-after zero c i = i
-after (suc n) c i = after n c (linkOf c i)
+unfoldable pub linksOn : ℕ → List ℕ → ℕ → ℕ
+linksOn zero c i = i
+linksOn (suc n) c i = linksOn n c (linkOf c i)
 
 -- The name of node i's class: no way has 256 links.
 unfoldable pub nameOf : List ℕ → ℕ → ℕ
-nameOf c i = after allNodes c i
+nameOf c i = linksOn allNodes c i
 
 -- Every node leads to itself, or to a lower one that is a variable's node or a symbol's.
 pub record Linked (s t c : List ℕ) : Type 0 where

@@ -10,7 +10,7 @@ use lib.Dec.{ltb}
 use lib.ListN.{getD, drop}
 use borrow.Author.Tests.{ltb-true, lt-ltb}
 use Rattle.terms.specs.Term.{Term, variable, atom, pair, Sort, Variable, named, wrapped, Wrapping}
-use Rattle.terms.specs.Tag.{atomTag, pairTag, sortTag, variables, VariableTag, Tagged, isAtom, isPair, isWrapper, isVariable, isNone, wrappingTag, WrapperTag, wrapping-tag, wrapping-tagged}
+use Rattle.terms.specs.Tag.{atomTag, pairTag, sortTag, variables, VariableTag, Tagged, anAtom, aPair, aWrapping, aVariable, noTag, wrappingTag, WrapperTag, wrapping-tag, wrapping-tagged}
 use Rattle.terms.specs.Tag.{tagged, sort-tag, sort-tagged}
 use Rattle.terms.specs.Entry.{Symbol, atomSymbol, pairSymbol, wrapperSymbol, variableSymbol, tagOf, valueOf, entryOf, termEntries, numbered, symbolBy}
 use Rattle.terms.specs.Entry.{symbolOf, before, beforeAll, withZero, termsOf, Reads, tagAt, valueAt}
@@ -60,12 +60,12 @@ module _ (rest : List ℕ) (l : List (Term Variable)) {tag : ℕ} where
   fromSymbol n r = go (tagged tag) n r
     where
       go : (w : Tagged tag) (n : ℕ) → beforeAll (symbolBy w n) (termsOf rest) ≡ some l → First tag n rest l
-      go (isAtom e) n r = atomCase e n (termsOf rest) refl r
-      go (isPair e) zero r = pairCase e (termsOf rest) refl r
-      go (isPair e) (suc n) r = absurd (none≢some _ r)
-      go (isWrapper w e) n r = wrappedCase w e n (termsOf rest) refl r
-      go (isVariable s e) n r = variableCase s e n (ltb n variables) (termsOf rest) refl refl r
-      go (isNone e) n r = absurd (none≢some _ r)
+      go (anAtom e) n r = atomCase e n (termsOf rest) refl r
+      go (aPair e) zero r = pairCase e (termsOf rest) refl r
+      go (aPair e) (suc n) r = absurd (none≢some _ r)
+      go (aWrapping w e) n r = wrappedCase w e n (termsOf rest) refl r
+      go (aVariable s e) n r = variableCase s e n (ltb n variables) (termsOf rest) refl refl r
+      go (noTag e) n r = absurd (none≢some _ r)
 
   fromEntry : (z n : ℕ) → beforeAll (withZero z (symbolOf tag n)) (termsOf rest) ≡ some l → First tag n rest l
   unfolding withZero beforeAll

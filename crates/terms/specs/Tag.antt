@@ -49,29 +49,29 @@ WrapperTag tag = tag ≡ encryptionTag
 
 -- What a byte says as a tag.
 pub data Tagged (tag : ℕ) : Type 0 where
-  isAtom : tag ≡ atomTag → Tagged tag
-  isPair : tag ≡ pairTag → Tagged tag
-  isWrapper : (w : Wrapping) → tag ≡ wrappingTag w → Tagged tag
-  isVariable : (s : Sort) → tag ≡ sortTag s → Tagged tag
-  isNone : (tag < atomTag) ⊎ (markedTag < tag) → Tagged tag
+  anAtom : tag ≡ atomTag → Tagged tag
+  aPair : tag ≡ pairTag → Tagged tag
+  aWrapping : (w : Wrapping) → tag ≡ wrappingTag w → Tagged tag
+  aVariable : (s : Sort) → tag ≡ sortTag s → Tagged tag
+  noTag : (tag < atomTag) ⊎ (markedTag < tag) → Tagged tag
 
 unfoldable pub tagged : (tag : ℕ) → Tagged tag
 unfolding sortTag wrappingTag
-tagged zero = isNone (inl (omega arith))
-tagged (suc zero) = isAtom refl
-tagged (suc (suc zero)) = isPair refl
-tagged (suc (suc (suc zero))) = isWrapper encryption refl
-tagged (suc (suc (suc (suc zero)))) = isVariable plain refl
-tagged (suc (suc (suc (suc (suc zero))))) = isVariable marked refl
-tagged (suc (suc (suc (suc (suc (suc n)))))) = isNone (inr (omega arith))
+tagged zero = noTag (inl (omega arith))
+tagged (suc zero) = anAtom refl
+tagged (suc (suc zero)) = aPair refl
+tagged (suc (suc (suc zero))) = aWrapping encryption refl
+tagged (suc (suc (suc (suc zero)))) = aVariable plain refl
+tagged (suc (suc (suc (suc (suc zero))))) = aVariable marked refl
+tagged (suc (suc (suc (suc (suc (suc n)))))) = noTag (inr (omega arith))
 
 -- How many children an entry of this tag has.
 abbrev pub childrenBy : {tag : ℕ} → Tagged tag → ℕ
-childrenBy (isAtom e) = 0
-childrenBy (isPair e) = 2
-childrenBy (isWrapper w e) = 1
-childrenBy (isVariable s e) = 0
-childrenBy (isNone e) = 0
+childrenBy (anAtom e) = 0
+childrenBy (aPair e) = 2
+childrenBy (aWrapping w e) = 1
+childrenBy (aVariable s e) = 0
+childrenBy (noTag e) = 0
 
 unfoldable pub childrenOf : ℕ → ℕ
 unfolding tagged
@@ -79,11 +79,11 @@ childrenOf tag = childrenBy (tagged tag)
 
 -- A tag that may stand for any message, or for none: a variable's, or no tag.
 abbrev pub freeBy : {tag : ℕ} → Tagged tag → Bool
-freeBy (isAtom e) = false
-freeBy (isPair e) = false
-freeBy (isWrapper w e) = false
-freeBy (isVariable s e) = true
-freeBy (isNone e) = true
+freeBy (anAtom e) = false
+freeBy (aPair e) = false
+freeBy (aWrapping w e) = false
+freeBy (aVariable s e) = true
+freeBy (noTag e) = true
 
 unfoldable pub freeTag : ℕ → Bool
 unfolding tagged
@@ -95,7 +95,7 @@ unfolding sortTag
 sort-tag plain e = omega arith
 sort-tag marked e = omega arith
 
-pub sort-tagged : (s : Sort) → tagged (sortTag s) ≡ isVariable s refl
+pub sort-tagged : (s : Sort) → tagged (sortTag s) ≡ aVariable s refl
 unfolding tagged sortTag
 sort-tagged plain = refl
 sort-tagged marked = refl
@@ -105,6 +105,6 @@ pub wrapping-tag : {tag : ℕ} (w : Wrapping) → tag ≡ wrappingTag w → Wrap
 unfolding wrappingTag
 wrapping-tag encryption e = e
 
-pub wrapping-tagged : (w : Wrapping) → tagged (wrappingTag w) ≡ isWrapper w refl
+pub wrapping-tagged : (w : Wrapping) → tagged (wrappingTag w) ≡ aWrapping w refl
 unfolding tagged wrappingTag
 wrapping-tagged encryption = refl

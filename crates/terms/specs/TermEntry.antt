@@ -7,7 +7,7 @@ use lib.ListN.{length, getD, drop}
 use Rattle.blocks.specs.Kinds.{secretKind, goodKind}
 use Rattle.terms.specs.declared.valid.Found.{Found}
 use Rattle.terms.specs.Term.{Sort, plain, marked}
-use Rattle.terms.specs.Tag.{atomTag, pairTag, encryptionTag, sortTag, variables, Tagged, isAtom, isPair, isWrapper, isVariable, isNone, tagged, wrapping-tag}
+use Rattle.terms.specs.Tag.{atomTag, pairTag, encryptionTag, sortTag, variables, Tagged, anAtom, aPair, aWrapping, aVariable, noTag, tagged, wrapping-tag}
 use Rattle.terms.specs.Tag.{sort-tagged}
 use Rattle.terms.specs.Entry.{tagAt, valueAt}
 use Rattle.terms.specs.Atom.{Atom, IsKey, isKey?}
@@ -42,11 +42,11 @@ mayStand? marked kind = ℕ-discrete kind goodKind
 module _ (atoms : List Atom) (kind value : ℕ) where
   -- What an entry of this tag has to have.
   abbrev pub AskedBy : {tag : ℕ} → Tagged tag → Type 0
-  AskedBy (isAtom e) = value < length atoms
-  AskedBy (isPair e) = value ≡ 0
-  AskedBy (isWrapper w e) = IsKey atoms value
-  AskedBy (isVariable s e) = (value < variables) × MayStand s kind
-  AskedBy (isNone e) = ⊥
+  AskedBy (anAtom e) = value < length atoms
+  AskedBy (aPair e) = value ≡ 0
+  AskedBy (aWrapping w e) = IsKey atoms value
+  AskedBy (aVariable s e) = (value < variables) × MayStand s kind
+  AskedBy (noTag e) = ⊥
 
   unfoldable pub Asked : ℕ → Type 0
   unfolding tagged
@@ -64,22 +64,22 @@ module _ (atoms : List Atom) (kind value : ℕ) where
   tagRight tag a = go (tagged tag) a
     where
       go : (w : Tagged tag) → AskedBy w → TagRight atoms kind tag value
-      go (isAtom e) a = atomEntry e a
-      go (isPair e) a = pairEntry e a
-      go (isWrapper w e) a = encryptionEntry (wrapping-tag w e) a
-      go (isVariable s e) a = variableEntry s e (a .0) (a .1)
-      go (isNone e) a = absurd a
+      go (anAtom e) a = atomEntry e a
+      go (aPair e) a = pairEntry e a
+      go (aWrapping w e) a = encryptionEntry (wrapping-tag w e) a
+      go (aVariable s e) a = variableEntry s e (a .0) (a .1)
+      go (noTag e) a = absurd a
 
   asked? : (tag : ℕ) → Dec (Asked tag)
   unfolding Asked ℕ-discrete decLt isKey? dec-and mayStand?
   asked? tag = go (tagged tag)
     where
       go : (w : Tagged tag) → Dec (AskedBy w)
-      go (isAtom e) = decLt value (length atoms)
-      go (isPair e) = ℕ-discrete value 0
-      go (isWrapper w e) = isKey? atoms value
-      go (isVariable s e) = dec-and (decLt value variables) (λ l. mayStand? s kind)
-      go (isNone e) = no (λ h. h)
+      go (anAtom e) = decLt value (length atoms)
+      go (aPair e) = ℕ-discrete value 0
+      go (aWrapping w e) = isKey? atoms value
+      go (aVariable s e) = dec-and (decLt value variables) (λ l. mayStand? s kind)
+      go (noTag e) = no (λ h. h)
 
 -- Is the entry right?
 unfoldable pub entryRight? : (atoms : List Atom) (kind tag zeroByte value : ℕ) → Dec (EntryRight atoms kind tag zeroByte value)

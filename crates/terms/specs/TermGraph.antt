@@ -8,7 +8,7 @@ use lib.Dec.{ltb}
 use lib.ListN.{length, getD, drop}
 use Rattle.blocks.specs.Limits.{mostTermBytes}
 use Rattle.blocks.specs.Block.{wordAt}
-use Rattle.terms.specs.Tag.{pairTag, encryptionTag, variables, Tagged, isAtom, isPair, isWrapper, isVariable, isNone, tagged}
+use Rattle.terms.specs.Tag.{pairTag, encryptionTag, variables, Tagged, anAtom, aPair, aWrapping, aVariable, noTag, tagged}
 use Rattle.terms.specs.Decisions.{pick}
 use Rattle.terms.specs.Slot.{slotCount, slotIn}
 use Rattle.terms.specs.Entry.{termOf, size, Begins}
@@ -37,11 +37,11 @@ valueIn e k = wordAt e (4 * k + 2)
 
 -- The node of an entry of this tag and value: its variable's, or the entry's own.
 abbrev pub homeFor : {tag : ℕ} → Tagged tag → ℕ → ℕ → ℕ → ℕ
-homeFor (isAtom e) n slots own = own
-homeFor (isPair e) n slots own = own
-homeFor (isWrapper w e) n slots own = own
-homeFor (isVariable s e) n slots own = slots + slotIn s (n % variables)
-homeFor (isNone e) n slots own = own
+homeFor (anAtom e) n slots own = own
+homeFor (aPair e) n slots own = own
+homeFor (aWrapping w e) n slots own = own
+homeFor (aVariable s e) n slots own = slots + slotIn s (n % variables)
+homeFor (noTag e) n slots own = own
 
 unfoldable pub homeBy : ℕ → ℕ → ℕ → ℕ → ℕ
 unfolding tagged slotIn
@@ -57,11 +57,11 @@ rightIn e k = k + 1 + size (termOf (drop (4 * (k + 1)) e))
 
 -- What stands at an entry of this tag and value, with these children.
 abbrev pub nodeFor : {tag : ℕ} → Tagged tag → ℕ → ℕ → ℕ → Node
-nodeFor (isAtom e) n l r = atomNode n
-nodeFor (isPair e) n l r = pairNode l r
-nodeFor (isWrapper w e) n l r = wrapperNode w n l
-nodeFor (isVariable s e) n l r = free
-nodeFor (isNone e) n l r = free
+nodeFor (anAtom e) n l r = atomNode n
+nodeFor (aPair e) n l r = pairNode l r
+nodeFor (aWrapping w e) n l r = wrapperNode w n l
+nodeFor (aVariable s e) n l r = free
+nodeFor (noTag e) n l r = free
 
 unfoldable pub nodeBy : ℕ → ℕ → ℕ → ℕ → Node
 unfolding tagged

@@ -16,7 +16,7 @@ use Rattle.blocks.specs.Block.{blockAt, kindOf, firstEntries}
 use Rattle.blocks.proofs.KindLaws.{secret-lists}
 use Rattle.terms.specs.Term.{Term, Message, Variable, variable, atom, pair, Sort, named, replace, asTerm, wrapped, Wrapping}
 use Rattle.terms.specs.Tag.{atomTag, pairTag, encryptionTag, sortTag, VariableTag, SymbolTag, sort-tag, sort-tagged, wrappingTag, wrapping-tag, wrapping-tagged}
-use Rattle.terms.specs.Tag.{Tagged, isAtom, isPair, isWrapper, isVariable, isNone, tagged}
+use Rattle.terms.specs.Tag.{Tagged, anAtom, aPair, aWrapping, aVariable, noTag, tagged}
 use Rattle.terms.specs.Slot.{slotCount}
 use Rattle.terms.specs.Instance.{Matches, Share}
 use Rattle.terms.proofs.InstanceLaws.{replace-asTerm}
@@ -44,12 +44,12 @@ unfolding slotBy
 slot-leaf tag n l m off = go (tagged tag)
   where
     go : (w : Tagged tag) → slotFor w n l ≡ slotFor w n m
-    go (isAtom e) = refl
-    go (isPair e) = absurd (off e)
-    go (isWrapper w e) = refl
-    go (isVariable s e) = refl
-    go (isNone (inl low)) = refl
-    go (isNone (inr high)) = refl
+    go (anAtom e) = refl
+    go (aPair e) = absurd (off e)
+    go (aWrapping w e) = refl
+    go (aVariable s e) = refl
+    go (noTag (inl low)) = refl
+    go (noTag (inr high)) = refl
 
 -- A root that is neither a pair's nor an encryption's: an atom's, or a variable's.
 slot-low : (tag n l : ℕ) → SymbolTag tag → (tag ≡ pairTag → ⊥) → (tag ≡ encryptionTag → ⊥) → n % pairRoots ≡ slotBy tag n l
@@ -57,24 +57,24 @@ unfolding slotBy
 slot-low tag n l low no-pair no-key = go (tagged tag)
   where
     go : (w : Tagged tag) → n % pairRoots ≡ slotFor w n l
-    go (isAtom e) = refl
-    go (isPair e) = absurd (no-pair e)
-    go (isWrapper w e) = absurd (no-key (wrapping-tag w e))
-    go (isVariable s e) = let high = sort-tag s e in absurd (omega arith)
-    go (isNone (inl none)) = refl
-    go (isNone (inr high)) = absurd (omega arith)
+    go (anAtom e) = refl
+    go (aPair e) = absurd (no-pair e)
+    go (aWrapping w e) = absurd (no-key (wrapping-tag w e))
+    go (aVariable s e) = let high = sort-tag s e in absurd (omega arith)
+    go (noTag (inl none)) = refl
+    go (noTag (inr high)) = absurd (omega arith)
 
 slot-high : (tag n l : ℕ) → VariableTag tag → variableRoots + n % slotCount ≡ slotBy tag n l
 unfolding slotBy
 slot-high tag n l high = go (tagged tag)
   where
     go : (w : Tagged tag) → variableRoots + n % slotCount ≡ slotFor w n l
-    go (isAtom e) = absurd (omega arith)
-    go (isPair e) = absurd (omega arith)
-    go (isWrapper w e) = let low = wrapping-tag w e in absurd (omega arith)
-    go (isVariable s e) = refl
-    go (isNone (inl low)) = absurd (omega arith)
-    go (isNone (inr high)) = refl
+    go (anAtom e) = absurd (omega arith)
+    go (aPair e) = absurd (omega arith)
+    go (aWrapping w e) = let low = wrapping-tag w e in absurd (omega arith)
+    go (aVariable s e) = refl
+    go (noTag (inl low)) = absurd (omega arith)
+    go (noTag (inr high)) = refl
 
 -- Something around a term.
 slot-wrapping : (w : Wrapping) (n l : ℕ) → slotBy (wrappingTag w) n l ≡ encryptionRoots + n % pairRoots
