@@ -5,7 +5,8 @@ use mathlib.Core.Option.{Option}
 use lib.ListN.{length}
 use Prim.Native.Nat.{ℕ, _<_}
 use Rattle.terms.specs.Term.{Term, Message, Variable}
-use Rattle.terms.specs.Atom.{Atom, knownOf, partnerOf}
+use Rattle.terms.specs.declared.atom.Atom.{Atom}
+use Rattle.terms.specs.Atom.{knownOf, partnerOf}
 
 -- A rule: from the premise, if it has one, to the conclusion. Both speak of the same variables.
 pub record Rule : Type 0 where

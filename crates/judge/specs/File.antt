@@ -10,7 +10,8 @@ use Rattle.blocks.specs.Limits.{blockSize}
 use Rattle.blocks.specs.Block.{blockAt, kindOf, firstCount, secondCount, entriesOf, firstEntries, secondEntries}
 use Rattle.terms.specs.Term.{Term, Message, Variable, atom, instance}
 use Rattle.terms.specs.Entry.{termOf}
-use Rattle.terms.specs.Atom.{Atom, atomsOf}
+use Rattle.terms.specs.declared.atom.Atom.{Atom}
+use Rattle.terms.specs.Atom.{atomsOf}
 use Rattle.judge.specs.declared.verdict.Counts.{Counts}
 use Rattle.judge.specs.Certificate.{Certificate, Rule}
 

@@ -12,7 +12,8 @@ use Rattle.blocks.specs.Layout.{LayoutRight}
 use Rattle.terms.specs.Term.{Term, Variable}
 use Rattle.terms.specs.Place.{Place}
 use Rattle.terms.specs.Entry.{Placed, termOf}
-use Rattle.terms.specs.Atom.{Atom, atomsOf, AtomRight}
+use Rattle.terms.specs.declared.atom.Atom.{Atom}
+use Rattle.terms.specs.Atom.{atomsOf, AtomRight}
 use Rattle.terms.specs.TermEntry.{EntryRight}
 use Rattle.terms.specs.Each.{EntryIs}
 use Rattle.terms.specs.OneTerm.{OneTerm, IsEncryption}

@@ -15,7 +15,8 @@ use Rattle.blocks.specs.Layout.{within, layoutRight, countsRight, zeroFrom, all
 use Rattle.terms.specs.declared.valid.Found.{Found}
 use Rattle.terms.specs.declared.valid.Found.the-variants.{At, Nothing}
 use Rattle.terms.specs.Entry.{termOf, size}
-use Rattle.terms.specs.Atom.{Atom, atomsOf, wrongAtom}
+use Rattle.terms.specs.declared.atom.Atom.{Atom}
+use Rattle.terms.specs.Atom.{atomsOf, wrongAtom}
 use Rattle.terms.specs.TermEntry.{wrongEntry}
 use Rattle.terms.specs.OneTerm.{encryption?}
 use Rattle.terms.specs.Reading.{oneTerm?}

@@ -25,6 +25,7 @@ use crate::form::Judged;
 use crate::verdict::Fault;
 use blocks::kinds;
 use blocks::limits;
+use terms::atom::atom_at;
 use terms::entry;
 use terms::matching;
 use terms::sharing;
@@ -349,13 +350,8 @@ fn is_known(file: &[u8], e: &[u8]) -> bool
     if tag != 1 {
         return false;
     }
-    let atoms = atom_entries(file);
-    let a = entry::value(e);
-    if atoms.len() / 4 <= a {
-        return false;
-    }
-    let known = atoms[4 * a + 1];
-    known == 1
+    let atom = atom_at(atom_entries(file), entry::value(e));
+    atom.known == 1
 }
 
 // Is the term that e begins with, as a message, weakly closed? With a pair, one half is listed; with {m}k, m or k is.
@@ -385,12 +381,7 @@ fn inverse_of(file: &[u8], k: usize) -> usize
     requires { ⌜ Laid (now file) ⌝ }
     ensures { λ r. ⌜ (r ≡ inverse (certificateOf (now (file .entry))) k) × (r ≤ 65535) ⌝ }
 {
-    let atoms = atom_entries(file);
-    if k < atoms.len() / 4 {
-        entry::value(&atoms[4 * k..])
-    } else {
-        0
-    }
+    atom_at(atom_entries(file), k).partner
 }
 
 // Is the inverse of the root key of the encryption that e begins with a listed secret?

@@ -11,7 +11,8 @@ use Rattle.blocks.specs.Limits.{mostTermBytes}
 use Rattle.terms.specs.declared.valid.Found.{Found}
 use Rattle.terms.specs.declared.valid.Found.the-variants.{At, Nothing}
 use Rattle.terms.specs.Entry.{termOf, Begins}
-use Rattle.terms.specs.Atom.{Atom, atomsOf}
+use Rattle.terms.specs.declared.atom.Atom.{Atom}
+use Rattle.terms.specs.Atom.{atomsOf}
 use Rattle.terms.specs.TermEntry.{wrongEntry}
 use Rattle.terms.specs.OneTerm.{HasSymbol}
 use Rattle.terms.specs.Reading.{oneTerm?}

@@ -8,7 +8,8 @@ use native.Mathlib.Decide.{decLt, decLe}
 use lib.ListN.{length}
 use Rattle.terms.specs.Term.{Term, variable, atom, pair, Variable, replace, wrapped}
 use Rattle.terms.specs.Instance.{Matches, Share}
-use Rattle.terms.specs.Atom.{Atom, IsKey, isKey?}
+use Rattle.terms.specs.declared.atom.Atom.{Atom}
+use Rattle.terms.specs.Atom.{IsKey, isKey?}
 use Rattle.terms.specs.Occurs.{replace-none}
 use Rattle.terms.specs.Decide.{answer}
 use Rattle.terms.specs.Built.{Built, BuiltMatch, BuiltShare, MessageAtom}

@@ -1,5 +1,5 @@
 -- Laws of the tables: an entry is right (number 7) if and only if the tables say so.
-use mathlib.Core.Path.{_≡_, refl, ap}
+use mathlib.Core.Path.{_≡_, refl, sym, ap}
 use mathlib.Core.Bool.{Bool, true, false}
 use mathlib.Core.List.{List}
 use mathlib.Core.Logic.{_⊎_, inl, inr}
@@ -13,7 +13,8 @@ use borrow.Rule.Slice.PartAt.{part-to-end}
 use Rattle.blocks.specs.Kinds.{secretKind, goodKind}
 use Rattle.terms.specs.declared.valid.Found.the-variants.{At, Nothing}
 use Rattle.terms.specs.Term.{Sort, plain, marked}
-use Rattle.terms.specs.Atom.{publicKind, Atom, atomsOf, atomAt, atomKind, IsKey, key-kind, kind-key}
+use Rattle.terms.specs.declared.atom.Atom.{Atom}
+use Rattle.terms.specs.Atom.{publicKind, atomAt, atomKind, IsKey, key-kind, kind-key}
 use Rattle.terms.specs.Tag.{atomTag, markedTag, sortTag, variables, Tagged, anAtom, aPair, aWrapping, aVariable, noTag, tagged, wrapping-tag}
 use Rattle.terms.specs.Entry.{tagAt, valueAt, from}
 use Rattle.terms.specs.Each.{EntryIs}
@@ -23,24 +24,19 @@ use Rattle.terms.specs.Decisions.{pick, Says, says-same}
 use Rattle.terms.specs.EntryTables.{listedKind, plainLimit, markedLimit, limitsOf, leastKinds, ByTables}
 use Rattle.terms.proofs.AnswerLaws.{says-yes, says-no}
 use Rattle.terms.proofs.FirstLaws.{first-only}
-use Rattle.terms.proofs.AtomLaws.{key-listed, length-atoms, kind-byte}
+use Rattle.terms.proofs.AtomLaws.{key-listed}
 
--- The kind of an atom, by its byte.
-module _ (b : List ℕ) (n : ℕ) where
-  pub kind-away : length b / 4 ≤ n → 0 ≡ listedKind (atomsOf b) n
-  unfolding listedKind atomAt
-  kind-away far =
-      let none-there : atomKind (atomsOf b) n ≡ 0 =
-      ap (λ (a : Atom). a .kind) (List·getD-eq-default (atomsOf b) _ (omega (arith, length-atoms b))) in
-      rw none-there
-
-  pub kind-low : n < length b / 4 → getD b (4 * n) 0 < 6 → getD b (4 * n) 0 ≡ listedKind (atomsOf b) n
+-- The kind of an atom, by its entry.
+module _ (atoms : List Atom) (n : ℕ) {a : Atom} (is : a ≡ atomAt atoms n) where
+  by-entry : listedKind atoms n ≡ pick (ltb (a .kind) 6) (a .kind) 0
   unfolding listedKind
-  kind-low inside low = rw (kind-byte b inside, lt-ltb (getD b (4 * n) 0) 6 low)
+  by-entry = ap (λ (x : Atom). pick (ltb (x .kind) 6) (x .kind) 0) (sym is)
 
-  pub kind-high : n < length b / 4 → 6 ≤ getD b (4 * n) 0 → 0 ≡ listedKind (atomsOf b) n
-  unfolding listedKind
-  kind-high inside high = rw (kind-byte b inside, le-ltb (getD b (4 * n) 0) 6 high)
+  pub kind-low : a .kind < 6 → a .kind ≡ listedKind atoms n
+  kind-low low = rw (by-entry, lt-ltb (a .kind) 6 low)
+
+  pub kind-high : 6 ≤ a .kind → 0 ≡ listedKind atoms n
+  kind-high high = rw (by-entry, le-ltb (a .kind) 6 high)
 
 -- How many variables, by the kind of the block.
 module _ {kind : ℕ} where
@@ -123,34 +119,29 @@ module _ (atoms : List Atom) (kind value : ℕ) where
       go (aVariable s e) a = rw e (sorted s (a .0) (a .1))
       go (noTag e) a = absurd a
 
-abbrev Right : List ℕ → ℕ → List ℕ → Type 0
-Right b kind e = EntryRight (atomsOf b) kind (tagAt e) (getD e 1 0) (valueAt e)
+-- The entry that stands first, and entry n: what is said by the tables is said by number 7.
+module _ (atoms : List Atom) (kind : ℕ) {limits : List ℕ} (tables : limits ≡ limitsOf kind (length atoms)) where
+  abbrev Right : List ℕ → Type 0
+  Right e = EntryRight atoms kind (tagAt e) (getD e 1 0) (valueAt e)
 
-within-right : (b : List ℕ) (kind : ℕ) (e : List ℕ) {limits : List ℕ} → limits ≡ limitsOf kind (length b / 4)
-    → (r : Bool) → Says r (ByTables (atomsOf b) limits leastKinds e) → Says r (Right b kind e)
-within-right b kind e {limits} is r says = says-same {P = ByTables (atomsOf b) limits leastKinds e} r
-    (λ w. record {
-      blank = w .blank;
-      tagged = tagRight (atomsOf b) kind (valueAt e) (tagAt e) (within-asked (atomsOf b) kind (valueAt e) (tagAt e)
-          (rw tables at (w .below)) (w .kept));
-    })
-    (λ w. (let a = asked-within (atomsOf b) kind (valueAt e) (tagAt e) (asked (atomsOf b) kind (valueAt e) (w .tagged)) in
-    record { blank = w .blank; below = rw tables (a .0); kept = a .1 })) says
-  where
-    tables : limits ≡ limitsOf kind (length (atomsOf b))
-    tables = rw (length-atoms b) is
+  within-right : (e : List ℕ) (r : Bool) → Says r (ByTables atoms limits leastKinds e) → Says r (Right e)
+  within-right e r says = says-same {P = ByTables atoms limits leastKinds e} r
+      (λ w. record {
+        blank = w .blank;
+        tagged = tagRight atoms kind (valueAt e) (tagAt e) (within-asked atoms kind (valueAt e) (tagAt e) (rw tables at (w .below)) (w .kept));
+      })
+      (λ w. (let a = asked-within atoms kind (valueAt e) (tagAt e) (asked atoms kind (valueAt e) (w .tagged)) in
+      record { blank = w .blank; below = rw tables (a .0); kept = a .1 })) says
 
--- What is said of entry n by the tables is said by number 7.
-module _ (b : List ℕ) (kind : ℕ) (e : List ℕ) {limits : List ℕ} (is : limits ≡ limitsOf kind (length b / 4)) (n : ℕ) (r : Bool)
-    (says : Says r (ByTables (atomsOf b) limits leastKinds (from (4 * n) e))) where
-  right-there : Says r (Right b kind (from (4 * n) e))
-  right-there = within-right b kind (from (4 * n) e) is r says
+  module _ (e : List ℕ) (n : ℕ) (r : Bool) (says : Says r (ByTables atoms limits leastKinds (from (4 * n) e))) where
+    right-there : Says r (Right (from (4 * n) e))
+    right-there = within-right (from (4 * n) e) r says
 
-  pub entry-yes : r ≡ true → EntryIs (EntryRight (atomsOf b) kind) e n
-  entry-yes t = rw part-to-end at (says-yes {P = Right b kind (from (4 * n) e)} r right-there t)
+    pub entry-yes : r ≡ true → EntryIs (EntryRight atoms kind) e n
+    entry-yes t = rw part-to-end at (says-yes {P = Right (from (4 * n) e)} r right-there t)
 
-  pub entry-no : r ≡ false → ¬ EntryIs (EntryRight (atomsOf b) kind) e n
-  entry-no f w = says-no {P = Right b kind (from (4 * n) e)} r right-there f (rw part-to-end w)
+    pub entry-no : r ≡ false → ¬ EntryIs (EntryRight atoms kind) e n
+    entry-no f w = says-no {P = Right (from (4 * n) e)} r right-there f (rw part-to-end w)
 
 -- The steps of the test.
 module _ {atoms : List Atom} {limits least e : List ℕ} {tag : ℕ} (is-tag : tag ≡ tagAt e) where
@@ -170,13 +161,12 @@ module _ {atoms : List Atom} {limits least e : List ℕ} {tag : ℕ} (is-tag : t
           record { blank = blank; below = rw (is-tag, is-value) at below; kept = rw (is-kind, is-tag, is-value) at kept }
 
 -- The first entry that is not right.
-module _ (b : List ℕ) (kind : ℕ) (e : List ℕ) where
+module _ (atoms : List Atom) (kind : ℕ) (e : List ℕ) where
   pub entry-wrong : (n : ℕ) → n < length e / 4
-      → ((k : ℕ) → k < n → EntryIs (EntryRight (atomsOf b) kind) e k) → ¬ EntryIs (EntryRight (atomsOf b) kind) e n
-      → At n ≡ wrongEntry (atomsOf b) kind e
+      → ((k : ℕ) → k < n → EntryIs (EntryRight atoms kind) e k) → ¬ EntryIs (EntryRight atoms kind) e n → At n ≡ wrongEntry atoms kind e
   unfolding wrongEntry
-  entry-wrong n inside all off = first-only (rightAt? (atomsOf b) kind e) (fails refl inside off all)
+  entry-wrong n inside all off = first-only (rightAt? atoms kind e) (fails refl inside off all)
 
-  pub entries-right : ((k : ℕ) → k < length e / 4 → EntryIs (EntryRight (atomsOf b) kind) e k) → Nothing ≡ wrongEntry (atomsOf b) kind e
+  pub entries-right : ((k : ℕ) → k < length e / 4 → EntryIs (EntryRight atoms kind) e k) → Nothing ≡ wrongEntry atoms kind e
   unfolding wrongEntry
-  entries-right all = first-only (rightAt? (atomsOf b) kind e) (holds refl all)
+  entries-right all = first-only (rightAt? atoms kind e) (holds refl all)

@@ -12,7 +12,8 @@ use borrow.Author.Tests.{lt-ltb, ltb-true}
 use Rattle.blocks.specs.Kinds.{secretKind, goodKind}
 use Rattle.terms.specs.declared.valid.Found.the-variants.{Nothing}
 use Rattle.terms.specs.Term.{Term, variable, atom, pair, encrypted, Message, Sort, plain, marked, Variable, named, replace, asTerm, wrapped, encryption}
-use Rattle.terms.specs.Atom.{Atom, IsKey}
+use Rattle.terms.specs.declared.atom.Atom.{Atom}
+use Rattle.terms.specs.Atom.{IsKey}
 use Rattle.terms.specs.Tag.{encryptionTag, variables, sort-tagged}
 use Rattle.terms.specs.Entry.{Symbol, atomSymbol, pairSymbol, wrapperSymbol, variableSymbol, tagOf, valueOf, entryOf, termEntries, size, numbered}
 use Rattle.terms.specs.Entry.{symbolOf, withZero, termsOf, termOf, Reads, Begins, tagAt, valueAt}

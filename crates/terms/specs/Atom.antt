@@ -6,6 +6,7 @@ use Prim.Native.Nat.{ℕ, zero, suc, _+_, _*_, _≤_, _<_}
 use native.Mathlib.Omega.{arith}
 use native.Mathlib.Decide.{ℕ-discrete, decLe, decLt}
 use lib.ListN.{length, getD}
+use Rattle.terms.specs.declared.atom.Atom.{Atom}
 use Rattle.terms.specs.declared.valid.Found.{Found}
 use Rattle.terms.specs.First.{firstNot}
 use Rattle.terms.specs.Decisions.{dec-map, dec-and}
@@ -44,13 +45,7 @@ atomKinded (suc (suc (suc (suc zero)))) = aPrivateKey refl
 atomKinded (suc (suc (suc (suc (suc zero))))) = aSymmetricKey refl
 atomKinded (suc (suc (suc (suc (suc (suc k)))))) = noAtom (inr (omega arith))
 
--- An atom entry: kind, known (0 or 1), partner (two bytes).
-pub record Atom : Type 0 where
-  pub kind : ℕ
-  pub known : ℕ
-  pub partner : ℕ
-
--- The atoms of the entries, four bytes each; two-byte numbers are little-endian.
+-- The atoms of the entries, four bytes each: kind, known (0 or 1), partner (two bytes, little-endian).
 unfoldable pub atomsOf : List ℕ → List Atom
 atomsOf [] = []
 atomsOf (a ∷ []) = []

@@ -6,7 +6,7 @@ use Prim.Native.Nat.{ℕ, _<_}
 use lib.ListN.{length}
 use Rattle.terms.specs.Term.{Term, variable, atom, pair, Foreign, wrapped}
 use Rattle.terms.specs.Instance.{Matches, Share}
-use Rattle.terms.specs.Atom.{Atom}
+use Rattle.terms.specs.declared.atom.Atom.{Atom}
 
 -- Every atom a of the term has A a, and every key k of its encryptions has K k.
 unfoldable pub Built : {X : Type 0} (A K : ℕ → Type 0) → Term X → Type 0

@@ -6,7 +6,8 @@ use Prim.Native.Nat.{ℕ, _<_, _≤_}
 use lib.Dec.{eqb, ltb}
 use lib.ListN.{getD}
 use Rattle.blocks.specs.Kinds.{secretKind, goodKind}
-use Rattle.terms.specs.Atom.{publicKind, Atom, atomKind}
+use Rattle.terms.specs.declared.atom.Atom.{Atom}
+use Rattle.terms.specs.Atom.{publicKind, atomKind}
 use Rattle.terms.specs.Tag.{variables}
 use Rattle.terms.specs.Entry.{tagAt, valueAt}
 use Rattle.terms.specs.Decisions.{pick}

@@ -10,7 +10,8 @@ use Rattle.terms.specs.Term.{Sort, plain, marked}
 use Rattle.terms.specs.Tag.{atomTag, pairTag, encryptionTag, sortTag, variables, Tagged, anAtom, aPair, aWrapping, aVariable, noTag, tagged, wrapping-tag}
 use Rattle.terms.specs.Tag.{sort-tagged}
 use Rattle.terms.specs.Entry.{tagAt, valueAt}
-use Rattle.terms.specs.Atom.{Atom, IsKey, isKey?}
+use Rattle.terms.specs.declared.atom.Atom.{Atom}
+use Rattle.terms.specs.Atom.{IsKey, isKey?}
 use Rattle.terms.specs.Decisions.{dec-map, dec-not, dec-and}
 use Rattle.terms.specs.First.{firstNot}
 use Rattle.terms.specs.Each.{EntryIs}

@@ -1,4 +1,5 @@
 // The term layer: entries of blocks as terms, matching and shared instances.
+pub mod atom;
 mod classes;
 mod ending;
 pub mod entry;

@@ -8,7 +8,7 @@ use crate::tag::VARIABLES;
 use blocks::wide;
 ghost use mathlib.Core.Path.{_≡_};
 ghost use Prim.Native.Nat.{_+_, _*_, _≤_, _<_};
-ghost use lib.ListN.{length, getD};
+ghost use lib.ListN.{length};
 ghost use Rattle.blocks.specs.Limits.{mostTermBytes};
 ghost use Rattle.terms.specs.Tag.{pairTag};
 ghost use Rattle.terms.specs.TermGraph as graph;

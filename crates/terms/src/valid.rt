@@ -13,6 +13,12 @@ ghost use Rattle.terms.specs.Each.{Each};
 ghost use Rattle.terms.specs.OneTerm.{HasSymbol, encryption?};
 ghost use Rattle.terms.specs.Reading.{oneTerm?};
 ghost use Rattle.terms.specs.Count.{tagsOf, areTerms};
+use crate::atom::NONCE;
+use crate::atom::PRINCIPAL;
+use crate::atom::PRIVATE;
+use crate::atom::PUBLIC;
+use crate::atom::SYMMETRIC;
+use crate::atom::atom_at;
 use crate::entry::children;
 use crate::entry::value;
 use crate::tag::ENCRYPTION;
@@ -22,35 +28,20 @@ use blocks::kinds::GOOD;
 use blocks::kinds::SECRET;
 use blocks::wide;
 
-// Kinds of atoms.
-const PRINCIPAL: u8 = 1;
-
-const NONCE: u8 = 2;
-
-const PUBLIC: u8 = 3;
-
-const PRIVATE: u8 = 4;
-
-const SYMMETRIC: u8 = 5;
-
 // The first entry that is not right, or none.
 pub enum Found {
     At(usize),
     Nothing,
 }
 
-// The partner of entry n is an entry of the other kind whose partner field is n.
+// The partner of atom n is an atom of the other kind whose partner field is n.
 fn named_back(atoms: &[u8], n: usize, other: u8) -> bool
-    requires { ⌜ n < length (now atoms) / 4 ⌝ }
+    requires { ⌜ 0 < other ⌝ }
     ensures { λ r. ⌜ Says r (NamedBack (atomsOf (now (atoms .entry))) n other) ⌝ }
 {
-    let partner = value(&atoms[4 * n..]);
-    if atoms.len() / 4 <= partner {
-        return false;
-    }
-    let kind = atoms[4 * partner];
-    if kind == other {
-        value(&atoms[4 * partner..]) == n
+    let partner = atom_at(atoms, atom_at(atoms, n).partner);
+    if partner.kind == other {
+        partner.partner == n
     } else {
         false
     }
@@ -58,25 +49,23 @@ fn named_back(atoms: &[u8], n: usize, other: u8) -> bool
 
 // Atom entry n is right.
 fn right_atom(atoms: &[u8], n: usize) -> bool
-    requires { ⌜ n < length (now atoms) / 4 ⌝ }
     ensures { λ r. ⌜ Says r (AtomRight (atomsOf (now (atoms .entry))) n) ⌝ }
 {
-    let partner = value(&atoms[4 * n..]);
-    let known = atoms[4 * n + 1];
-    if 1 < known {
+    let atom = atom_at(atoms, n);
+    if 1 < atom.known {
         return false;
     }
-    let kind = atoms[4 * n];
+    let kind = atom.kind;
     if kind == PRINCIPAL {
-        partner == 0
+        atom.partner == 0
     } else if kind == NONCE {
-        partner == 0
+        atom.partner == 0
     } else if kind == PUBLIC {
         named_back(atoms, n, PRIVATE)
     } else if kind == PRIVATE {
         named_back(atoms, n, PUBLIC)
     } else if kind == SYMMETRIC {
-        partner == n
+        atom.partner == n
     } else {
         false
     }
@@ -102,10 +91,7 @@ pub fn wrong_atom(atoms: &[u8]) -> Found
 fn listed_kind(atoms: &[u8], n: usize) -> u8
     ensures { λ r. ⌜ r ≡ listedKind (atomsOf (now (atoms .entry))) n ⌝ }
 {
-    if atoms.len() / 4 <= n {
-        return 0;
-    }
-    let kind = atoms[4 * n];
+    let kind = atom_at(atoms, n).kind;
     if kind <= SYMMETRIC { kind } else { 0 }
 }
 

@@ -14,7 +14,8 @@ use Rattle.blocks.specs.Block.{blockAt, firstEntries}
 use Rattle.blocks.proofs.KindLaws.{secret-lists, good-lists, bad-lists}
 use Rattle.blocks.proofs.Parts.{first-length}
 use Rattle.terms.specs.Term.{Term, variable, atom, pair, Variable, instance, replace, wrapped}
-use Rattle.terms.specs.Atom.{Atom, IsKey, isKey?}
+use Rattle.terms.specs.declared.atom.Atom.{Atom}
+use Rattle.terms.specs.Atom.{IsKey, isKey?}
 use Rattle.terms.proofs.AtomLaws.{key-listed, length-atoms}
 use Rattle.terms.specs.Place.{Place, subtermAt}
 use Rattle.terms.specs.Turns.{by-turns}

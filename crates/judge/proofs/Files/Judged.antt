@@ -19,7 +19,8 @@ use Rattle.blocks.proofs.Layouts.{layout-right, right-layout, layout-fits}
 use Rattle.blocks.proofs.Parts.{first-length, second-length, entries-used}
 use Rattle.terms.specs.Term.{encryption}
 use Rattle.terms.specs.Entry.{termOf}
-use Rattle.terms.specs.Atom.{Atom, atomsOf, atomRight?, wrongAtom}
+use Rattle.terms.specs.declared.atom.Atom.{Atom}
+use Rattle.terms.specs.Atom.{atomsOf, atomRight?, wrongAtom}
 use Rattle.terms.proofs.AtomLaws.{length-atoms}
 use Rattle.terms.specs.TermEntry.{rightAt?, wrongEntry}
 use Rattle.terms.specs.OneTerm.{OneTerm, IsEncryption, encryption?}

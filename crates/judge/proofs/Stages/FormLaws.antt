@@ -21,7 +21,8 @@ use Rattle.terms.specs.Term.{encryption}
 use Rattle.terms.specs.declared.valid.Found.{Found}
 use Rattle.terms.specs.declared.valid.Found.the-variants.{At, Nothing}
 use Rattle.terms.specs.Entry.{Begins, termOf}
-use Rattle.terms.specs.Atom.{Atom, atomsOf, atomRight?, wrongAtom}
+use Rattle.terms.specs.declared.atom.Atom.{Atom}
+use Rattle.terms.specs.Atom.{atomsOf, atomRight?, wrongAtom}
 use Rattle.terms.proofs.AtomLaws.{length-atoms}
 use Rattle.terms.specs.TermEntry.{rightAt?, wrongEntry}
 use Rattle.terms.proofs.EachLaws.{each-take, each-drop}

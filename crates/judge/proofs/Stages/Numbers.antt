@@ -4,10 +4,10 @@ use mathlib.Core.Path.{_≡_, refl, sym, ap, subst, _∙_}
 use mathlib.Core.Bool.{Bool, true, false, not}
 use mathlib.Core.Logic.{_⊎_, inl, inr}
 use mathlib.Core.List.{List, [], _∷_}
-use Prim.Native.Nat.{ℕ, _+_, _*_, _/_, _%_, _<_, _≤_}
+use Prim.Native.Nat.{ℕ, _+_, _*_, _/_, _%_}
 use native.Mathlib.Omega.{arith}
 use lib.Dec.{eqb}
-use lib.ListN.{length, getD, drop, List·getD-eq-default}
+use lib.ListN.{drop}
 use borrow.Author.Tests.{eq-eqb, ne-eqb}
 use Rattle.blocks.specs.Block.{blockAt, kindOf, firstEntries}
 use Rattle.terms.specs.Term.{Term, Message, Variable, variable, atom, pair, encrypted, replace, asTerm, wrapped, encryption}
@@ -15,8 +15,9 @@ use Rattle.terms.specs.Tag.{atomTag, pairTag, encryptionTag}
 use Rattle.terms.specs.Entry.{Begins, Reads, termsOf, termOf, symbolOf, withZero, before, beforeAll, tagAt, valueAt, size, from}
 use Rattle.terms.specs.Reading.{First, first-atom, first-pair, first-wrapped, first-variable, first}
 use Rattle.terms.proofs.EntryLaws.{reads-atom, reads-pair, reads-encrypted, termOf-reads, pair-first, encryption-first, right-begins}
-use Rattle.terms.specs.Atom.{Atom, atomsOf, atomAt, knownOf}
-use Rattle.terms.proofs.AtomLaws.{length-atoms, known-byte, partner-bytes}
+use Rattle.terms.specs.declared.atom.Atom.{Atom}
+use Rattle.terms.specs.Atom.{atomsOf, atomAt, knownOf}
+use Rattle.terms.proofs.AtomLaws.{known-listed}
 use Rattle.terms.specs.OneTerm.{IsEncryption}
 use Rattle.terms.specs.Decisions.{Says, says-same}
 use Rattle.terms.proofs.AnswerLaws.{says-eq, says-yes, says-no, answer-yes, answer-no, answer-says}
@@ -24,7 +25,7 @@ use Rattle.terms.specs.Decide.{answer}
 use Rattle.judge.specs.declared.form.Judged.the-variants.{Fine, Faulty}
 use Rattle.judge.specs.declared.listed.Condition.{Condition}
 use Rattle.judge.specs.Certificate.{Certificate, Secret, inverse}
-use Rattle.judge.specs.File.{patternOf, secretOf, certificateOf}
+use Rattle.judge.specs.File.{patternOf, secretOf, fileAtoms, certificateOf}
 use Rattle.judge.specs.Laid.{SecretBlock, GoodBlock}
 use Rattle.judge.specs.Conditions.{KnownAtom, WeaklyClosed, KeptKey}
 use Rattle.judge.specs.Meaning.{SecretNotKnown, SecretClosed, RootKeyKept}
@@ -150,46 +151,33 @@ module _ (c : Certificate) where
       ofEncrypted = λ n k is. absurd (off′ (reads-encrypted (read b (message ∙ ap asTerm is)) .0));
     }
 
--- The atom block, b being its entries.
-module _ (file : List ℕ) {b : List ℕ} (atoms : b ≡ firstEntries (blockAt file 0)) where
-  atoms-are : certificateOf file .atoms ≡ atomsOf b
-  unfolding certificateOf
-  atoms-are = ap atomsOf (sym atoms)
+-- The atoms of a certificate are those of the entries that the code reads.
+pub atoms-are : (file : List ℕ) {b : List ℕ} → b ≡ firstEntries (blockAt file 0) → atomsOf b ≡ certificateOf file .atoms
+unfolding certificateOf fileAtoms
+atoms-are file is = ap atomsOf is
+
+-- The atom of a number.
+module _ (c : Certificate) {atoms : List Atom} (are : atoms ≡ c .atoms) (n : ℕ) {a : Atom} (is : a ≡ atomAt atoms n) where
+  listed : a ≡ atomAt (c .atoms) n
+  listed = is ∙ ap (λ (l : List Atom). atomAt l n) are
 
   -- The partner field.
-  pub inverse-at : {k p : ℕ} → k < length b / 4 → p ≡ valueAt (from (4 * k) b) → p ≡ inverse (certificateOf file) k
-  inverse-at {k} inside is = rw atoms-are (is ∙ sym (partner-bytes b inside))
-
-  pub inverse-none : {k : ℕ} → length b / 4 ≤ k → 0 ≡ inverse (certificateOf file) k
-  unfolding atomAt
-  inverse-none {k} away =
-      let far : length (atomsOf b) ≤ k = omega (arith, length-atoms b) in
-      rw atoms-are (sym (ap (λ (a : Atom). a .partner) (List·getD-eq-default (atomsOf b) _ far)))
+  pub inverse-at : a .partner ≡ inverse c n
+  inverse-at = ap (λ (x : Atom). x .partner) listed
 
   -- 9
-  module _ {e : List ℕ} (begins : Begins e) (m : Message) (message : termOf e ≡ asTerm m) where
-    known-number : KnownAtom (certificateOf file) m → (n : ℕ) × (valueAt e ≡ n) × (n < length b / 4) × (knownOf (atomsOf b) n ≡ 1)
-    unfolding asTerm replace
-    known-number w =
-        let r = reads-atom (read begins (message ∙ ap asTerm (w .same))) in
-        let listed : w .number < length (atomsOf b) = rw atoms-are at (w .known .listed) in
-        (w .number, r .1, omega (arith, length-atoms b), rw atoms-are at (w .known .known))
-
-    pub known-away : {n : ℕ} → n ≡ valueAt e → length b / 4 ≤ n → ¬ KnownAtom (certificateOf file) m
-    known-away is away w = let k = known-number w in let v = k .1 in let l = k .2 in omega arith
-
-    pub known-says : tagAt e ≡ atomTag → {n : ℕ} → n ≡ valueAt e → n < length b / 4
-        → Says (eqb (getD b (4 * n + 1) 0) 1) (KnownAtom (certificateOf file) m)
-    unfolding asTerm replace
-    known-says tag {n} is inside = says-same (eqb (getD b (4 * n + 1) 0) 1)
-        (λ (h : getD b (4 * n + 1) 0 ≡ 1). record {
-          number = n;
-          same = asTerm-only (sym message ∙ atom-first begins tag ∙ ap atom (sym is));
-          known = record { listed = rw atoms-are (omega (arith, length-atoms b)); known = rw atoms-are (known-byte b inside ∙ h) };
-        })
-        (λ w. (let k = known-number w in
-        let same : n ≡ k .0 = is ∙ k .1 in sym (known-byte b inside) ∙ ap (knownOf (atomsOf b)) same ∙ k .3))
-        (says-eq (getD b (4 * n + 1) 0) 1)
+  pub known-says : {e : List ℕ} → Begins e → (m : Message) → termOf e ≡ asTerm m → tagAt e ≡ atomTag → n ≡ valueAt e
+      → Says (eqb (a .known) 1) (KnownAtom c m)
+  unfolding asTerm replace
+  known-says {e} begins m message tag value = says-same (eqb (a .known) 1)
+      (λ (h : a .known ≡ 1). (let one = sym (ap (λ (x : Atom). x .known) listed) ∙ h in record {
+        number = n;
+        same = asTerm-only (sym message ∙ atom-first begins tag ∙ ap atom (sym value));
+        known = record { listed = known-listed (c .atoms) n (omega (arith, one)); known = one };
+      }))
+      (λ w. (let same : n ≡ w .number = value ∙ reads-atom (read begins (message ∙ ap asTerm (w .same))) .1 in
+      ap (λ (x : Atom). x .known) listed ∙ ap (knownOf (c .atoms)) same ∙ w .known .known))
+      (says-eq (a .known) 1)
 
 -- 11
 pub kept-says : (c : Certificate) {e : List ℕ} → Begins e → IsEncryption (termOf e) → {k p : ℕ} → k ≡ valueAt e → p ≡ inverse c k

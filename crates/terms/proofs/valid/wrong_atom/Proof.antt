@@ -6,7 +6,7 @@ use lib.ListN.{length}
 use borrow.Author.Count.{below-none, below-more}
 use Rattle.terms.proofs.AnswerLaws.{says-yes, says-no}
 use Rattle.terms.specs.Atom.{AtomRight, atomsOf}
-use Rattle.terms.proofs.AtomLaws.{atom-wrong, atoms-right}
+use Rattle.terms.proofs.AtomLaws.{length-atoms, atom-wrong, atoms-right}
 use Rattle.terms.proofs.valid.wrong_atom.Statement.{statement}
 use Rattle.terms.proofs.valid.wrong_atom.Tie as tie
 
@@ -25,6 +25,6 @@ wrong-atom-spec = tie.close (tie.spec Inv-loop μ-loop
     (λ c. let loop = c .before .before .before .loop in let right-atom = c .before .right-atom in
     (search needs, below-more _ _ (loop .inv .1) (says-yes (right-atom .result) (right-atom .ensures) (c .if1 .taken))))  -- loop-again
     (λ c. let loop = c .before .before .before .loop in let right-atom = c .before .right-atom in
-    atom-wrong _ _ (search needs) (loop .inv .1) (says-no (right-atom .result) (right-atom .ensures) (c .if1 .left)))  -- returns
-    (λ c. atoms-right _ (λ k l. c .before .loop .inv .1 k (omega arith)))  -- returns-2
+    atom-wrong _ _ (omega (arith, c .before .before .loop-test .taken, length-atoms (c .before .before .before .before .before .args .atoms .now))) (loop .inv .1) (says-no (right-atom .result) (right-atom .ensures) (c .if1 .left)))  -- returns
+    (λ c. atoms-right _ (λ k l. c .before .loop .inv .1 k (omega (arith, length-atoms (c .before .before .before .args .atoms .now)))))  -- returns-2
     )

@@ -1,12 +1,16 @@
 -- `terms::valid::wrong_entry` meets its contract: the entries before entry i are right. Assumes nothing.
 use borrow.Author.Needs.{needs}
 use native.Mathlib.Omega.{arith}
+use mathlib.Core.Path.{_≡_}
+use mathlib.Core.List.{List}
 use Prim.Native.Nat.{ℕ, _≤_, _<_, _/_, _-_}
 use lib.ListN.{length}
 use borrow.Author.Count.{below-none, below-more}
 use Rattle.terms.specs.Atom.{atomsOf}
 use Rattle.terms.specs.TermEntry.{EntryRight}
 use Rattle.terms.specs.Each.{EntryIs}
+use Rattle.terms.specs.EntryTables.{limitsOf}
+use Rattle.terms.proofs.AtomLaws.{length-atoms}
 use Rattle.terms.proofs.EntryTableLaws.{entry-yes, entry-no, entry-wrong, entries-right}
 use Rattle.terms.proofs.valid.wrong_entry.Statement.{statement}
 use Rattle.terms.proofs.valid.wrong_entry.Tie as tie
@@ -16,6 +20,10 @@ Inv-loop atoms kind e count limits least i₀ i = (i ≤ length e / 4) × ((k : 
 
 abbrev μ-loop : tie.MeasureT-loop
 μ-loop atoms kind e count limits least i₀ i = length e / 4 - i
+
+-- The limits are those for so many atoms.
+tables : (atoms : List ℕ) (kind : ℕ) {limits : List ℕ} → limits ≡ limitsOf kind (length atoms / 4) → limits ≡ limitsOf kind (length (atomsOf atoms))
+tables atoms kind is = rw (length-atoms atoms) is
 
 pub wrong-entry-spec : {M : Type 1} → statement M
 wrong-entry-spec = tie.close (tie.spec Inv-loop μ-loop
@@ -28,16 +36,15 @@ wrong-entry-spec = tie.close (tie.spec Inv-loop μ-loop
     (λ c κs. search needs)  -- right-entry-requires
     (λ c. search needs)  -- add-i
     (λ c. search needs)  -- loop-less
-    (λ c. let at = c .before .before .before .before .before .before in let a = at .before .before .before .before .args in
-    let one = c .before .right-entry in (
+    (λ c. let at = c .before .before .before .before .before .before in let a = at .before .before .before .before .args in let one = c .before .right-entry in (
       search needs,
-      below-more _ _ (at .loop .inv .1) (entry-yes (a .atoms .now) (a .kind) (a .e .now) (at .before .limits .ensures) (at .loop .i)
-          (one .result) (one .ensures) (c .if1 .taken)),
+      below-more _ _ (at .loop .inv .1) (entry-yes (atomsOf (a .atoms .now)) (a .kind) (tables (a .atoms .now) (a .kind) (at .before .limits .ensures)) (a .e .now)
+          (at .loop .i) (one .result) (one .ensures) (c .if1 .taken)),
     ))  -- loop-again
-    (λ c. let at = c .before .before .before .before .before .before in let a = at .before .before .before .before .args in
-    let one = c .before .right-entry in
-    entry-wrong (a .atoms .now) (a .kind) (a .e .now) (at .loop .i) (search needs) (at .loop .inv .1)
-    (entry-no (a .atoms .now) (a .kind) (a .e .now) (at .before .limits .ensures) (at .loop .i) (one .result) (one .ensures) (c .if1 .left)))  -- returns
-    (λ c. let args = c .before .before .before .before .before .args in let a = args in
-    entries-right (a .atoms .now) (a .kind) (a .e .now) (λ k l. c .before .loop .inv .1 k (omega arith)))  -- returns-2
+    (λ c. let at = c .before .before .before .before .before .before in let a = at .before .before .before .before .args in let one = c .before .right-entry in
+    entry-wrong (atomsOf (a .atoms .now)) (a .kind) (a .e .now) (at .loop .i) (search needs) (at .loop .inv .1)
+    (entry-no (atomsOf (a .atoms .now)) (a .kind) (tables (a .atoms .now) (a .kind) (at .before .limits .ensures)) (a .e .now) (at .loop .i) (one .result) (one .ensures)
+    (c .if1 .left)))  -- returns
+    (λ c. let a = c .before .before .before .before .before .args in
+    entries-right (atomsOf (a .atoms .now)) (a .kind) (a .e .now) (λ k l. c .before .loop .inv .1 k (omega arith)))  -- returns-2
     )
