@@ -14,7 +14,8 @@ static const char *const what_is_wrong[] = {
     [ZEPAYONG_CHECK] = "the block's check is wrong",
     [ZEPAYONG_KIND] = "the block's kind is out of order or unknown",
     [ZEPAYONG_MISSING] = "there is no secret or no rule",
-    [ZEPAYONG_LAYOUT] = "a count, byte 3 or an unused entry of the block is wrong",
+    [ZEPAYONG_LAYOUT] = "a count, byte 3 or an unused entry of the block is wrong, or it is a second block of "
+                        "atoms behind one that is not full",
     [ZEPAYONG_ATOM_ENTRY] = "the atom entry is wrong",
     [ZEPAYONG_TERM_ENTRY] = "the entry's tag, zero byte or value is wrong, or a variable is not allowed here",
     [ZEPAYONG_NOT_ONE_TERM] = "the entries are not exactly one term, or a pattern's root is no encryption",

@@ -18,7 +18,7 @@ extern "C" {
 
 /* Which documents header and archive follow: 1 is document 01, and each change
  * request that lands raises the number by 1. Load nothing if the two differ. */
-#define ZEPAYONG_VERSION 1
+#define ZEPAYONG_VERSION 2
 uint32_t zepayong_version(void);
 
 /* Judges a certificate of any length. Answers 0 if it is accepted, and else
@@ -30,7 +30,7 @@ uint32_t zepayong_check(const uint8_t *file, size_t length);
 #define ZEPAYONG_LONGEST 32768
 
 /* Bytes of stack that a call takes at most, for any input, its return address included. */
-#define ZEPAYONG_STACK 32192
+#define ZEPAYONG_STACK 32592
 
 /* The numbers. Blocks and entries count from 0. Where a number names no place, the place is 0. */
 enum zepayong_verdict {
@@ -43,9 +43,10 @@ enum zepayong_verdict {
     ZEPAYONG_KIND = 3,
     /* No secret or no rule; the block is the number of blocks. */
     ZEPAYONG_MISSING = 4,
-    /* A count, byte 3 or an unused entry of this block is wrong. */
+    /* A count, byte 3 or an unused entry of this block is wrong, or it is a
+     * second block of atoms behind one that is not full. */
     ZEPAYONG_LAYOUT = 5,
-    /* The atom entry at this place is wrong. */
+    /* The atom entry at this place of this block, 0 or 1, is wrong. */
     ZEPAYONG_ATOM_ENTRY = 6,
     /* The term entry at this place has a wrong tag, zero byte or value, or is a variable that is not allowed here. */
     ZEPAYONG_TERM_ENTRY = 7,

@@ -9,7 +9,7 @@ use lib.Dec.{ltb}
 use borrow.Author.Tests.{lt-ltb, le-ltb, le-leb, lt-leb}
 use lib.ListN.{length, take, drop, length-drop}
 use lib.Seq.{take-nil, take-take, drop-drop, take-add, length-take-le}
-use Rattle.blocks.specs.Limits.{blockSize}
+use Rattle.blocks.specs.Limits.{blockSize, mostEntries}
 use Rattle.blocks.specs.Block.{HasBlock, hasBlock, blockAt, entriesOf, firstEntries, secondEntries, firstCount, secondCount, Fitting}
 
 -- What is left of the first m elements after n are dropped.
@@ -48,6 +48,13 @@ has-block file i = go (decLe (blockSize * i + blockSize) (length file))
         let more : length file < blockSize * i + blockSize = omega arith in
         le-ltb _ _ above ∙ sym (lt-leb _ _ more)
 
+-- The first entries of a block of 512 bytes.
+pub first-long : (b : List ℕ) → length b ≡ blockSize → firstCount b ≤ mostEntries → length (firstEntries b) ≡ 4 * firstCount b
+unfolding firstEntries entriesOf
+first-long b size room =
+    let all : length (take 504 (drop 4 b)) ≡ 504 = length-take-le 504 (drop 4 b) (simp length-drop (omega arith)) in
+    length-take-le (4 * firstCount b) (take 504 (drop 4 b)) (omega arith)
+
 module _ (b : List ℕ) (fits : Fitting b) where
   pub first-entries : firstEntries b ≡ take (4 * firstCount b) (drop 4 b)
   unfolding firstEntries entriesOf
@@ -74,7 +81,7 @@ module _ (b : List ℕ) (fits : Fitting b) where
       rw (count, e, f, second-entries)
 
   pub first-length : length (firstEntries b) ≡ 4 * firstCount b
-  first-length = rw first-entries (length-take-le (4 * firstCount b) (drop 4 b) (simp length-drop (omega arith)))
+  first-length = let room = fits .room in first-long b (fits .size) (omega arith)
 
   pub second-length : length (secondEntries b) ≡ 4 * secondCount b
   second-length =

@@ -1,5 +1,4 @@
--- The kinds of blocks (document 01, "Blocks of 512 bytes"): "1 atoms (first block, only one), 2 secret, 3 good, 4 bad, 5
--- rule".
+-- The kinds of blocks (document 01, "Blocks of 512 bytes"): 1 atoms, 2 secret, 3 good, 4 bad, 5 rule.
 use Prim.Native.Nat.{ℕ, _≤_}
 
 abbrev pub atomsKind : ℕ

@@ -16,6 +16,14 @@ mostBytes = 32768
 abbrev pub mostEntries : ℕ
 mostEntries = 126
 
+-- "A certificate may begin with two atom blocks" (02, No. 1).
+abbrev pub mostAtomBlocks : ℕ
+mostAtomBlocks = 2
+
+-- "Keys and atoms in terms now reach 251" (02, No. 1): at most so many atoms.
+abbrev pub mostAtoms : ℕ
+mostAtoms = 252
+
 -- A term has at most 63 entries: so many bytes.
 abbrev pub mostTermEntries : ℕ
 mostTermEntries = 63

@@ -1,17 +1,18 @@
 -- A file as a certificate (document 01, "Blocks of 512 bytes"): what its blocks say once their layout is right.
+use mathlib.Core.Path.{_≡_}
 use mathlib.Core.Bool.{Bool, true, false}
 use mathlib.Core.List.{List, [], _∷_, map}
 use mathlib.Core.Option.{Option, none, some}
 use Prim.Native.Nat.{ℕ, zero, suc, _+_, _*_, _/_}
 use lib.Dec.{eqb}
 use lib.ListN.{length, take}
-use Rattle.blocks.specs.Kinds.{secretKind, goodKind, badKind, ruleKind}
+use Rattle.blocks.specs.Kinds.{atomsKind, secretKind, goodKind, badKind, ruleKind}
 use Rattle.blocks.specs.Limits.{blockSize}
 use Rattle.blocks.specs.Block.{blockAt, kindOf, firstCount, secondCount, entriesOf, firstEntries, secondEntries}
 use Rattle.terms.specs.Term.{Term, Message, Variable, atom, instance}
 use Rattle.terms.specs.Entry.{termOf}
 use Rattle.terms.specs.declared.atom.Atom.{Atom}
-use Rattle.terms.specs.Atom.{atomsOf}
+use Rattle.terms.specs.Atom.{joinedAtoms}
 use Rattle.judge.specs.declared.verdict.Counts.{Counts}
 use Rattle.judge.specs.Certificate.{Certificate, Rule}
 
@@ -47,9 +48,18 @@ countsOf file = record {
   rules = kindCount ruleKind file;
 }
 
--- The atoms of a file: "1 atoms (first block, only one)".
+-- "A certificate may begin with two atom blocks": "byte 0 of the second block says whether it is one" (02, No. 1).
+abbrev pub TwoAtomBlocks : List ℕ → Type 0
+TwoAtomBlocks file = kindOf (blockAt file 1) ≡ atomsKind
+
+-- The entries of the second atom block; none if there is none.
+unfoldable pub moreEntries : List ℕ → List ℕ
+moreEntries file = elim (eqb (kindOf (blockAt file 1)) atomsKind) [ true ↦ firstEntries (blockAt file 1) | false ↦ [] ]
+
+-- The atoms of a file, "the joined list" (02, No. 1): those of block 0, and the second block's numbered on from them.
 unfoldable pub fileAtoms : List ℕ → List Atom
-fileAtoms file = atomsOf (firstEntries (blockAt file 0))
+unfolding moreEntries
+fileAtoms file = joinedAtoms (firstEntries (blockAt file 0)) (moreEntries file)
 
 -- The entries in use; in a rule, the premise's and then the conclusion's.
 unfoldable pub usedEntries : List ℕ → List ℕ
@@ -73,7 +83,8 @@ premiseBy false t = some t
 unfoldable pub ruleOf : List ℕ → Rule
 ruleOf b = record { premise = premiseBy (eqb (firstCount b) 0) (termOf (firstEntries b)); conclusion = termOf (secondEntries b) }
 
--- The certificate: atoms in block 0, secrets of kind 2, good patterns of kind 3, bad ones of kind 4, rules of kind 5.
+-- The certificate: atoms in the first block or two, secrets of kind 2, good patterns of kind 3, bad ones of kind 4, rules
+-- of kind 5.
 unfoldable pub certificateOf : List ℕ → Certificate
 unfolding blocksOf ofKind patternOf secretOf ruleOf fileAtoms
 certificateOf file = record {

@@ -2,9 +2,11 @@
 use mathlib.Core.Path.{_≡_}
 use mathlib.Core.List.{List}
 use mathlib.Core.Option.{Option, none, some}
-use Prim.Native.Nat.{ℕ, _<_, _≤_}
+use Prim.Native.Nat.{ℕ, _%_, _<_, _≤_}
+use lib.ListN.{length}
 use Rattle.blocks.specs.Kinds.{ruleKind}
-use Rattle.blocks.specs.Block.{blockAt, kindOf, firstEntries, secondEntries, Fitting}
+use Rattle.blocks.specs.Limits.{blockSize, mostBlocks}
+use Rattle.blocks.specs.Block.{HasBlock, blockAt, kindOf, firstEntries, secondEntries, Fitting}
 use Rattle.terms.specs.Each.{Each}
 use Rattle.terms.specs.OneTerm.{HasSymbol}
 use Rattle.judge.specs.declared.verdict.Fault.{Fault}
@@ -13,12 +15,21 @@ use Rattle.judge.specs.declared.form.Judged.the-variants.{Fine, Faulty}
 use Rattle.judge.specs.Certificate.{Rule}
 use Rattle.judge.specs.File.{blockCount, certificateOf}
 use Rattle.judge.specs.Laid.{Laid}
+use Rattle.judge.specs.Meaning.{KindRight}
 use Rattle.judge.specs.Verdict.{uncovered}
 
 -- The code's answer for a fault, or for none.
 unfoldable pub judgedOf : Option Fault → Judged
 judgedOf none = Fine
 judgedOf (some f) = Faulty f
+
+-- Block i has a right kind, and it and those before it have room for their entries. Numbers 1, 3 and 5 give it.
+pub record Reached (file : List ℕ) (i : ℕ) : Type 0 where
+  pub whole : length file % blockSize ≡ 0
+  pub inside : HasBlock file i
+  pub few : i < mostBlocks
+  pub kind : KindRight file i
+  pub fits : (j : ℕ) → j ≤ i → Fitting (blockAt file j)
 
 -- A block of 512 bytes with room for its entries, each of which has a symbol. Numbers 5 and 7 give it.
 pub record Spelled (b : List ℕ) : Type 0 where

@@ -89,15 +89,15 @@ pub record SizeOf (e : List ℕ) (n : ℕ) : Type 0 where
   pub is : n ≡ size (termOf e)
   pub fits : 4 * n ≤ length e
 
--- Slots of roots: for atoms, pairs and encryptions 128 each, for variables 16.
+-- Slots of roots: for atoms, pairs and encryptions 256 each, so that no two atoms share one, for variables 16.
 abbrev pub pairRoots : ℕ
-pairRoots = 128
+pairRoots = 256
 
 abbrev pub encryptionRoots : ℕ
-encryptionRoots = 256
+encryptionRoots = 512
 
 abbrev pub variableRoots : ℕ
-variableRoots = 384
+variableRoots = 768
 
 abbrev pub rootSlots : ℕ
 rootSlots = variableRoots + slotCount

@@ -2,10 +2,10 @@
 -- proofs/Files/Verdicts.antt.
 use mathlib.Core.Path.{_≡_}
 use mathlib.Core.List.{List}
-use Prim.Native.Nat.{ℕ, suc, _+_, _%_, _<_, _≤_}
+use Prim.Native.Nat.{ℕ, suc, _+_, _*_, _%_, _<_, _≤_}
 use lib.ListN.{length}
 use Rattle.blocks.specs.Kinds.{atomsKind, secretKind, goodKind, badKind, ruleKind, ListsTerm, HoldsTerms}
-use Rattle.blocks.specs.Limits.{blockSize, mostBytes}
+use Rattle.blocks.specs.Limits.{blockSize, mostBytes, mostEntries, mostAtomBlocks}
 use Rattle.blocks.specs.Block.{blockAt, kindOf, firstCount, secondCount, firstEntries, secondEntries}
 use Rattle.blocks.specs.Check.{CheckRight}
 use Rattle.blocks.specs.Layout.{LayoutRight}
@@ -13,7 +13,7 @@ use Rattle.terms.specs.Term.{Term, Variable}
 use Rattle.terms.specs.Place.{Place}
 use Rattle.terms.specs.Entry.{Placed, termOf}
 use Rattle.terms.specs.declared.atom.Atom.{Atom}
-use Rattle.terms.specs.Atom.{atomsOf, AtomRight}
+use Rattle.terms.specs.Atom.{AtomRight}
 use Rattle.terms.specs.TermEntry.{EntryRight}
 use Rattle.terms.specs.Each.{EntryIs}
 use Rattle.terms.specs.OneTerm.{OneTerm, IsEncryption}
@@ -21,7 +21,7 @@ use Rattle.judge.specs.declared.verdict.Fault.{Fault}
 use Rattle.judge.specs.declared.verdict.Fault.the-variants.{Length, Check, Kind, Missing, Layout, AtomEntry, TermEntry}
 use Rattle.judge.specs.declared.verdict.Fault.the-variants.{NotOneTerm, KnownSecret, NotClosed, KeyNotKept, Uncovered}
 use Rattle.judge.specs.Certificate.{Certificate, Rule}
-use Rattle.judge.specs.File.{blockCount, patternOf, secretOf, ruleOf, certificateOf, fileAtoms, usedEntries}
+use Rattle.judge.specs.File.{blockCount, patternOf, secretOf, ruleOf, certificateOf, TwoAtomBlocks, fileAtoms, usedEntries}
 use Rattle.judge.specs.Cover.{Risky, Covered, Dead, Passes, FineAt}
 use Rattle.judge.specs.Conditions.{KnownAtom, WeaklyClosed, KeptKey}
 
@@ -31,21 +31,40 @@ pub record LengthRight (file : List ℕ) : Type 0 where
   pub whole : length file % blockSize ≡ 0
   pub most : length file ≤ mostBytes
 
--- 3: the first block has kind 1; a later one has a kind from 2 to 5, not below that of the block before it.
+-- 3: the first block has kind 1, and the second may (02, No. 1); else a block after the first has a kind from 2 to 5, not
+-- below that of the block before it.
 pub data KindRight (file : List ℕ) (i : ℕ) : Type 0 where
-  first : i ≡ 0 → kindOf (blockAt file i) ≡ atomsKind → KindRight file i
+  atomBlock : i < mostAtomBlocks → kindOf (blockAt file i) ≡ atomsKind → KindRight file i
   later : {j : ℕ} → i ≡ suc j → secretKind ≤ kindOf (blockAt file i) → kindOf (blockAt file i) ≤ ruleKind
       → kindOf (blockAt file j) ≤ kindOf (blockAt file i) → KindRight file i
+
+-- 5: the layout is right, and before a second atom block there is "a full first block" (02, No. 1).
+pub record LaidOut (file : List ℕ) (i : ℕ) : Type 0 where
+  pub layout : LayoutRight (blockAt file i)
+  pub full : i ≡ 1 → TwoAtomBlocks file → firstCount (blockAt file 0) ≡ mostEntries
 
 -- Numbers 2, 3 and 5 find nothing at block i.
 pub record Shaped (file : List ℕ) (i : ℕ) : Type 0 where
   pub check : CheckRight (blockAt file i)
   pub kind : KindRight file i
-  pub layout : LayoutRight (blockAt file i)
+  pub laid : LaidOut file i
 
--- 6: atom entry n of a block is right.
-abbrev pub AtomEntryRight : List ℕ → ℕ → Type 0
-AtomEntryRight b n = AtomRight (atomsOf (firstEntries b)) n
+-- "The last atom block" (02, No. 1): block i is an atom block, and not the first of two.
+abbrev pub NotFirstOfTwo : List ℕ → ℕ → Type 0
+NotFirstOfTwo file i = i ≡ 0 → ¬ TwoAtomBlocks file
+
+pub record LastAtoms (file : List ℕ) (i : ℕ) : Type 0 where
+  pub is : kindOf (blockAt file i) ≡ atomsKind
+  pub last : NotFirstOfTwo file i
+
+-- 6: entry n of atom block j is right. "The second's atoms are numbered on from 126; a place still counts within its
+-- block" (02, No. 1).
+abbrev pub AtomEntryRight : List ℕ → ℕ → ℕ → Type 0
+AtomEntryRight file j n = AtomRight (fileAtoms file) (mostEntries * j + n)
+
+-- Those of one block.
+abbrev pub AtomEntriesRight : List ℕ → ℕ → Type 0
+AtomEntriesRight file j = (n : ℕ) → n < firstCount (blockAt file j) → AtomEntryRight file j n
 
 -- 7: entry n of a block is right. Premise and conclusion are counted together.
 abbrev pub TermEntryRight : List Atom → List ℕ → ℕ → Type 0
@@ -66,7 +85,7 @@ PremiseRight b = (firstCount b ≡ 0 → ⊥) → OneTerm (firstEntries b)
 -- Numbers 2, 3, 5, 6, 7 and 8 find nothing at block i.
 pub record BlockRight (file : List ℕ) (i : ℕ) : Type 0 where
   pub shaped : Shaped file i
-  pub atoms : kindOf (blockAt file i) ≡ atomsKind → (n : ℕ) → n < firstCount (blockAt file i) → AtomEntryRight (blockAt file i) n
+  pub atoms : LastAtoms file i → (j : ℕ) → j ≤ i → AtomEntriesRight file j
   pub entries : HoldsTerms (kindOf (blockAt file i)) → EntriesRight (fileAtoms file) (blockAt file i)
   pub pattern : ListsTerm (kindOf (blockAt file i)) → PatternRight (blockAt file i)
   pub premise : kindOf (blockAt file i) ≡ ruleKind → PremiseRight (blockAt file i)
@@ -79,12 +98,11 @@ pub data BlockFaulty (file : List ℕ) (i : ℕ) (fault : Fault) : Type 0 where
   -- 3
   kindFails : fault ≡ Kind i → CheckRight (blockAt file i) → ¬ KindRight file i → BlockFaulty file i fault
   -- 5
-  layoutFails : fault ≡ Layout i → CheckRight (blockAt file i) → KindRight file i → ¬ LayoutRight (blockAt file i)
-      → BlockFaulty file i fault
-  -- 6
-  atomFails : {n : ℕ} → fault ≡ AtomEntry i n → Shaped file i → kindOf (blockAt file i) ≡ atomsKind
-      → n < firstCount (blockAt file i) → ¬ AtomEntryRight (blockAt file i) n
-      → ((k : ℕ) → k < n → AtomEntryRight (blockAt file i) k) → BlockFaulty file i fault
+  layoutFails : fault ≡ Layout i → CheckRight (blockAt file i) → KindRight file i → ¬ LaidOut file i → BlockFaulty file i fault
+  -- 6: "judged for both once the last atom block has passed 2, 3 and 5" (02, No. 1), so that block j may be an earlier one.
+  atomFails : {j n : ℕ} → fault ≡ AtomEntry j n → Shaped file i → LastAtoms file i → j ≤ i
+      → n < firstCount (blockAt file j) → ¬ AtomEntryRight file j n
+      → ((k : ℕ) → k < n → AtomEntryRight file j k) → ((h : ℕ) → h < j → AtomEntriesRight file h) → BlockFaulty file i fault
   -- 7
   entryFails : {n : ℕ} → fault ≡ TermEntry i n → Shaped file i → HoldsTerms (kindOf (blockAt file i))
       → n < firstCount (blockAt file i) + secondCount (blockAt file i) → ¬ TermEntryRight (fileAtoms file) (blockAt file i) n

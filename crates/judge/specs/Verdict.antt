@@ -1,14 +1,14 @@
 -- The verdict of a file (document 01, "Verdicts"), in the order "1; per block in file order 2, 3, 5, 6 or 7, 8 (entries
--- rising, premise before conclusion); then 4; then 9, 10, 11, 12, each over all blocks in file order". `none` is: no
--- fault here.
+-- rising, premise before conclusion); then 4; then 9, 10, 11, 12, each over all blocks in file order". Of two atom blocks,
+-- "number 6 is judged for both once the last atom block has passed 2, 3 and 5" (02, No. 1). `none` is: no fault here.
 use mathlib.Core.Bool.{Bool, true, false, _&&_}
 use mathlib.Core.List.{List, []}
 use mathlib.Core.Option.{Option, none, some}
-use Prim.Native.Nat.{ℕ, zero, suc, _+_, _%_}
-use lib.Dec.{eqb, leb}
+use Prim.Native.Nat.{ℕ, zero, suc, _+_, _/_, _%_}
+use lib.Dec.{eqb, leb, ltb}
 use lib.ListN.{length, getD}
 use Rattle.blocks.specs.Kinds.{atomsKind, secretKind, goodKind, badKind, ruleKind}
-use Rattle.blocks.specs.Limits.{blockSize, mostBytes}
+use Rattle.blocks.specs.Limits.{blockSize, mostBytes, mostEntries, mostAtomBlocks}
 use Rattle.blocks.specs.Block.{blockAt, kindOf, firstCount, entriesOf, firstEntries, secondEntries}
 use Rattle.blocks.specs.Check.{checkRight, checkA, checkB, total, weighted}
 use Rattle.blocks.specs.Layout.{within, layoutRight, countsRight, zeroFrom, allZero}
@@ -22,7 +22,7 @@ use Rattle.terms.specs.OneTerm.{encryption?}
 use Rattle.terms.specs.Reading.{oneTerm?}
 use Rattle.terms.specs.First.{firstNot}
 use Rattle.terms.specs.Decisions.{dec-implies, dec-not}
-use Rattle.terms.specs.Term.{Term, Variable, encryption}
+use Rattle.terms.specs.Term.{Term, Variable}
 use Rattle.terms.specs.Place.{Spot, spots}
 use Rattle.terms.specs.Decide.{answer}
 use Rattle.judge.specs.declared.verdict.Fault.{Fault}
@@ -34,7 +34,7 @@ use Rattle.judge.specs.declared.verdict.Verdict.{Verdict}
 use Rattle.judge.specs.declared.verdict.Verdict.the-variants.{Accepted, Refused}
 use Rattle.judge.specs.Certificate.{Certificate, Rule}
 use Rattle.judge.specs.File.{blockCount, blocksFrom, blocksOf, ofKind, patternOf, secretOf, ruleOf, certificateOf}
-use Rattle.judge.specs.File.{fileAtoms, usedEntries, kindCount, countsOf}
+use Rattle.judge.specs.File.{fileAtoms, moreEntries, usedEntries, kindCount, countsOf}
 use Rattle.judge.specs.Cover.{Risky, Covered}
 use Rattle.judge.specs.Meaning.{SecretNotKnown, SecretClosed, RootKeyKept}
 use Rattle.judge.specs.Decisions.{known-atom?, weakly-closed?, kept-key?, risky?, covered?, dead?}
@@ -48,17 +48,41 @@ lengthRight file = leb 1 (length file) && (eqb (length file % blockSize) 0 && le
 unfoldable pub lengthFault : List ℕ → Option Fault
 lengthFault file = elim (lengthRight file) [ true ↦ none | false ↦ some Length ]
 
--- ---- numbers 2, 3, 5, 6, 7, 8: block i by itself
+-- ---- numbers 2, 3, 5, 6, 7, 8: at block i
 
--- 3: the first block has kind 1; a later one has a kind from 2 to 5, not below that of the block before it.
-unfoldable pub kindRight : List ℕ → ℕ → Bool
-kindRight file zero = eqb (kindOf (blockAt file 0)) atomsKind
-kindRight file (suc i) =
+-- 3: the first block has kind 1, and the second may (02, No. 1); else a block after the first has a kind from 2 to 5, not
+-- below that of the block before it.
+unfoldable pub laterKind : List ℕ → ℕ → Bool
+laterKind file zero = false
+laterKind file (suc i) =
     within secretKind ruleKind (kindOf (blockAt file (suc i))) && leb (kindOf (blockAt file i)) (kindOf (blockAt file (suc i)))
 
--- 6: "atom entry wrong".
-unfoldable pub atomFault : ℕ → List ℕ → Option Fault
-atomFault i b = elim (wrongAtom (atomsOf (firstEntries b))) [ At n ↦ some (AtomEntry i n) | Nothing ↦ none ]
+unfoldable pub kindRight : List ℕ → ℕ → Bool
+unfolding laterKind
+kindRight file i = elim (eqb (kindOf (blockAt file i)) atomsKind) [ true ↦ ltb i mostAtomBlocks | false ↦ laterKind file i ]
+
+-- A second atom block stands behind a full first one (02, No. 1).
+unfoldable pub behindFull : List ℕ → ℕ → Bool
+behindFull file i = elim (eqb i 1 && eqb (kindOf (blockAt file 1)) atomsKind) [
+  | true ↦ eqb (firstCount (blockAt file 0)) mostEntries
+  | false ↦ true
+]
+
+-- 5: "a count, byte 3 or an unused entry wrong", or a first atom block that is not full before a second.
+unfoldable pub laidOut : List ℕ → ℕ → Bool
+unfolding behindFull
+laidOut file i = layoutRight (blockAt file i) && behindFull file i
+
+-- 6: "atom entry wrong", in block 0 and then in a second atom block; "a place still counts within its block" (02, No. 1).
+abbrev pub atomEntry : ℕ → Fault
+atomEntry n = AtomEntry (n / mostEntries) (n % mostEntries)
+
+unfoldable pub atomFault : List ℕ → Option Fault
+atomFault file = elim (wrongAtom (fileAtoms file)) [ At n ↦ some (atomEntry n) | Nothing ↦ none ]
+
+-- "Once the last atom block has passed 2, 3 and 5": not at block 0 if a second follows.
+unfoldable pub atomsFault : List ℕ → ℕ → Option Fault
+atomsFault file i = elim (eqb i 0 && eqb (kindOf (blockAt file 1)) atomsKind) [ true ↦ none | false ↦ atomFault file ]
 
 -- 7: "tag, zero byte or value wrong, or variable not allowed here", over all entries of the block.
 unfoldable pub entryFault : List Atom → ℕ → List ℕ → Option Fault
@@ -91,21 +115,21 @@ unfoldable pub termFault : ℕ → List ℕ → Option Fault
 termFault i b = elim (eqb (kindOf b) ruleKind) [ true ↦ rulePartsFault i b | false ↦ patternFault i b ]
 
 -- 6 for the atoms, else 7 and then 8.
-unfoldable pub entriesFault : List Atom → ℕ → List ℕ → Option Fault
-entriesFault atoms i b = elim (eqb (kindOf b) atomsKind) [
-  | true ↦ atomFault i b
-  | false ↦ elim (entryFault atoms i b) [ some f ↦ some f | none ↦ termFault i b ]
+unfoldable pub entriesFault : List ℕ → ℕ → Option Fault
+entriesFault file i = elim (eqb (kindOf (blockAt file i)) atomsKind) [
+  | true ↦ atomsFault file i
+  | false ↦ elim (entryFault (fileAtoms file) i (blockAt file i)) [ some f ↦ some f | none ↦ termFault i (blockAt file i) ]
 ]
 
--- 2: "check wrong"; 3: "kind out of order or unknown"; 5: "a count, byte 3 or an unused entry wrong"; then 6 to 8.
+-- 2: "check wrong"; 3: "kind out of order or unknown"; 5; then 6 to 8.
 unfoldable pub blockFault : List ℕ → ℕ → Option Fault
 blockFault file i = elim (checkRight (blockAt file i)) [
   | false ↦ some (Check i)
   | true ↦ elim (kindRight file i) [
     | false ↦ some (Kind i)
-    | true ↦ elim (layoutRight (blockAt file i)) [
+    | true ↦ elim (laidOut file i) [
       | false ↦ some (Layout i)
-      | true ↦ entriesFault (fileAtoms file) i (blockAt file i)
+      | true ↦ entriesFault file i
     ]
   ]
 ]
@@ -233,8 +257,8 @@ verdictOf file = elim (faultOf file) [ some f ↦ Refused f | none ↦ Accepted 
 unfoldable pub computing : List ℕ → Verdict
 unfolding verdictOf faultOf countsOf lengthFault lengthRight formFault formFrom missingFault certificateFault
     conditionFault conditionAt meets? dec-not ruleFault kindFault onKind firstFault uncoveredRule
-    uncovered fine? spotAt blockFault kindRight fileAtoms usedEntries entriesFault atomFault entryFault termFault
-    patternFault rulePartsFault conclusionFault rootRight kindCount
+    uncovered fine? spotAt blockFault kindRight laterKind laidOut behindFull fileAtoms moreEntries usedEntries entriesFault
+    atomsFault atomFault entryFault termFault patternFault rulePartsFault conclusionFault rootRight kindCount
     blocksOf blocksFrom ofKind patternOf secretOf ruleOf certificateOf
     blockAt entriesOf firstEntries secondEntries checkRight checkA checkB total weighted layoutRight countsRight zeroFrom
     allZero atomsOf wrongAtom wrongEntry oneTerm? encryption? termOf size firstNot spots dec-implies

@@ -1,15 +1,20 @@
 // The first stage of judging a file: its length (1), block by block 2, 3, 5, 6 or 7, 8, then 4, and the counts.
 ghost use mathlib.Core.Path.{_≡_};
 ghost use mathlib.Core.Bool.{true};
-ghost use Prim.Native.Nat.{_+_, _*_, _<_, _≤_};
+ghost use Prim.Native.Nat.{ℕ, _+_, _*_, _%_, _<_, _≤_};
+ghost use lib.ListN.{length};
 ghost use Rattle.blocks.specs.Block.{HasBlock, blockAt, Fitting};
 ghost use Rattle.terms.specs.Entry.{Begins};
-ghost use Rattle.terms.specs.Atom.{atomsOf};
-ghost use Rattle.blocks.specs.Limits.{mostBlocks};
+ghost use Rattle.terms.specs.Atom.{joinedAtoms};
+ghost use Rattle.terms.specs.Decisions.{Says};
+ghost use Rattle.blocks.specs.Limits.{blockSize, mostBlocks};
 ghost use Rattle.judge.specs.File.{blockCount, kindCount, countsOf};
-ghost use Rattle.judge.specs.Judgement.{judgedOf, Spelled};
-ghost use Rattle.judge.specs.Verdict.{lengthRight, kindRight, atomFault, entryFault, rootRight, patternFault, conclusionFault};
+ghost use Rattle.judge.specs.Meaning.{NotFirstOfTwo};
+ghost use Rattle.judge.specs.Laid.{AtomsFit};
+ghost use Rattle.judge.specs.Judgement.{judgedOf, Reached, Spelled};
+ghost use Rattle.judge.specs.Verdict.{lengthRight, kindRight, laidOut, atomFault, atomsFault, entryFault, rootRight, patternFault, conclusionFault};
 ghost use Rattle.judge.specs.Verdict.{rulePartsFault, termFault, entriesFault, blockFault, formFault, missingFault};
+use crate::atoms;
 use crate::verdict::Counts;
 use crate::verdict::Fault;
 use blocks::kinds;
@@ -37,14 +42,18 @@ pub fn length_right(file: &[u8]) -> bool
     n <= limits::MOST_BYTES
 }
 
-// Number 3: the first block has kind 1; a later one has a kind from 2 to 5, not below that of the block before it.
+// Number 3: the first block has kind 1, and the second may; else a block after the first has a kind from 2 to 5, not below
+// that of the block before it.
 fn kind_right(file: &[u8], i: usize) -> bool
     requires { ⌜ HasBlock (now file) i ⌝ }
     ensures { λ r. ⌜ r ≡ kindRight (now (file .entry)) i ⌝ }
 {
     let kind = blocks::kind(blocks::block(file, i));
+    if kind == kinds::ATOMS {
+        return i < limits::MOST_ATOM_BLOCKS;
+    }
     if i == 0 {
-        return kind == kinds::ATOMS;
+        return false;
     }
     let before = blocks::kind(blocks::block(file, i - 1));
     if kind < kinds::SECRET {
@@ -56,24 +65,68 @@ fn kind_right(file: &[u8], i: usize) -> bool
     before <= kind
 }
 
-// Number 6: the first atom entry that is wrong.
-fn atom_fault(i: u8, block: &[u8]) -> Judged
-    requires { ⌜ Fitting (now block) ⌝ }
-    ensures { λ r. ⌜ r ≡ judgedOf (atomFault i (now (block .entry))) ⌝ }
+// Number 5: the layout of block i, and before a second atom block a full first one.
+fn laid_out(file: &[u8], i: usize) -> bool
+    requires { ⌜ HasBlock (now file) i ⌝ }
+    ensures { λ r. ⌜ r ≡ laidOut (now (file .entry)) i ⌝ }
 {
-    match valid::wrong_atom(blocks::first_entries(block)) {
-        Found::At(n) => Judged::Faulty(Fault::AtomEntry(i, n as u8)),
+    let block = blocks::block(file, i);
+    if !blocks::layout_right(block) {
+        return false;
+    }
+    if i != 1 {
+        return true;
+    }
+    if blocks::kind(block) != kinds::ATOMS {
+        return true;
+    }
+    blocks::first_count(blocks::block(file, 0)) == limits::MOST_ENTRIES
+}
+
+// Number 6: the first atom entry that is wrong, by its block and its place there.
+fn atom_fault(file: &[u8]) -> Judged
+    requires { ⌜ AtomsFit (now file) ⌝ }
+    ensures { λ r. ⌜ r ≡ judgedOf (atomFault (now (file .entry))) ⌝ }
+{
+    match valid::wrong_atom(atoms::first(file), atoms::more(file)) {
+        Found::At(n) => Judged::Faulty(Fault::AtomEntry(
+            (n / limits::MOST_ENTRIES) as u8,
+            (n % limits::MOST_ENTRIES) as u8,
+        )),
         Found::Nothing => Judged::Fine,
     }
 }
 
+// Is atom block i the last one? Block 0 is if block 1 is no atom block.
+fn is_last(file: &[u8], i: usize) -> bool
+    requires { ⌜ length (now file) % blockSize ≡ 0 ⌝ }
+    ensures { λ r. ⌜ Says r (NotFirstOfTwo (now (file .entry)) i) ⌝ }
+{
+    if i != 0 {
+        return true;
+    }
+    !atoms::are_two(file)
+}
+
+// Number 6 at atom block i: for all of them at the last one.
+fn atoms_fault(file: &[u8], i: usize) -> Judged
+    requires { ⌜ (length (now file) % blockSize ≡ 0) × (NotFirstOfTwo (now file) i → AtomsFit (now file)) ⌝ }
+    ensures { λ r. ⌜ r ≡ judgedOf (atomsFault (now (file .entry)) i) ⌝ }
+{
+    if is_last(file, i) {
+        atom_fault(file)
+    } else {
+        Judged::Fine
+    }
+}
+
 // Number 7: the first entry in use that is wrong, premise and conclusion counted together.
-fn entry_fault(atoms: &[u8], i: u8, block: &[u8]) -> Judged
+fn entry_fault(atoms: &[u8], more: &[u8], i: u8, block: &[u8]) -> Judged
     requires { ⌜ Fitting (now block) ⌝ }
-    ensures { λ r. ⌜ r ≡ judgedOf (entryFault (atomsOf (now (atoms .entry))) i (now (block .entry))) ⌝ }
+    ensures { λ r. ⌜ r ≡ judgedOf (entryFault (joinedAtoms (now (atoms .entry)) (now (more .entry))) i (now (block .entry))) ⌝ }
 {
     let end = 4 + 4 * (blocks::first_count(block) + blocks::second_count(block));
-    match valid::wrong_entry(atoms, blocks::kind(block), &block[4..end]) {
+    match valid::wrong_entry(atoms, more, blocks::kind(block), &block[4..end]) {
         Found::At(n) => Judged::Faulty(Fault::TermEntry(i, n as u8)),
         Found::Nothing => Judged::Fine,
     }
@@ -149,37 +202,37 @@ fn term_fault(i: u8, block: &[u8]) -> Judged
 }
 
 // Number 6 for the atoms, else 7 and then 8.
-fn entries_fault(atoms: &[u8], i: u8, block: &[u8]) -> Judged
-    requires { ⌜ Fitting (now block) ⌝ }
-    ensures { λ r. ⌜ r ≡ judgedOf (entriesFault (atomsOf (now (atoms .entry))) i (now (block .entry))) ⌝ }
+fn entries_fault(file: &[u8], i: usize) -> Judged
+    requires { ⌜ Reached (now file) i ⌝ }
+    ensures { λ r. ⌜ r ≡ judgedOf (entriesFault (now (file .entry)) i) ⌝ }
 {
+    let block = blocks::block(file, i);
     if blocks::kind(block) == kinds::ATOMS {
-        return atom_fault(i, block);
+        return atoms_fault(file, i);
     }
-    match entry_fault(atoms, i, block) {
+    let n = i as u8;
+    match entry_fault(atoms::first(file), atoms::more(file), n, block) {
         Judged::Faulty(f) => Judged::Faulty(f),
-        Judged::Fine => term_fault(i, block),
+        Judged::Fine => term_fault(n, block),
     }
 }
 
-// Numbers 2, 3, 5, then 6 to 8, of block i. The atoms are those of block 0.
+// Numbers 2, 3, 5, then 6 to 8, of block i.
 fn block_fault(file: &[u8], i: usize) -> Judged
-    requires { ⌜ HasBlock (now file) i × ((i < mostBlocks) × (0 < i → Fitting (blockAt (now file) 0))) ⌝ }
+    requires { ⌜ (length (now file) % blockSize ≡ 0) × (HasBlock (now file) i × ((i < mostBlocks) × ((j : ℕ) → j < i → Fitting (blockAt (now file) j)))) ⌝ }
     ensures { λ r. ⌜ r ≡ judgedOf (blockFault (now (file .entry)) i) ⌝ }
 {
-    let block = blocks::block(file, i);
     let n = i as u8;
-    if !blocks::check_right(block) {
+    if !blocks::check_right(blocks::block(file, i)) {
         return Judged::Faulty(Fault::Check(n));
     }
     if !kind_right(file, i) {
         return Judged::Faulty(Fault::Kind(n));
     }
-    if !blocks::layout_right(block) {
+    if !laid_out(file, i) {
         return Judged::Faulty(Fault::Layout(n));
     }
-    let atoms = blocks::first_entries(blocks::block(file, 0));
-    entries_fault(atoms, n, block)
+    entries_fault(file, i)
 }
 
 // The first fault of the blocks, in file order.

@@ -1,5 +1,6 @@
 // The judging layer: a certificate file gets its verdict.
 pub mod answer;
+mod atoms;
 pub mod checking;
 mod cover;
 mod flag;

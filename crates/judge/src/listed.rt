@@ -5,7 +5,7 @@ ghost use mathlib.Core.Logic.{_↔_};
 ghost use Prim.Native.Nat.{_+_, _*_, _<_, _≤_};
 ghost use lib.ListN.{length};
 ghost use Rattle.blocks.specs.Kinds.{secretKind, goodKind, ListsTerm};
-ghost use Rattle.blocks.specs.Block.{blockAt, kindOf, firstEntries};
+ghost use Rattle.blocks.specs.Block.{blockAt, kindOf};
 ghost use Rattle.terms.specs.Term.{Message, atom, asTerm};
 ghost use Rattle.terms.specs.Instance.{Matches, Share};
 ghost use Rattle.terms.specs.Entry.{Begins, termOf};
@@ -21,11 +21,11 @@ ghost use Rattle.judge.specs.Judgement.{judgedOf};
 ghost use Rattle.judge.specs.Verdict.{onKind, kindAsked, Meets, faultOn, conditionAt, conditionFault};
 ghost use Rattle.judge.specs.Listed.{HoldsAt, Searching, TermPart, matches-listed?, shares-listed?, is-secret?};
 ghost use Rattle.judge.specs.Listed.{rootSlots, slotAt, FlaggedMore, RootsOf, NoRoot, SizesBelow, SizesIn, SizeOf};
+use crate::atoms::atom_at;
 use crate::form::Judged;
 use crate::verdict::Fault;
 use blocks::kinds;
 use blocks::limits;
-use terms::atom::atom_at;
 use terms::entry;
 use terms::matching;
 use terms::sharing;
@@ -253,15 +253,15 @@ pub fn listed_sizes(file: &[u8]) -> [u8; LISTED_SIZES]
 pub const LISTED_SIZES: usize = 4096;
 
 // The slots of roots: those of atoms from 0, then those of pairs, of encryptions and of variables.
-const PAIR_ROOTS: usize = 128;
+const PAIR_ROOTS: usize = 256;
 
-const ENCRYPTION_ROOTS: usize = 256;
+const ENCRYPTION_ROOTS: usize = 512;
 
-const VARIABLE_ROOTS: usize = 384;
+const VARIABLE_ROOTS: usize = 768;
 
 pub const ROOT_SLOTS: usize = VARIABLE_ROOTS + SLOTS;
 
-// The slot of the root of the term that e begins with. Atoms, pairs and encryptions have 128 slots each, by the root's
+// The slot of the root of the term that e begins with. Atoms, pairs and encryptions have 256 slots each, by the root's
 // value; a pair's value is always 0, so its left half's root is asked instead. Variables have 16.
 pub fn root_slot(e: &[u8]) -> usize
     requires { ⌜ Begins (now e) ⌝ }
@@ -332,15 +332,6 @@ fn is_listed_atom(file: &[u8], a: usize) -> bool
     is_listed_secret(file, &e)
 }
 
-// The atom entries.
-fn atom_entries(file: &[u8]) -> &[u8]
-    requires { ⌜ Laid (now file) ⌝ }
-    ensures { λ r. ⌜ now r ≡ firstEntries (blockAt (now (file .entry)) 0) ⌝ }
-{
-    let block = blocks::block(file, 0);
-    blocks::first_entries(block)
-}
-
 // Is the term that e begins with, as a message, a known atom?
 fn is_known(file: &[u8], e: &[u8]) -> bool
     requires { ⌜ Searching (now file) secretKind (now e) ⌝ }
@@ -350,7 +341,7 @@ fn is_known(file: &[u8], e: &[u8]) -> bool
     if tag != 1 {
         return false;
     }
-    let atom = atom_at(atom_entries(file), entry::value(e));
+    let atom = atom_at(file, entry::value(e));
     atom.known == 1
 }
 
@@ -381,7 +372,7 @@ fn inverse_of(file: &[u8], k: usize) -> usize
     requires { ⌜ Laid (now file) ⌝ }
     ensures { λ r. ⌜ (r ≡ inverse (certificateOf (now (file .entry))) k) × (r ≤ 65535) ⌝ }
 {
-    atom_at(atom_entries(file), k).partner
+    atom_at(file, k).partner
 }
 
 // Is the inverse of the root key of the encryption that e begins with a listed secret?

@@ -19,7 +19,7 @@ pub enum Fault {
     Kind(u8),
     // 4: no secret or no rule, among so many blocks.
     Missing(u8),
-    // 5: a count, byte 3 or an unused entry of this block.
+    // 5: a count, byte 3 or an unused entry of this block, or a block of atoms before it that is not full.
     Layout(u8),
     // 6: an atom entry: block, entry.
     AtomEntry(u8, u8),

@@ -12,7 +12,7 @@ use Rattle.terms.specs.declared.valid.Found.{Found}
 use Rattle.terms.specs.declared.valid.Found.the-variants.{At, Nothing}
 use Rattle.terms.specs.Entry.{termOf, Begins}
 use Rattle.terms.specs.declared.atom.Atom.{Atom}
-use Rattle.terms.specs.Atom.{atomsOf}
+use Rattle.terms.specs.Atom.{joinedAtoms}
 use Rattle.terms.specs.TermEntry.{wrongEntry}
 use Rattle.terms.specs.OneTerm.{HasSymbol}
 use Rattle.terms.specs.Reading.{oneTerm?}
@@ -21,9 +21,9 @@ use Rattle.terms.proofs.OneTermLaws.{right-each, right-symbols, one-begins}
 use Rattle.terms.specs.Decide.{answer, share?, match?, term?, variable?}
 use Rattle.terms.proofs.AnswerLaws.{yes-of}
 
--- 126 atoms, all of them keys.
+-- 252 atoms, all of them keys.
 unfoldable pub keys : List Atom
-keys = atomsOf (replicate 504 3)
+keys = joinedAtoms (replicate 504 3) (replicate 504 3)
 
 abbrev pub then : Bool → Bool → Bool
 then true b = b

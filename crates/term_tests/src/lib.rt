@@ -9,7 +9,7 @@ use terms::valid::wrong_entry;
 ghost use mathlib.Core.Path.{_≡_};
 ghost use Rattle.term_tests.specs.Asked.{isTerm, yesNumber, shareNumber, matchNumber, sameNumber};
 
-// The bytes are one term of at most 63 entries, over 126 atoms that are all keys, with variables of both kinds.
+// The bytes are one term of at most 63 entries, over 252 atoms that are all keys, with variables of both kinds.
 fn is_term(e: &[u8]) -> bool
     ensures { λ r. ⌜ r ≡ isTerm (now (e .entry)) ⌝ }
 {
@@ -20,7 +20,7 @@ fn is_term(e: &[u8]) -> bool
         return false;
     }
     let keys = [3u8; 504];
-    let found = wrong_entry(&keys, 3, e);
+    let found = wrong_entry(&keys, &keys, 3, e);
     match found {
         Found::At(_) => false,
         Found::Nothing => is_one_term(e),

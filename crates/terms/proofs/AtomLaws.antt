@@ -2,15 +2,16 @@
 use mathlib.Core.Path.{_≡_, refl, ap, _∙_, sym}
 use mathlib.Core.List.{List, [], _∷_}
 use mathlib.Core.Bool.{Bool}
-use Prim.Native.Nat.{ℕ, zero, suc, _*_, _/_, _≤_, _<_}
+use Prim.Native.Nat.{ℕ, zero, suc, _+_, _-_, _*_, _/_, _≤_, _<_}
 use native.Mathlib.Omega.{arith}
 use native.Mathlib.Decide.{decLt}
-use lib.ListN.{length, getD, drop, List·getD-eq-default}
+use lib.ListN.{length, getD, drop, length-append, List·getD-append, List·getD-eq-default}
+use lib.Seq.{getD-append-add}
 use lib.Dec.{eqb}
 use borrow.Rule.Slice.PartAt.{part-to-end}
 use Rattle.terms.specs.declared.valid.Found.the-variants.{Nothing, At}
 use Rattle.terms.specs.declared.atom.Atom.{Atom}
-use Rattle.terms.specs.Atom.{principalKind, nonceKind, publicKind, privateKind, symmetricKind, atomsOf, atomAt, atomKind, knownOf, partnerOf, IsKey}
+use Rattle.terms.specs.Atom.{principalKind, nonceKind, publicKind, privateKind, symmetricKind, atomsOf, joinedAtoms, atomAt, atomKind, knownOf, partnerOf, IsKey}
 use Rattle.terms.specs.Atom.{key-kind, NamedBack, PartnerRight, principal, nonce, publicKey, privateKey, symmetricKey, AtomRight, PartnerWanted, partner-wanted}
 use Rattle.terms.specs.Atom.{partner-right, atomRight?, wrongAtom}
 use Rattle.terms.specs.Entry.{tagAt, valueAt, from}
@@ -70,6 +71,22 @@ module _ (b : List ℕ) (n : ℕ) where
   pub atom-entry : n < length b / 4 → {p : ℕ} → p ≡ valueAt (from (4 * n) b)
       → record { kind = getD (from (4 * n) b) 0 0; known = getD (from (4 * n) b) 1 0; partner = p } ≡ atomAt (atomsOf b) n
   atom-entry inside is = rw (is, part-to-end) (sym (atom-bytes b n inside))
+
+-- The atoms of two blocks: how many there are, and which they are.
+module _ (first second : List ℕ) where
+  pub joined-length : length (joinedAtoms first second) ≡ length first / 4 + length second / 4
+  joined-length = length-append (atomsOf first) (atomsOf second) ∙ omega (arith, length-atoms first, length-atoms second)
+
+  module _ (n : ℕ) where
+    pub joined-first : n < length first / 4 → atomAt (atomsOf first) n ≡ atomAt (joinedAtoms first second) n
+    unfolding atomAt
+    joined-first inside = sym (List·getD-append (atomsOf first) (atomsOf second) _ n (omega (arith, length-atoms first)))
+
+    pub joined-second : length first / 4 ≤ n → atomAt (atomsOf second) (n - length first / 4) ≡ atomAt (joinedAtoms first second) n
+    unfolding atomAt
+    joined-second past =
+        let here : length (atomsOf first) + (n - length first / 4) ≡ n = omega (arith, length-atoms first) in
+        rw here at (sym (getD-append-add (atomsOf first) (atomsOf second) (n - length first / 4) (record { kind = 0; known = 0; partner = 0 })))
 
 -- A key and its partner name each other: q is the partner's entry.
 module _ (atoms : List Atom) (n other : ℕ) {a q : Atom} (is : a ≡ atomAt atoms n) (partner : q ≡ atomAt atoms (a .partner)) where

@@ -1,7 +1,7 @@
 -- Atom entries, and what number 6 asks of them (document 01, "Atom entry").
 use mathlib.Core.Path.{_≡_, refl, _∙_}
 use mathlib.Core.Logic.{_⊎_, inl, inr}
-use mathlib.Core.List.{List, [], _∷_}
+use mathlib.Core.List.{List, [], _∷_, _++_}
 use Prim.Native.Nat.{ℕ, zero, suc, _+_, _*_, _≤_, _<_}
 use native.Mathlib.Omega.{arith}
 use native.Mathlib.Decide.{ℕ-discrete, decLe, decLt}
@@ -52,6 +52,10 @@ atomsOf (a ∷ []) = []
 atomsOf (a ∷ b ∷ []) = []
 atomsOf (a ∷ b ∷ c ∷ []) = []
 atomsOf (kind ∷ known ∷ low ∷ high ∷ rest) = record { kind = kind; known = known; partner = low + 256 * high } ∷ atomsOf rest
+
+-- The atoms of two blocks, one list: "the second's atoms are numbered on" (02, No. 1).
+abbrev pub joinedAtoms : List ℕ → List ℕ → List Atom
+joinedAtoms first second = atomsOf first ++ atomsOf second
 
 -- The atom of a number (all zero where there is none).
 unfoldable pub atomAt : List Atom → ℕ → Atom

@@ -1,4 +1,4 @@
-// What numbers 6, 7 and 8 ask of the entries of one block: four bytes an entry.
+// What numbers 6, 7 and 8 ask of entries, four bytes each. The atoms are those of one block or two.
 ghost use mathlib.Core.Path.{_≡_};
 ghost use Prim.Native.Nat.{_+_, _/_, _<_, _≤_};
 ghost use lib.ListN.{length, take};
@@ -6,7 +6,7 @@ ghost use lib.Seq.{slice};
 ghost use Rattle.terms.specs.Decisions.{Says};
 ghost use Rattle.terms.specs.Decide.{answer};
 ghost use Rattle.terms.specs.Entry.{Begins, termOf};
-ghost use Rattle.terms.specs.Atom.{atomsOf, NamedBack, AtomRight, wrongAtom};
+ghost use Rattle.terms.specs.Atom.{joinedAtoms, NamedBack, AtomRight, wrongAtom};
 ghost use Rattle.terms.specs.TermEntry.{wrongEntry};
 ghost use Rattle.terms.specs.EntryTables.{listedKind, plainLimit, markedLimit, limitsOf, ByTables};
 ghost use Rattle.terms.specs.Each.{Each};
@@ -35,11 +35,11 @@ pub enum Found {
 }
 
 // The partner of atom n is an atom of the other kind whose partner field is n.
-fn named_back(atoms: &[u8], n: usize, other: u8) -> bool
+fn named_back(atoms: &[u8], more: &[u8], n: usize, other: u8) -> bool
     requires { ⌜ 0 < other ⌝ }
-    ensures { λ r. ⌜ Says r (NamedBack (atomsOf (now (atoms .entry))) n other) ⌝ }
+    ensures { λ r. ⌜ Says r (NamedBack (joinedAtoms (now (atoms .entry)) (now (more .entry))) n other) ⌝ }
 {
-    let partner = atom_at(atoms, atom_at(atoms, n).partner);
+    let partner = atom_at(atoms, more, atom_at(atoms, more, n).partner);
     if partner.kind == other {
         partner.partner == n
     } else {
@@ -48,10 +48,10 @@ fn named_back(atoms: &[u8], n: usize, other: u8) -> bool
 }
 
 // Atom entry n is right.
-fn right_atom(atoms: &[u8], n: usize) -> bool
-    ensures { λ r. ⌜ Says r (AtomRight (atomsOf (now (atoms .entry))) n) ⌝ }
+fn right_atom(atoms: &[u8], more: &[u8], n: usize) -> bool
+    ensures { λ r. ⌜ Says r (AtomRight (joinedAtoms (now (atoms .entry)) (now (more .entry))) n) ⌝ }
 {
-    let atom = atom_at(atoms, n);
+    let atom = atom_at(atoms, more, n);
     if 1 < atom.known {
         return false;
     }
@@ -61,9 +61,9 @@ fn right_atom(atoms: &[u8], n: usize) -> bool
     } else if kind == NONCE {
         atom.partner == 0
     } else if kind == PUBLIC {
-        named_back(atoms, n, PRIVATE)
+        named_back(atoms, more, n, PRIVATE)
     } else if kind == PRIVATE {
-        named_back(atoms, n, PUBLIC)
+        named_back(atoms, more, n, PUBLIC)
     } else if kind == SYMMETRIC {
         atom.partner == n
     } else {
@@ -72,13 +72,13 @@ fn right_atom(atoms: &[u8], n: usize) -> bool
 }
 
 // Number 6: the first atom entry that is not right.
-pub fn wrong_atom(atoms: &[u8]) -> Found
-    ensures { λ r. ⌜ r ≡ wrongAtom (atomsOf (now (atoms .entry))) ⌝ }
+pub fn wrong_atom(atoms: &[u8], more: &[u8]) -> Found
+    ensures { λ r. ⌜ r ≡ wrongAtom (joinedAtoms (now (atoms .entry)) (now (more .entry))) ⌝ }
 {
-    let count = atoms.len() / 4;
+    let count = atoms.len() / 4 + more.len() / 4;
     let mut i = 0;
     while i < count {
-        if right_atom(atoms, i) {
+        if right_atom(atoms, more, i) {
             i += 1;
         } else {
             return Found::At(i);
@@ -88,10 +88,10 @@ pub fn wrong_atom(atoms: &[u8]) -> Found
 }
 
 // The kind of atom n, 1 to 5; 0 for no atom and for no kind.
-fn listed_kind(atoms: &[u8], n: usize) -> u8
-    ensures { λ r. ⌜ r ≡ listedKind (atomsOf (now (atoms .entry))) n ⌝ }
+fn listed_kind(atoms: &[u8], more: &[u8], n: usize) -> u8
+    ensures { λ r. ⌜ r ≡ listedKind (joinedAtoms (now (atoms .entry)) (now (more .entry))) n ⌝ }
 {
-    let kind = atom_at(atoms, n).kind;
+    let kind = atom_at(atoms, more, n).kind;
     if kind <= SYMMETRIC { kind } else { 0 }
 }
 
@@ -118,9 +118,15 @@ fn limits(kind: u8, count: usize) -> [usize; LAST + 1]
 
 // The term entry that stands first is right by the tables: its value is below its tag's limit, and the atom of that
 // number has not less than its tag's least kind.
-fn right_entry(atoms: &[u8], limits: &[usize; LAST + 1], least: &[u8; LAST + 1], e: &[u8]) -> bool
+fn right_entry(
+    atoms: &[u8],
+    more: &[u8],
+    limits: &[usize; LAST + 1],
+    least: &[u8; LAST + 1],
+    e: &[u8],
+) -> bool
     requires { ⌜ (4 ≤ length (now e)) × (length (now limits) ≡ 6) × (length (now least) ≡ 6) ⌝ }
-    ensures { λ r. ⌜ Says r (ByTables (atomsOf (now (atoms .entry))) (now (limits .entry)) (now (least .entry)) (now (e .entry))) ⌝ }
+    ensures { λ r. ⌜ Says r (ByTables (joinedAtoms (now (atoms .entry)) (now (more .entry))) (now (limits .entry)) (now (least .entry)) (now (e .entry))) ⌝ }
 {
     if e[1] != 0 {
         return false;
@@ -133,23 +139,23 @@ fn right_entry(atoms: &[u8], limits: &[usize; LAST + 1], least: &[u8; LAST + 1],
     if limits[tag] <= n {
         return false;
     }
-    if listed_kind(atoms, n) < least[tag] {
+    if listed_kind(atoms, more, n) < least[tag] {
         return false;
     }
     true
 }
 
 // Number 7: the first entry that is not right.
-pub fn wrong_entry(atoms: &[u8], kind: u8, e: &[u8]) -> Found
-    ensures { λ r. ⌜ r ≡ wrongEntry (atomsOf (now (atoms .entry))) kind (now (e .entry)) ⌝ }
+pub fn wrong_entry(atoms: &[u8], more: &[u8], kind: u8, e: &[u8]) -> Found
+    ensures { λ r. ⌜ r ≡ wrongEntry (joinedAtoms (now (atoms .entry)) (now (more .entry))) kind (now (e .entry)) ⌝ }
 {
     let count = e.len() / 4;
-    let limits = limits(kind, atoms.len() / 4);
+    let limits = limits(kind, atoms.len() / 4 + more.len() / 4);
     // The value of an encryption is the number of a key: an atom of kind 3 or more.
     let least = [0u8, 0, 0, PUBLIC, 0, 0];
     let mut i = 0;
     while i < count {
-        if right_entry(atoms, &limits, &least, &e[4 * i..]) {
+        if right_entry(atoms, more, &limits, &least, &e[4 * i..]) {
             i += 1;
         } else {
             return Found::At(i);

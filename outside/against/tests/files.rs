@@ -45,10 +45,12 @@ fn deep_files() {
     }
 }
 
-/// One byte of a bench file changed, and the block sealed again.
+/// One byte of a bench file changed, and the block sealed again. The last files
+/// have two atom blocks.
 #[test]
 fn changed_bytes() {
-    for path in &certificates("../bench/files")[..3] {
+    let all = certificates("../bench/files");
+    for path in all[..3].iter().chain(&all[all.len() - 2..]) {
         let (name, file) = (files::name(path), bytes(path));
         let mut random = generate::random::Random::new(7);
         for _ in 0..100 {

@@ -1,7 +1,7 @@
 //! Bytes that are no term of at most 63 entries, with what is wrong in words.
 
 use crate::words::entries;
-use literal::numbers::{tag, ENTRY};
+use literal::numbers::{tag, ENTRY, MOST_ATOMS};
 
 const ATOM: [u8; ENTRY] = [tag::ATOM, 0, 0, 0];
 const PAIR: [u8; ENTRY] = [tag::PAIR, 0, 0, 0];
@@ -70,7 +70,7 @@ fn single_entries() -> Vec<(&'static str, Vec<u8>)> {
         ("an atom with second byte 1", vec![1, 1, 0, 0]),
         ("a plain variable with second byte 1", vec![4, 1, 0, 0]),
         ("a marked variable with second byte 128", vec![5, 128, 0, 0]),
-        ("atom 126", vec![1, 0, 126, 0]),
+        ("an atom too many", vec![1, 0, MOST_ATOMS as u8, 0]),
         ("atom 256", vec![1, 0, 0, 1]),
         ("plain variable 8", vec![4, 0, 8, 0]),
         ("plain variable 256", vec![4, 0, 0, 1]),
@@ -79,7 +79,7 @@ fn single_entries() -> Vec<(&'static str, Vec<u8>)> {
         ("a pair with value 1", with_root([2, 0, 1, 0], 2)),
         ("a pair with value 256", with_root([2, 0, 0, 1], 2)),
         ("a pair with second byte 1", with_root([2, 1, 0, 0], 2)),
-        ("key 126", with_root([3, 0, 126, 0], 1)),
+        ("a key too many", with_root([3, 0, MOST_ATOMS as u8, 0], 1)),
         ("key 256", with_root([3, 0, 0, 1], 1)),
         (
             "an encryption with second byte 1",

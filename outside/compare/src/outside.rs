@@ -19,7 +19,7 @@ fn ask_of_terms(question: Question, s: &Term, t: &Term) -> bool {
     }
 }
 
-/// The term that the bytes are, over 126 atoms that are all keys.
+/// The term that the bytes are, over 252 atoms that are all keys.
 pub fn read(bytes: &[u8]) -> Option<Term> {
     if bytes.len() > ENTRY * MOST_ENTRIES {
         return None;

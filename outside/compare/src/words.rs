@@ -1,5 +1,5 @@
 //! Terms in the text form. The first eight atoms have the document's names,
-//! the others are `a8` to `a125`.
+//! the others are `a8` to `a251`.
 
 use crate::outside;
 use literal::block::{entry_at, first_count};
@@ -21,7 +21,7 @@ pub fn entries(term: &str) -> Result<Vec<u8>, String> {
         .collect();
     let file = text::assemble(&format!("{atoms}good {term}"))
         .map_err(|error| format!("{term}: {}", error.message))?;
-    let block = &file[BLOCK..];
+    let block = &file[file.len() - BLOCK..];
     Ok(block[HEADER..entry_at(first_count(block))].to_vec())
 }
 

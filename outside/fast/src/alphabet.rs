@@ -1,9 +1,10 @@
 //! Which entries may stand where, by tag and value: one table for a file.
 
 use crate::block::Block;
-use crate::numbers::{atom_kind, tag, ENTRY, HEADER, TAGS, VALUES, VALUE_BITS, VARIABLES};
+use crate::numbers::{atom_kind, tag, ATOM_BLOCKS, ENTRIES, ENTRY, HEADER};
+use crate::numbers::{TAGS, VALUES, VALUE_BITS, VARIABLES};
 
-/// Tag x 128 + value. Variables of patterns have 128 added, so that they are
+/// Tag x 256 + value. Variables of patterns have 256 added, so that they are
 /// never equal to those of rules.
 pub type Symbol = u16;
 pub const PAIR: Symbol = tag::PAIR << VALUE_BITS;
@@ -33,36 +34,42 @@ struct Atom {
     partner: u16,
 }
 
+/// The atom blocks of a file, with their counts; a second one that is not there
+/// has none.
+pub struct AtomBlocks<'a> {
+    pub blocks: [&'a Block; ATOM_BLOCKS],
+    pub counts: [usize; ATOM_BLOCKS],
+}
+
 pub struct Alphabet {
     marks: [u8; SYMBOLS],
     partners: [u8; VALUES],
-    known: u128,
-    /// Atoms that are listed as secrets.
-    pub secrets: u128,
+    known: [u128; ATOM_BLOCKS],
 }
 
 impl Alphabet {
     pub const EMPTY: Alphabet = Alphabet {
         marks: marks_without_atoms(),
         partners: [0; VALUES],
-        known: 0,
-        secrets: 0,
+        known: [0; ATOM_BLOCKS],
     };
 
-    /// Those of the atom block, or the first wrong entry.
-    pub fn add_atoms(&mut self, block: &Block, count: usize) -> Result<(), usize> {
-        for i in 0..count {
-            let atom = atom(block, i);
-            if !atom.is_right(block, i, count) {
+    /// Adds the atoms of one of the blocks, or answers its first wrong entry.
+    pub fn add_atoms(&mut self, all: &AtomBlocks, block: usize) -> Result<(), usize> {
+        let mut known = 0;
+        for i in 0..all.counts[block] {
+            let (atom, number) = (atom(all.blocks[block], i), ENTRIES * block + i);
+            if !atom.is_right(all, number) {
                 return Err(i);
             }
-            self.marks[index(tag::ATOM, i)] = EVERYWHERE | 1 << LEAF;
+            self.marks[index(tag::ATOM, number)] = EVERYWHERE | 1 << LEAF;
             if atom.kind >= atom_kind::PUBLIC {
-                self.marks[index(tag::ENCRYPTION, i)] = EVERYWHERE | 1 << ENCRYPTION;
+                self.marks[index(tag::ENCRYPTION, number)] = EVERYWHERE | 1 << ENCRYPTION;
             }
-            self.partners[i] = atom.partner as u8;
-            self.known |= (atom.known as u128) << i;
+            self.partners[number] = atom.partner as u8;
+            known |= (atom.known as u128) << i;
         }
+        self.known[block] = known;
         Ok(())
     }
 
@@ -78,16 +85,15 @@ impl Alphabet {
     }
 
     pub fn add_secret_atom(&mut self, number: usize) {
-        self.secrets |= 1 << number;
         self.marks[index(tag::ATOM, number)] |= 1 << SECRET_ATOM;
     }
 
     pub fn is_known(&self, number: usize) -> bool {
-        self.known >> number & 1 == 1
+        self.known[number / ENTRIES] >> (number % ENTRIES) & 1 == 1
     }
 
     pub fn is_secret(&self, number: usize) -> bool {
-        self.secrets >> number & 1 == 1
+        self.marks[index(tag::ATOM, number)] >> SECRET_ATOM & 1 == 1
     }
 
     pub fn inverse(&self, key: usize) -> usize {
@@ -136,22 +142,30 @@ fn atom(block: &Block, i: usize) -> Atom {
 }
 
 impl Atom {
-    fn is_right(&self, block: &Block, i: usize, count: usize) -> bool {
-        let partner = self.partner as usize;
+    fn is_right(&self, all: &AtomBlocks, number: usize) -> bool {
         let named = match self.kind {
-            atom_kind::PRINCIPAL | atom_kind::NONCE => partner == 0,
-            atom_kind::SYMMETRIC => partner == i,
-            atom_kind::PUBLIC | atom_kind::PRIVATE => {
-                partner < count && self.is_named_back(&atom(block, partner), i)
-            }
+            atom_kind::PRINCIPAL | atom_kind::NONCE => self.partner == 0,
+            atom_kind::SYMMETRIC => self.partner as usize == number,
+            atom_kind::PUBLIC | atom_kind::PRIVATE => all
+                .atom(self.partner as usize)
+                .is_some_and(|other| self.is_named_back(&other, number)),
             _ => false,
         };
         named && self.known <= 1
     }
 
-    /// The other one is of the other kind and names atom `i`.
-    fn is_named_back(&self, other: &Atom, i: usize) -> bool {
+    /// The other one is of the other kind and names this one.
+    fn is_named_back(&self, other: &Atom, number: usize) -> bool {
         const BOTH: u8 = atom_kind::PUBLIC + atom_kind::PRIVATE;
-        other.kind == BOTH - self.kind && other.partner as usize == i
+        other.kind == BOTH - self.kind && other.partner as usize == number
+    }
+}
+
+impl AtomBlocks<'_> {
+    /// The atom of this number, if there is one.
+    fn atom(&self, number: usize) -> Option<Atom> {
+        let (block, i) = (number / ENTRIES, number % ENTRIES);
+        let listed = block < ATOM_BLOCKS && i < self.counts[block];
+        listed.then(|| atom(self.blocks[block], i))
     }
 }

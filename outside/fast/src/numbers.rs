@@ -11,8 +11,11 @@ pub const MODULUS: u32 = 65_521;
 
 pub const MOST_BLOCKS: usize = 64;
 pub const MOST_BYTES: usize = MOST_BLOCKS * BLOCK;
-/// Entries of a block, and so the most atoms.
+/// Entries of a block.
 pub const ENTRIES: usize = 126;
+/// Blocks of atoms; the most atoms are theirs together.
+pub const ATOM_BLOCKS: usize = 2;
+pub const MOST_ATOMS: usize = ATOM_BLOCKS * ENTRIES;
 /// The most entries of a term.
 pub const MOST_ENTRIES: usize = 63;
 /// Variables of one sort.
@@ -23,7 +26,7 @@ pub const PLACES: usize = u64::BITS as usize;
 /// Room for the terms: two a block.
 pub const SLOTS: usize = 2 * MOST_BLOCKS;
 /// Room for values: numbers of atoms, keys and variables.
-pub const VALUE_BITS: u32 = 7;
+pub const VALUE_BITS: u32 = 8;
 pub const VALUES: usize = 1 << VALUE_BITS;
 /// Room for tags.
 pub const TAGS: usize = 8;
@@ -35,7 +38,7 @@ pub const VARIABLE_ROOM: usize = u32::BITS as usize;
 const _: () = assert!(
     MOST_BLOCKS.is_power_of_two()
         && MOST_ENTRIES < PLACES
-        && ENTRIES < VALUES
+        && MOST_ATOMS < VALUES
         && ALL_VARIABLES <= VARIABLE_ROOM
 );
 

@@ -1,9 +1,9 @@
 //! Numbers 2 to 8, block by block, and what the blocks say.
 
-use crate::alphabet::{value_of, Alphabet, IN_GOOD, IN_OTHERS, IN_SECRET, NEVER};
+use crate::alphabet::{value_of, Alphabet, AtomBlocks, IN_GOOD, IN_OTHERS, IN_SECRET, NEVER};
 use crate::block::{self, Block};
 use crate::fault;
-use crate::numbers::{kind, BLOCK, ENTRIES, PLACES, SLOTS};
+use crate::numbers::{kind, ATOM_BLOCKS, BLOCK, ENTRIES, PLACES, SLOTS};
 use crate::term::Term;
 use std::ops::Range;
 
@@ -19,7 +19,7 @@ impl Certificate {
     pub const EMPTY: Certificate = Certificate {
         alphabet: Alphabet::EMPTY,
         terms: [Term::EMPTY; SLOTS],
-        starts: [1; kind::RULE as usize + 2],
+        starts: [0; kind::RULE as usize + 2],
     };
 
     pub fn blocks_of(&self, kind: u8) -> Range<usize> {
@@ -37,9 +37,10 @@ impl Certificate {
     /// Reads all blocks; the check of block 0 is known to be right.
     pub fn read(&mut self, file: &[u8]) -> Result<(), u32> {
         let blocks = file.len() / BLOCK;
-        self.atoms(block::part(file, 0))?;
+        let first = self.atoms(file)?;
+        self.starts.fill(first);
         let mut kind_before = kind::SECRET;
-        for i in 1..blocks {
+        for i in first..blocks {
             let block = block::part(file, i);
             if !block::check_is_right(block) {
                 return Err(fault(2, i, 0));
@@ -59,13 +60,28 @@ impl Certificate {
         Ok(())
     }
 
-    fn atoms(&mut self, block: &Block) -> Result<(), u32> {
-        if block[0] != kind::ATOMS {
+    /// Reads the atom blocks; answers how many there are.
+    fn atoms(&mut self, file: &[u8]) -> Result<usize, u32> {
+        let first = block::part(file, 0);
+        if first[0] != kind::ATOMS {
             return Err(fault(3, 0, 0));
         }
-        let (count, _) = block::counts(block).ok_or(fault(5, 0, 0))?;
-        let atoms = self.alphabet.add_atoms(block, count);
-        atoms.map_err(|entry| fault(6, 0, entry))
+        let (count, _) = block::counts(first).ok_or(fault(5, 0, 0))?;
+        let mut all = AtomBlocks {
+            blocks: [first; ATOM_BLOCKS],
+            counts: [count, 0],
+        };
+        let has_second = file.get(BLOCK) == Some(&kind::ATOMS);
+        if has_second {
+            all.blocks[1] = block::part(file, 1);
+            all.counts[1] = second_count(all.blocks[1], count)?;
+        }
+        let blocks = 1 + has_second as usize;
+        for block in 0..blocks {
+            let atoms = self.alphabet.add_atoms(&all, block);
+            atoms.map_err(|entry| fault(6, block, entry))?;
+        }
+        Ok(blocks)
     }
 
     /// Numbers 5, 7 and 8 for a block of terms.
@@ -107,6 +123,17 @@ impl Certificate {
             _ => {}
         }
         Ok(())
+    }
+}
+
+/// Numbers 2 and 5 for a second atom block, behind so many atoms.
+fn second_count(block: &Block, before: usize) -> Result<usize, u32> {
+    if !block::check_is_right(block) {
+        return Err(fault(2, 1, 0));
+    }
+    match block::counts(block) {
+        Some((count, _)) if before == ENTRIES => Ok(count),
+        _ => Err(fault(5, 1, 0)),
     }
 }
 

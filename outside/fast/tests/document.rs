@@ -1,7 +1,7 @@
-//! The document's certificates to try, and its lengths.
+//! The document's certificates to try, its lengths, and two atom blocks.
 
 use fast::check;
-use text::document::{ATOMS, GOOD, SECRETS};
+use text::document::{joined_atoms, ATOMS, GOOD, SECRETS};
 
 fn file(rest: &str) -> Vec<u8> {
     text::assemble(&format!("{ATOMS}{rest}")).expect("the text is right")
@@ -72,4 +72,72 @@ fn lengths() {
     let mut longer = file(&format!("{SECRETS}{GOOD}{rules}"));
     longer.extend_from_within(32_256..);
     assert_eq!(check(&longer), refused(1, 0, 0));
+}
+
+/// The blocks of a certificate with two atom blocks.
+fn joined(rest: &str) -> Vec<Vec<u8>> {
+    let text = format!("{}secret L\nsecret M\n{rest}", joined_atoms());
+    let bytes = text::assemble(&text).expect("the text is right");
+    bytes.chunks(512).map(<[u8]>::to_vec).collect()
+}
+
+/// The answer after these changes of bytes, each with its block sealed again.
+fn after(changes: &[(usize, usize, u8)]) -> u32 {
+    let mut blocks = joined("good {*s}K\nrule {(Q, ?x)}S -> ({M}K, ?x)");
+    for (block, byte, value) in changes {
+        blocks[*block][*byte] = *value;
+        literal::seal(&mut blocks[*block]).expect("a block");
+    }
+    check(&blocks.concat())
+}
+
+#[test]
+fn atoms_of_a_second_block() {
+    assert_eq!(after(&[]), 0);
+    let answer = |rest: &str| check(&joined(rest).concat());
+    assert_eq!(answer("good {*s}K\nrule -> {M}Q"), refused(12, 5, 1));
+    assert_eq!(answer("good {*s}Q\nrule -> {M}Q"), refused(11, 4, 0));
+    assert_eq!(answer("secret Q\nrule -> Q"), refused(9, 4, 0));
+    assert_eq!(answer("secret (S, K)\nrule -> Q"), refused(10, 4, 0));
+    assert_eq!(answer("rule M -> L"), 0);
+    assert_eq!(answer("rule x3 -> M"), refused(12, 4, 1));
+    assert_eq!(answer("rule x1 -> M"), refused(12, 4, 1));
+    assert_eq!(answer("rule -> (x1, (x2, (x3, x4)))"), 0);
+    assert_eq!(check(&joined("")[..2].concat()), refused(4, 2, 0));
+}
+
+#[test]
+fn faults_of_two_atom_blocks() {
+    assert_eq!(after(&[(0, 1, 125)]), refused(5, 0, 0));
+    assert_eq!(
+        after(&[(0, 1, 125), (0, 504, 0), (0, 506, 0)]),
+        refused(5, 1, 0)
+    );
+    assert_eq!(after(&[(0, 4, 9)]), refused(6, 0, 0));
+    assert_eq!(after(&[(0, 4, 9), (1, 3, 1)]), refused(5, 1, 0));
+    assert_eq!(after(&[(0, 4, 9), (1, 4, 9)]), refused(6, 0, 0));
+    assert_eq!(after(&[(1, 4, 9)]), refused(6, 0, 125));
+    assert_eq!(after(&[(1, 8, 9)]), refused(6, 1, 1));
+    assert_eq!(after(&[(1, 18, 3)]), refused(6, 1, 3));
+    assert_eq!(after(&[(1, 10, 2)]), refused(6, 1, 1));
+    assert_eq!(after(&[(1, 10, 252)]), refused(6, 1, 1));
+    assert_eq!(after(&[(2, 0, 1)]), refused(3, 2, 0));
+    assert_eq!(after(&[(2, 6, 131)]), refused(7, 2, 0));
+    assert_eq!(after(&[(2, 6, 252)]), refused(7, 2, 0));
+    assert_eq!(after(&[(0, 0, 2)]), refused(3, 0, 0));
+    assert_eq!(after(&[(1, 0, 2)]), refused(6, 0, 125));
+}
+
+#[test]
+fn a_wrong_check_before_a_wrong_atom() {
+    let mut blocks = joined("good {*s}K\nrule -> {M}K");
+    blocks[0][4] = 9;
+    literal::seal(&mut blocks[0]).expect("a block");
+    blocks[1][509] ^= 1;
+    assert_eq!(check(&blocks.concat()), refused(2, 1, 0));
+    blocks[1][509] ^= 1;
+    blocks[2][509] ^= 1;
+    assert_eq!(check(&blocks.concat()), refused(6, 0, 0));
+    let one_atom_block = [&blocks[..1], &blocks[2..]].concat();
+    assert_eq!(check(&one_atom_block.concat()), refused(6, 0, 0));
 }

@@ -2,8 +2,9 @@
 
 use crate::random::Random;
 use crate::sketch::Sketch;
+use crate::spread::onto_two_blocks;
 use literal::numbers::atom_kind::{NONCE, PRINCIPAL, PRIVATE, PUBLIC, SYMMETRIC};
-use literal::numbers::{MOST_ATOMS, MOST_BLOCKS, MOST_ENTRIES, VARIABLES};
+use literal::numbers::{ENTRIES, MOST_BLOCKS, MOST_ENTRIES, VARIABLES};
 use literal::read::Atom;
 use literal::{matches, Term};
 
@@ -15,6 +16,9 @@ pub fn sketch(random: &mut Random) -> Sketch {
     maker.make_bads();
     for _ in 0..maker.random.weighted(&[0, 14, 22, 22, 18, 14, 10]) {
         maker.make_rule();
+    }
+    if maker.random.chance(16) {
+        maker.sketch = onto_two_blocks(maker.random, &maker.sketch);
     }
     if maker.random.chance(1) {
         maker.fill_up();
@@ -491,14 +495,14 @@ impl<'r> Maker<'r> {
     }
 }
 
-/// Eight to twelve atoms of all kinds, in any order; in a few files the list
-/// is filled up with nonces.
+/// Eight to twelve atoms of all kinds, in any order; in a few files one block is
+/// filled up with nonces.
 fn atoms(random: &mut Random) -> Vec<Atom> {
     loop {
         let mut wanted = wanted_atoms(random);
         if (8..=12).contains(&wanted.len()) {
             if random.chance(1) {
-                wanted.resize(MOST_ATOMS, (NONCE, 1, 0));
+                wanted.resize(ENTRIES, (NONCE, 1, 0));
             }
             random.shuffle(&mut wanted);
             return with_partners(&wanted);

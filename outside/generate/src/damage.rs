@@ -1,16 +1,20 @@
 //! Files damaged on purpose, for the numbers 1 to 11.
 
 use crate::certificate;
+use crate::joined;
 use crate::random::Random;
 use crate::sketch::Sketch;
 use literal::block::{check_of, entry_at};
 use literal::numbers::{atom_kind, kind, tag, BLOCK, CHECKED, ENTRIES, HEADER, MODULUS};
-use literal::numbers::{MOST_BYTES, MOST_ENTRIES, VARIABLES};
+use literal::numbers::{MOST_ATOMS, MOST_ATOM_BLOCKS, MOST_BYTES, MOST_ENTRIES, VARIABLES};
 use literal::{encode, Term};
 
 /// A certificate with one fault, at times two.
 pub fn damaged_file(random: &mut Random) -> Vec<u8> {
     let mut sketch = certificate::sketch(random);
+    if sketch.atoms.len() > ENTRIES && random.chance(70) {
+        return joined::damaged(random, sketch.blocks()).concat();
+    }
     let number = random.between(1, 11);
     damage_sketch(random, &mut sketch, number);
     if random.chance(15) {
@@ -107,14 +111,17 @@ fn damage_blocks(random: &mut Random, blocks: &mut Vec<Vec<u8>>, number: usize) 
         2 => wrong_check(random, blocks),
         3 => wrong_kind(random, blocks),
         5 => wrong_layout(random, blocks),
-        6 => wrong_atom(random, blocks),
+        6 => {
+            let at = random.below(atom_blocks(blocks));
+            wrong_atom(random, blocks, at)
+        }
         7 => wrong_entry(random, blocks),
         8 => wrong_shape(random, blocks),
         _ => {}
     }
 }
 
-fn seal(block: &mut [u8]) {
+pub(crate) fn seal(block: &mut [u8]) {
     literal::seal(block).expect("a block has 512 bytes");
 }
 
@@ -122,7 +129,19 @@ fn between(random: &mut Random, first: u8, last: u8) -> u8 {
     random.between(first as usize, last as usize) as u8
 }
 
-fn set_value(block: &mut [u8], entry: usize, value: u16) {
+/// How many of the first blocks hold atoms, at least one and at most two.
+fn atom_blocks(blocks: &[Vec<u8>]) -> usize {
+    let leading = blocks.iter().take_while(|block| block[0] == kind::ATOMS);
+    leading.count().clamp(1, MOST_ATOM_BLOCKS)
+}
+
+/// How many atoms these blocks list.
+pub(crate) fn atoms_listed(blocks: &[Vec<u8>]) -> usize {
+    let lists = blocks[..atom_blocks(blocks)].iter();
+    lists.map(|block| block[1] as usize).sum()
+}
+
+pub(crate) fn set_value(block: &mut [u8], entry: usize, value: u16) {
     block[entry_at(entry) + 2..entry_at(entry + 1)].copy_from_slice(&value.to_le_bytes());
 }
 
@@ -157,7 +176,7 @@ fn wrong_length(random: &mut Random, file: Vec<u8>) -> Vec<u8> {
 }
 
 /// Damage after sealing.
-fn wrong_check(random: &mut Random, blocks: &mut [Vec<u8>]) {
+pub(crate) fn wrong_check(random: &mut Random, blocks: &mut [Vec<u8>]) {
     let at = random.below(blocks.len());
     let block = &mut blocks[at];
     match random.below(6) {
@@ -210,7 +229,7 @@ fn wrong_kind(random: &mut Random, blocks: &mut Vec<Vec<u8>>) {
     blocks.iter_mut().for_each(|block| seal(block));
 }
 
-fn wrong_layout(random: &mut Random, blocks: &mut [Vec<u8>]) {
+pub(crate) fn wrong_layout(random: &mut Random, blocks: &mut [Vec<u8>]) {
     let at = random.below(blocks.len());
     let block = &mut blocks[at];
     match random.below(7) {
@@ -230,17 +249,22 @@ fn wrong_layout(random: &mut Random, blocks: &mut [Vec<u8>]) {
     seal(block);
 }
 
-fn wrong_atom(random: &mut Random, blocks: &mut [Vec<u8>]) {
-    let block = &mut blocks[0];
-    let count = (block[1] as usize).clamp(1, ENTRIES);
-    let entry = random.below(count);
+/// In this one of the atom blocks.
+pub(crate) fn wrong_atom(random: &mut Random, blocks: &mut [Vec<u8>], number: usize) {
+    let listed = atoms_listed(blocks);
+    let block = &mut blocks[number];
+    let entry = random.below((block[1] as usize).clamp(1, ENTRIES));
     let at = entry_at(entry);
     match random.below(6) {
         0 => block[at] = *random.pick(&[0, 6, 255]),
         1 => block[at] = between(random, atom_kind::PRINCIPAL, atom_kind::SYMMETRIC),
         2 => block[at + 1] = *random.pick(&[2, 3, 255]),
-        3 => set_value(block, entry, random.below(count + 2) as u16),
-        4 => set_value(block, entry, *random.pick(&[255, 256, 1000, 65_535])),
+        3 => set_value(block, entry, random.below(listed + 2) as u16),
+        4 => set_value(
+            block,
+            entry,
+            *random.pick(&[MOST_ATOMS as u16, 255, 256, 1000, 65_535]),
+        ),
         _ => block[at + 3] = random.byte(),
     }
     seal(block);
@@ -251,7 +275,7 @@ fn holds_terms(block: &[u8]) -> bool {
 }
 
 /// One of the blocks that hold terms, with one of its entries.
-fn some_entry(random: &mut Random, blocks: &[Vec<u8>]) -> Option<(usize, usize)> {
+pub(crate) fn some_entry(random: &mut Random, blocks: &[Vec<u8>]) -> Option<(usize, usize)> {
     let terms: Vec<usize> = (0..blocks.len())
         .filter(|i| holds_terms(&blocks[*i]) && (1..=ENTRIES).contains(&used(&blocks[*i])))
         .collect();
@@ -266,7 +290,7 @@ fn wrong_entry(random: &mut Random, blocks: &mut [Vec<u8>]) {
     let Some((number, entry)) = some_entry(random, blocks) else {
         return;
     };
-    let atoms = blocks[0][1] as usize;
+    let atoms = atoms_listed(blocks);
     spoil_entry(random, &mut blocks[number], entry, atoms);
     seal(&mut blocks[number]);
 }
@@ -284,7 +308,14 @@ fn spoil_entry(random: &mut Random, block: &mut [u8], entry: usize, atoms: usize
         2 => set_value(
             block,
             entry,
-            *random.pick(&[VARIABLES as u16, 126, 255, 256, 65_535]),
+            *random.pick(&[
+                VARIABLES as u16,
+                ENTRIES as u16,
+                MOST_ATOMS as u16,
+                255,
+                256,
+                65_535,
+            ]),
         ),
         3 => set_value(block, entry, atoms as u16),
         4 => set_entry(block, entry, tag::PLAIN, some_variable(random)),
@@ -349,7 +380,7 @@ fn wrong_shape(random: &mut Random, blocks: &mut [Vec<u8>]) {
 
 /// A rule whose premise is no whole term, with a wrong entry in its conclusion.
 fn both_terms(random: &mut Random, blocks: &mut [Vec<u8>]) {
-    let atoms = blocks[0][1] as usize;
+    let atoms = atoms_listed(blocks);
     let rules = blocks.iter_mut().filter(|block| block[0] == kind::RULE);
     let mut with_premise: Vec<&mut Vec<u8>> = rules
         .filter(|block| block[1] > 0 && block[2] > 0 && used(block) <= ENTRIES)

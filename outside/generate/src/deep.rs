@@ -5,6 +5,7 @@ use crate::certificate::{replace, variables_of};
 use crate::pairs::term_pair;
 use crate::random::Random;
 use crate::sketch::Sketch;
+use crate::spread::onto_two_blocks;
 use literal::numbers::atom_kind::{NONCE, PRINCIPAL, PRIVATE, PUBLIC};
 use literal::numbers::MOST_ENTRIES;
 use literal::read::Atom;
@@ -27,6 +28,9 @@ pub fn sketch(random: &mut Random) -> Sketch {
     if random.chance(60) {
         let key = *random.pick(&KEYS);
         sketch.goods.push(Term::encryption(Term::Marked(0), key));
+    }
+    if random.chance(16) {
+        return onto_two_blocks(random, &sketch);
     }
     sketch
 }

@@ -3,9 +3,11 @@
 pub mod certificate;
 pub mod damage;
 pub mod deep;
+mod joined;
 pub mod pairs;
 pub mod random;
 pub mod sketch;
+pub mod spread;
 
 pub use pairs::{pair, TermPair};
 

@@ -1,7 +1,7 @@
 //! A certificate before it becomes bytes.
 
 use literal::block::sealed;
-use literal::numbers::kind;
+use literal::numbers::{kind, ENTRIES};
 use literal::read::Atom;
 use literal::{encode, Term};
 
@@ -20,12 +20,13 @@ impl Sketch {
     }
 
     pub fn block_count(&self) -> usize {
-        1 + self.secrets.len() + self.goods.len() + self.bads.len() + self.rules.len()
+        let terms = self.secrets.len() + self.goods.len() + self.bads.len();
+        self.atoms.chunks(ENTRIES).len() + terms + self.rules.len()
     }
 
     /// The sealed blocks.
     pub fn blocks(&self) -> Vec<Vec<u8>> {
-        let mut blocks = vec![self.atom_block()];
+        let mut blocks: Vec<Vec<u8>> = self.atoms.chunks(ENTRIES).map(atom_block).collect();
         let lists = [
             (kind::SECRET, &self.secrets),
             (kind::GOOD, &self.goods),
@@ -42,13 +43,13 @@ impl Sketch {
         }
         blocks
     }
+}
 
-    fn atom_block(&self) -> Vec<u8> {
-        let mut entries = Vec::new();
-        for atom in &self.atoms {
-            entries.extend([atom.kind, atom.known]);
-            entries.extend(atom.partner.to_le_bytes());
-        }
-        sealed(kind::ATOMS, &entries, &[])
+fn atom_block(atoms: &[Atom]) -> Vec<u8> {
+    let mut entries = Vec::new();
+    for atom in atoms {
+        entries.extend([atom.kind, atom.known]);
+        entries.extend(atom.partner.to_le_bytes());
     }
+    sealed(kind::ATOMS, &entries, &[])
 }

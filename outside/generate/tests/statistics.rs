@@ -1,5 +1,8 @@
 //! The shares of verdicts among generated files, and what is in them.
 
+mod common;
+
+use common::all_rules_pass;
 use literal::hats::{has_sure_hat, is_dead, is_listed, is_risky, open_subterms, sure_hats};
 use literal::read::{read, Certificate, Listed, Rule};
 use literal::term::{places, strictly_above, Place};
@@ -152,14 +155,6 @@ fn without_bads(certificate: &Certificate) -> Certificate {
     let mut without = certificate.clone();
     without.bads.clear();
     without
-}
-
-fn all_rules_pass(certificate: &Certificate) -> bool {
-    let uncovered = |rule| literal::hats::first_uncovered(certificate, rule);
-    certificate
-        .rules
-        .iter()
-        .all(|rule| uncovered(rule).is_none())
 }
 
 #[test]

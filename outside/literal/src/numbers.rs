@@ -13,7 +13,10 @@ pub const MODULUS: u16 = 65_521;
 
 pub const MOST_BLOCKS: usize = 64;
 pub const MOST_BYTES: usize = BLOCK * MOST_BLOCKS;
-pub const MOST_ATOMS: usize = ENTRIES;
+/// Blocks of atoms: one, or a full one and a second.
+pub const MOST_ATOM_BLOCKS: usize = 2;
+/// Atoms of both blocks, numbered on from one to the next.
+pub const MOST_ATOMS: usize = MOST_ATOM_BLOCKS * ENTRIES;
 /// The most entries of a term.
 pub const MOST_ENTRIES: usize = 63;
 /// Variables of either sort are numbered from 0 up to but not including this.

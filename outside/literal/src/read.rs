@@ -3,7 +3,8 @@
 
 use crate::block::{self, Entry};
 use crate::numbers::{atom_kind, kind, tag};
-use crate::numbers::{BLOCK, CHECKED, MOST_ATOMS, MOST_BYTES, MOST_ENTRIES, VARIABLES};
+use crate::numbers::{BLOCK, CHECKED, ENTRIES, MOST_ATOM_BLOCKS, MOST_BYTES};
+use crate::numbers::{MOST_ENTRIES, VARIABLES};
 #[cfg(test)]
 use crate::slip::{self, Slip};
 use crate::term::{term_of, Term};
@@ -76,13 +77,24 @@ pub fn read(file: &[u8]) -> Result<Certificate, Refusal> {
             return Err(refuse(2, number, 0));
         }
     }
-    let mut certificate = Certificate::default();
-    let mut kind_before = None;
-    for number in 0..file.len() / BLOCK {
-        let block = &file[BLOCK * number..BLOCK * number + BLOCK];
-        read_block(&mut certificate, kind_before, number, block)?;
-        kind_before = Some(block::kind(block));
-        certificate.blocks += 1;
+    let blocks: Vec<&[u8]> = file.chunks(BLOCK).collect();
+    let mut certificate = Certificate {
+        blocks: blocks.len(),
+        ..Certificate::default()
+    };
+    let (atoms, terms) = blocks.split_at(atom_blocks(&blocks));
+    for number in 0..atoms.len() {
+        bytes_right(&blocks, number)?;
+        #[cfg(test)]
+        slip::judge_at_once(atoms, number)?;
+    }
+    #[cfg(test)]
+    slip::read_the_next_check(&blocks, atoms.len())?;
+    certificate.atoms = read_atoms(atoms)?;
+    for (i, block) in terms.iter().enumerate() {
+        let number = atoms.len() + i;
+        bytes_right(&blocks, number)?;
+        read_terms(&mut certificate, number, block)?;
     }
     if certificate.secrets.is_empty() || certificate.rules.is_empty() {
         return Err(refuse(4, certificate.blocks, 0));
@@ -90,24 +102,36 @@ pub fn read(file: &[u8]) -> Result<Certificate, Refusal> {
     Ok(certificate)
 }
 
-/// One block: 2, 3, 5, then 6, or 7 and 8.
-fn read_block(
-    certificate: &mut Certificate,
-    kind_before: Option<u8>,
-    number: usize,
-    block: &[u8],
-) -> Result<(), Refusal> {
-    if !check_right(block) {
+/// How many blocks hold atoms: byte 0 of the second says whether it is one.
+fn atom_blocks(blocks: &[&[u8]]) -> usize {
+    #[cfg(test)]
+    if let Some(count) = slip::atom_blocks_read(blocks) {
+        return count;
+    }
+    let is_one = |block: &&[u8]| block::kind(block) == kind::ATOMS;
+    match blocks.get(1).is_some_and(is_one) {
+        true => MOST_ATOM_BLOCKS,
+        false => 1,
+    }
+}
+
+/// Of one block: 2, 3, 5.
+fn bytes_right(blocks: &[&[u8]], number: usize) -> Result<(), Refusal> {
+    if !check_right(blocks[number]) {
         return Err(refuse(2, number, 0));
     }
-    if !kind_right(kind_before, block::kind(block)) {
+    if !kind_right(blocks, number) {
         return Err(refuse(3, number, 0));
     }
-    if !layout_right(block) {
+    if !layout_right(blocks[number]) || !full_before(blocks, number) {
         return Err(refuse(5, number, 0));
     }
+    Ok(())
+}
+
+/// A block with terms, after 2, 3 and 5: 7 and 8.
+fn read_terms(certificate: &mut Certificate, number: usize, block: &[u8]) -> Result<(), Refusal> {
     match block::kind(block) {
-        kind::ATOMS => certificate.atoms = read_atoms(number, block)?,
         kind::RULE => {
             let rule = read_rule(&certificate.atoms, number, block)?;
             certificate.rules.push(rule);
@@ -124,7 +148,7 @@ fn read_block(
     Ok(())
 }
 
-fn check_right(block: &[u8]) -> bool {
+pub(crate) fn check_right(block: &[u8]) -> bool {
     #[cfg(test)]
     if slip::is(Slip::CheckUnreduced) {
         return slip::same_remainders(block::check_of(block), block::stored_check(block));
@@ -132,12 +156,23 @@ fn check_right(block: &[u8]) -> bool {
     block::check_of(block) == block::stored_check(block)
 }
 
-/// Atoms first and only once, then the other kinds in rising order.
-fn kind_right(before: Option<u8>, kind: u8) -> bool {
-    match before {
-        None => kind == kind::ATOMS,
-        Some(before) => (kind::SECRET..=kind::RULE).contains(&kind) && before <= kind,
+/// Atoms first, in one block or two, then the other kinds in rising order.
+fn kind_right(blocks: &[&[u8]], number: usize) -> bool {
+    let kind = block::kind(blocks[number]);
+    if number < atom_blocks(blocks) {
+        return kind == kind::ATOMS;
     }
+    (kind::SECRET..=kind::RULE).contains(&kind) && block::kind(blocks[number - 1]) <= kind
+}
+
+/// Before a second atom block the first is full.
+fn full_before(blocks: &[&[u8]], number: usize) -> bool {
+    #[cfg(test)]
+    if slip::is(Slip::FirstNotFull) {
+        return true;
+    }
+    let is_second = (1..atom_blocks(blocks)).contains(&number);
+    !is_second || block::first_count(blocks[number - 1]) == ENTRIES
 }
 
 /// The counts, byte 3 and the unused entries.
@@ -149,7 +184,7 @@ fn counts_right(block: &[u8]) -> bool {
     let first = block::first_count(block);
     let second = block::second_count(block);
     match block::kind(block) {
-        kind::ATOMS => (1..=MOST_ATOMS).contains(&first) && second == 0,
+        kind::ATOMS => (1..=ENTRIES).contains(&first) && second == 0,
         kind::RULE => first <= MOST_ENTRIES && (1..=MOST_ENTRIES).contains(&second),
         _ => (1..=MOST_ENTRIES).contains(&first) && second == 0,
     }
@@ -166,21 +201,30 @@ fn unused_entries_zero(block: &[u8]) -> bool {
         .all(|byte| *byte == 0)
 }
 
-fn read_atoms(number: usize, block: &[u8]) -> Result<Vec<Atom>, Refusal> {
-    let atoms: Vec<Atom> = block::entries(block, 0, block::first_count(block))
-        .iter()
-        .map(|e| Atom {
-            kind: e.first,
-            known: e.second,
-            partner: e.value,
-        })
-        .collect();
+/// The atoms of one block, or of two as one list: 6 for each in turn.
+pub(crate) fn read_atoms(blocks: &[&[u8]]) -> Result<Vec<Atom>, Refusal> {
+    let atoms: Vec<Atom> = blocks.iter().flat_map(|block| atoms_in(block)).collect();
+    #[cfg(test)]
+    let atoms = slip::joined_otherwise(atoms);
     for i in 0..atoms.len() {
         if !atom_right(&atoms, i) {
-            return Err(refuse(6, number, i));
+            let (block, entry) = (i / ENTRIES, i % ENTRIES);
+            #[cfg(test)]
+            let entry = slip::atom_told(i, entry);
+            return Err(refuse(6, block, entry));
         }
     }
     Ok(atoms)
+}
+
+fn atoms_in(block: &[u8]) -> Vec<Atom> {
+    let entries = block::entries(block, 0, block::first_count(block));
+    let atom = |e: &Entry| Atom {
+        kind: e.first,
+        known: e.second,
+        partner: e.value,
+    };
+    entries.iter().map(atom).collect()
 }
 
 fn atom_right(atoms: &[Atom], i: usize) -> bool {
@@ -189,6 +233,10 @@ fn atom_right(atoms: &[Atom], i: usize) -> bool {
         atom_kind::PRINCIPAL | atom_kind::NONCE => atom.partner == 0,
         atom_kind::PUBLIC => names_back(atoms, i, atom_kind::PRIVATE),
         atom_kind::PRIVATE => names_back(atoms, i, atom_kind::PUBLIC),
+        #[cfg(test)]
+        atom_kind::SYMMETRIC if slip::is(Slip::SymmetricNamesItsPlace) => {
+            atom.partner as usize == i % ENTRIES
+        }
         atom_kind::SYMMETRIC => atom.partner as usize == i,
         _ => false,
     };
@@ -200,6 +248,8 @@ fn names_back(atoms: &[Atom], i: usize, kind: u8) -> bool {
     match atoms.get(atoms[i].partner as usize) {
         #[cfg(test)]
         Some(partner) if slip::is(Slip::PartnerNotNamedBack) => partner.kind == kind,
+        #[cfg(test)]
+        Some(_) if slip::is_beyond_its_block(atoms[i].partner, i) => false,
         Some(partner) => partner.kind == kind && partner.partner as usize == i,
         None => false,
     }
@@ -259,6 +309,8 @@ fn entries_right(
 /// Tag, zero byte and value, and whether a variable may stand here.
 fn entry_right(atoms: &[Atom], kind: u8, entry: &Entry) -> bool {
     let atom = atoms.get(entry.value as usize);
+    #[cfg(test)]
+    let atom = slip::atom_reached(atom, entry.value);
     let is_variable = entry.value < VARIABLES as u16;
     let tag_and_value_right = match entry.first {
         tag::ATOM => atom.is_some(),

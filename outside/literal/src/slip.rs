@@ -1,10 +1,12 @@
 //! Test builds only: wrong readings of the document, switched on one at a
 //! time, to see that the generated files tell each from the right reading.
 
+use crate::block;
 use crate::hats::{marks_below, SureHat};
-use crate::numbers::MODULUS;
-use crate::read::{Certificate, Rule};
+use crate::numbers::{atom_kind, kind, ENTRIES, MODULUS, MOST_ATOM_BLOCKS};
+use crate::read::{check_right, read_atoms, refuse, Atom, Certificate, Rule};
 use crate::term::{joined, strictly_above, Path, Place, Term};
+use crate::verdict::Refusal;
 use std::borrow::Cow;
 use std::cell::Cell;
 
@@ -53,6 +55,18 @@ pub enum Slip {
     TenBeforeNine,
     ClosedByInverse,
     RootKeyItself,
+    // Two atom blocks.
+    SecondNumberedFromZero,
+    SecondNumberedOneOn,
+    SecondNotReached,
+    SecondIfItsCheckIsRight,
+    FirstNotFull,
+    FirstAtomsAtOnce,
+    AtomsAfterTheNextCheck,
+    AtomByItsNumber,
+    PartnerInItsBlock,
+    SymmetricNamesItsPlace,
+    ThirdAtomBlock,
 }
 
 thread_local! {
@@ -172,7 +186,78 @@ pub fn inverse_read(key: u16, inverse: u16) -> u16 {
     }
 }
 
-const ALL: [Slip; 37] = [
+/// Wrong counts of atom blocks.
+pub fn atom_blocks_read(blocks: &[&[u8]]) -> Option<usize> {
+    let is_atoms = |block: &&&[u8]| block::kind(block) == kind::ATOMS;
+    let leading = blocks.iter().take_while(is_atoms).count();
+    if is(Slip::ThirdAtomBlock) && leading > MOST_ATOM_BLOCKS {
+        return Some(MOST_ATOM_BLOCKS + 1);
+    }
+    let second = blocks.get(1)?;
+    (is(Slip::SecondIfItsCheckIsRight) && !check_right(second)).then_some(1)
+}
+
+/// The entries of the first atom block judged in that block's turn.
+pub fn judge_at_once(atoms: &[&[u8]], number: usize) -> Result<(), Refusal> {
+    let counts_fit = atoms.iter().all(|a| block::first_count(a) <= ENTRIES);
+    if !is(Slip::FirstAtomsAtOnce) || number > 0 || !counts_fit {
+        return Ok(());
+    }
+    match read_atoms(atoms) {
+        Err(refusal) if refusal.block == 0 => Err(refusal),
+        _ => Ok(()),
+    }
+}
+
+/// 2 of the block after the atoms, before 6.
+pub fn read_the_next_check(blocks: &[&[u8]], next: usize) -> Result<(), Refusal> {
+    match blocks.get(next) {
+        Some(block) if is(Slip::AtomsAfterTheNextCheck) && !check_right(block) => {
+            Err(refuse(2, next, 0))
+        }
+        _ => Ok(()),
+    }
+}
+
+/// The second's atoms numbered otherwise: in place of the first's, or one on.
+pub fn joined_otherwise(mut atoms: Vec<Atom>) -> Vec<Atom> {
+    if atoms.len() <= ENTRIES {
+        return atoms;
+    }
+    if is(Slip::SecondNumberedFromZero) {
+        let second = atoms.split_off(ENTRIES);
+        let replaced = second.len().min(atoms.len());
+        atoms.splice(..replaced, second);
+    }
+    if is(Slip::SecondNumberedOneOn) {
+        let between = Atom {
+            kind: atom_kind::PRINCIPAL,
+            known: 1,
+            partner: 0,
+        };
+        atoms.insert(ENTRIES, between);
+    }
+    atoms
+}
+
+pub fn atom_told(number: usize, entry: usize) -> usize {
+    if is(Slip::AtomByItsNumber) {
+        number
+    } else {
+        entry
+    }
+}
+
+pub fn is_beyond_its_block(partner: u16, i: usize) -> bool {
+    is(Slip::PartnerInItsBlock) && partner as usize / ENTRIES != i / ENTRIES
+}
+
+pub fn atom_reached(atom: Option<&Atom>, number: u16) -> Option<&Atom> {
+    let kept = !is(Slip::SecondNotReached) || (number as usize) < ENTRIES;
+    atom.filter(|_| kept)
+}
+
+const ALL: [Slip; 48] = [
     Slip::BadAsInstanceForHat,
     Slip::MarkNotAsked,
     Slip::MarkStrictlyAbove,
@@ -210,6 +295,17 @@ const ALL: [Slip; 37] = [
     Slip::TenBeforeNine,
     Slip::ClosedByInverse,
     Slip::RootKeyItself,
+    Slip::SecondNumberedFromZero,
+    Slip::SecondNumberedOneOn,
+    Slip::SecondNotReached,
+    Slip::SecondIfItsCheckIsRight,
+    Slip::FirstNotFull,
+    Slip::FirstAtomsAtOnce,
+    Slip::AtomsAfterTheNextCheck,
+    Slip::AtomByItsNumber,
+    Slip::PartnerInItsBlock,
+    Slip::SymmetricNamesItsPlace,
+    Slip::ThirdAtomBlock,
 ];
 
 mod tests {

@@ -3,13 +3,7 @@
 mod common;
 
 use common::*;
-use literal::{encode, packed, seal, verdict, Term};
-
-/// Number, block, place of the verdict; zeros if accepted.
-fn spot(file: &[u8]) -> (u32, u32, u32) {
-    let packed = packed(&verdict(file));
-    (packed >> 16, packed >> 8 & 255, packed & 255)
-}
+use literal::{encode, seal, Term};
 
 /// Case a as blocks: atoms, two secrets, a good, a rule.
 fn case_a() -> Vec<Vec<u8>> {
@@ -60,8 +54,8 @@ fn number_3() {
     blocks.swap(2, 3);
     assert_eq!(spot(&blocks.concat()), (3, 3, 0));
     let mut blocks = case_a();
-    blocks.insert(1, blocks[0].clone());
-    assert_eq!(spot(&blocks.concat()), (3, 1, 0));
+    blocks.insert(2, blocks[0].clone());
+    assert_eq!(spot(&blocks.concat()), (3, 2, 0));
     let mut blocks = case_a();
     blocks.remove(0);
     assert_eq!(spot(&blocks.concat()), (3, 0, 0));

@@ -4,7 +4,8 @@
 use crate::names::BlockVariables;
 use crate::tokens::{tokens, Token};
 use literal::block::sealed;
-use literal::numbers::{atom_kind, kind, BLOCK, MOST_ATOMS, MOST_BLOCKS, MOST_ENTRIES};
+use literal::numbers::{atom_kind, kind, BLOCK, ENTRIES, ENTRY};
+use literal::numbers::{MOST_ATOMS, MOST_BLOCKS, MOST_ENTRIES};
 use literal::{encode, Term};
 use std::fmt;
 
@@ -21,16 +22,13 @@ impl fmt::Display for Error {
     }
 }
 
-/// The sealed blocks of a text: the atoms as the first block, then one block
-/// for each other line, in the order of the lines.
+/// The sealed blocks of a text: the atoms as the first block and, from the
+/// 127th on, the second; then one block for each other line, in their order.
 pub fn assemble(text: &str) -> Result<Vec<u8>, Error> {
     let lines = lines(text)?;
     let (atoms, others) = split(&lines)?;
     let names = atom_names(&atoms)?;
-    let mut file = Vec::new();
-    if !atoms.is_empty() {
-        file.extend(atom_block(&atoms, &names)?);
-    }
+    let mut file = atom_blocks(&atoms, &names)?;
     for line in others {
         if file.len() / BLOCK == MOST_BLOCKS {
             return Err(line.error(&format!("a {}th block", MOST_BLOCKS + 1)));
@@ -98,20 +96,22 @@ fn atom_names(atoms: &[&Line]) -> Result<Vec<String>, Error> {
             return Err(line.error(&format!("a second atom `{name}`")));
         }
         if names.len() == MOST_ATOMS {
-            return Err(line.error(&format!("a {}th atom", MOST_ATOMS + 1)));
+            return Err(line.error(&format!("more than {MOST_ATOMS} atoms")));
         }
         names.push(name.clone());
     }
     Ok(names)
 }
 
-fn atom_block(atoms: &[&Line], names: &[String]) -> Result<Vec<u8>, Error> {
+/// As many blocks as the atoms take, all but the last full.
+fn atom_blocks(atoms: &[&Line], names: &[String]) -> Result<Vec<u8>, Error> {
     let mut entries = Vec::new();
     for (number, line) in atoms.iter().enumerate() {
         let entry = atom_entry(number, &line.tokens, names).map_err(|m| line.error(&m))?;
         entries.extend(entry);
     }
-    Ok(sealed(kind::ATOMS, &entries, &[]))
+    let blocks = entries.chunks(ENTRY * ENTRIES);
+    Ok(blocks.flat_map(|e| sealed(kind::ATOMS, e, &[])).collect())
 }
 
 const ATOM_LINE: &str = "an atom line is `atom NAME principal|nonce|public|private|symmetric \

@@ -1,4 +1,5 @@
-//! The lines that the document's certificates to try begin with.
+//! The lines that the document's certificates to try begin with, and atoms for two
+//! blocks.
 
 /// Its atoms: A and I, the keys of both, N and T.
 pub const ATOMS: &str = "\
@@ -19,4 +20,24 @@ pub const GOOD: &str = "good {*s}KA\n";
 /// The name of one of its atoms.
 pub fn name(number: usize) -> Option<&'static str> {
     ATOMS.lines().nth(number)?.split(' ').nth(1)
+}
+
+/// So many nonces x0, x1 and on, to fill a block up.
+pub fn nonces(count: usize) -> String {
+    let atom = |i| format!("atom x{i} nonce known\n");
+    (0..count).map(atom).collect()
+}
+
+/// 131 atoms. The last of the first block is a private key; the second block has
+/// its public key, two keys that are partners, a symmetric key and a nonce.
+pub fn joined_atoms() -> String {
+    nonces(125)
+        + "\
+atom P private unknown partner Q
+atom Q public known partner P
+atom K public known partner L
+atom L private unknown partner K
+atom S symmetric unknown
+atom M nonce unknown
+"
 }

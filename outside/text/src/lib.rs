@@ -2,6 +2,7 @@
 
 mod assemble;
 pub mod document;
+pub mod level;
 mod names;
 mod print;
 mod tokens;

@@ -3,7 +3,7 @@
 
 use literal::block::{self, Entry};
 use literal::numbers::{atom_kind, kind, tag, BLOCK, ENTRIES, ENTRY, VARIABLES};
-use literal::numbers::{MOST_ATOMS, MOST_BLOCKS, MOST_BYTES, MOST_ENTRIES};
+use literal::numbers::{MOST_ATOM_BLOCKS, MOST_BLOCKS, MOST_BYTES, MOST_ENTRIES};
 use literal::term::term_of;
 use literal::Term;
 
@@ -22,14 +22,23 @@ pub fn print(file: &[u8]) -> String {
     printer.text
 }
 
-/// The entries of the first block, if that is an atom block.
+/// The entries of the first block, if that is an atom block, and of the second,
+/// if that is one too and goes on from a full one.
 fn atom_list(file: &[u8]) -> Vec<Entry> {
-    match file.get(..BLOCK) {
-        Some(first) if block::kind(first) == kind::ATOMS => {
-            block::entries(first, 0, block::first_count(first).min(ENTRIES))
+    let mut atoms = Vec::new();
+    for (number, block) in file.chunks_exact(BLOCK).enumerate() {
+        if !goes_on(&atoms, number, block) {
+            break;
         }
-        _ => Vec::new(),
+        atoms.extend(block::entries(block, 0, entries_used(block)));
     }
+    atoms
+}
+
+/// Whether this is an atom block whose atoms can be numbered on from these.
+fn goes_on(before: &[Entry], number: usize, block: &[u8]) -> bool {
+    let is_atoms = block::kind(block) == kind::ATOMS;
+    is_atoms && number < MOST_ATOM_BLOCKS && before.len() == ENTRIES * number
 }
 
 struct Printer {
@@ -72,11 +81,16 @@ impl Printer {
         }
         self.order(number, kind);
         self.header(number, block);
-        match (kind, number) {
-            (kind::ATOMS, 0) => self.atoms(block),
-            (kind::ATOMS, _) => self.second_atoms(number, block),
+        match kind {
+            kind::ATOMS if self.is_listed(number) => self.atoms(number, block),
+            kind::ATOMS => self.other_atoms(number, block),
             _ => self.terms(number, block),
         }
+    }
+
+    /// Whether the atoms of this block are in the list.
+    fn is_listed(&self, number: usize) -> bool {
+        self.atoms.len() > ENTRIES * number
     }
 
     fn check(&mut self, number: usize, block: &[u8]) {
@@ -91,11 +105,21 @@ impl Printer {
     fn order(&mut self, number: usize, kind: u8) {
         match self.kind_before {
             None if kind != kind::ATOMS => self.note(number, "the first block holds no atoms"),
-            Some(_) if kind == kind::ATOMS => self.note(number, "atoms after the first block"),
+            Some(kind::ATOMS) if kind == kind::ATOMS => self.more_atoms(number),
             Some(before) if before > kind => {
                 self.note(number, &format!("kind {kind} after kind {before}"))
             }
             _ => {}
+        }
+    }
+
+    /// An atom block right after another.
+    fn more_atoms(&mut self, number: usize) {
+        if number >= MOST_ATOM_BLOCKS {
+            let words = format!("more than {MOST_ATOM_BLOCKS} blocks of atoms");
+            self.note(number, &words);
+        } else if self.atoms.len() < ENTRIES * number {
+            self.note(number, "atoms after a block of atoms that is not full");
         }
     }
 
@@ -104,7 +128,7 @@ impl Printer {
         let first = block::first_count(block);
         let second = block::second_count(block);
         let first_right = match kind {
-            kind::ATOMS => (1..=MOST_ATOMS).contains(&first),
+            kind::ATOMS => (1..=ENTRIES).contains(&first),
             kind::RULE => first <= MOST_ENTRIES,
             _ => (1..=MOST_ENTRIES).contains(&first),
         };
@@ -131,17 +155,21 @@ impl Printer {
 
     // Atoms.
 
-    fn atoms(&mut self, block: &[u8]) {
+    fn atoms(&mut self, number: usize, block: &[u8]) {
         for i in 0..entries_used(block) {
-            let entry = block::entry(block, i);
-            match self.atom_line(i, &entry) {
+            let (entry, atom) = (block::entry(block, i), ENTRIES * number + i);
+            match self.atom_line(atom, &entry) {
                 Ok(line) => self.line(&line),
-                Err(fault) => self.note(0, &format!("entry {i}, {}: {fault}", self.name(i))),
+                Err(fault) => {
+                    let words = format!("entry {i}, {}: {fault}", self.name(atom));
+                    self.note(number, &words)
+                }
             }
         }
     }
 
-    fn second_atoms(&mut self, number: usize, block: &[u8]) {
+    /// Atoms that have no number.
+    fn other_atoms(&mut self, number: usize, block: &[u8]) {
         for i in 0..entries_used(block) {
             let e = block::entry(block, i);
             let words = format!(
@@ -152,7 +180,7 @@ impl Printer {
         }
     }
 
-    fn atom_line(&self, i: usize, entry: &Entry) -> Result<String, String> {
+    fn atom_line(&self, number: usize, entry: &Entry) -> Result<String, String> {
         let kind = match entry.first {
             atom_kind::PRINCIPAL => "principal",
             atom_kind::NONCE => "nonce",
@@ -169,10 +197,10 @@ impl Printer {
         let partner = entry.value as usize;
         let unsaid = match entry.first {
             atom_kind::PRINCIPAL | atom_kind::NONCE => partner == 0,
-            atom_kind::SYMMETRIC => partner == i,
+            atom_kind::SYMMETRIC => partner == number,
             _ => false,
         };
-        let line = format!("atom {} {kind} {known}", self.name(i));
+        let line = format!("atom {} {kind} {known}", self.name(number));
         if unsaid {
             return Ok(line);
         }

@@ -15,9 +15,9 @@ fn certificates() -> Vec<(String, String, Vec<u8>)> {
     paths.iter().map(read).collect()
 }
 
-/// The line expected in the base.
+/// The line expected at the present level.
 fn expected_line(text: &str) -> Option<String> {
-    let line = text.lines().find_map(|l| l.strip_prefix("#: expect 0 "))?;
+    let line = text::level::expected_line(text)?;
     Some(format!("{line}\n"))
 }
 
@@ -77,4 +77,17 @@ fn printed_texts_assemble_to_the_same_bytes() {
         }
         assert_eq!(text::assemble(&printed), Ok(bytes), "{name}");
     }
+}
+
+/// Of several comments the last that is in force, whatever their order.
+#[test]
+fn lines_by_level() {
+    let comment = |level: u32, line: &str| format!("#: expect {level} {line}\n");
+    let now = text::level::LEVEL;
+    let line = |comments: &[String]| text::level::expected_line(&comments.concat()).map(str::len);
+    assert_eq!(line(&[comment(0, "a")]), Some(1));
+    assert_eq!(line(&[comment(0, "a"), comment(now, "bb")]), Some(2));
+    assert_eq!(line(&[comment(now, "bb"), comment(0, "a")]), Some(2));
+    assert_eq!(line(&[comment(0, "a"), comment(now + 1, "bb")]), Some(1));
+    assert_eq!(line(&[comment(now + 1, "bb")]), None);
 }

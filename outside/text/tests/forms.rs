@@ -1,7 +1,7 @@
 //! The text form: the document's cases as text, round trips, errors, notes.
 
 use literal::{Refusal, Verdict};
-use text::document::{ATOMS, GOOD, SECRETS};
+use text::document::{nonces, ATOMS, GOOD, SECRETS};
 use text::{assemble, print};
 
 fn line_of(rest: &str) -> String {
@@ -111,9 +111,64 @@ fn more_than_blocks_hold() {
     assert_eq!(deep, "line 9: a term nested more than 63 deep");
     let blocks = "rule -> ?x\n".repeat(65);
     assert_eq!(error_of(&blocks), "line 65: a 65th block");
-    let atom = |i| format!("atom x{i} nonce known\n");
-    let atoms: String = (0..127).map(atom).collect();
-    assert_eq!(error_of(&atoms), "line 127: a 127th atom");
+    assert_eq!(error_of(&nonces(253)), "line 253: more than 252 atoms");
+}
+
+/// The 127th atom and those after it go on in a second block.
+#[test]
+fn a_second_block_of_atoms() {
+    let counts = |atoms: usize| {
+        let file = assemble(&nonces(atoms)).unwrap();
+        let blocks = file.chunks(512).map(|block| (block[0], block[1]));
+        blocks.collect::<Vec<_>>()
+    };
+    assert_eq!(counts(126), [(1, 126)]);
+    assert_eq!(counts(127), [(1, 126), (1, 1)]);
+    assert_eq!(counts(252), [(1, 126), (1, 126)]);
+    let lines = "\
+        atom K public known partner L\natom S symmetric unknown\natom L private unknown partner K\n\
+        secret S\nsecret L\ngood {*s}K\nrule {x0}S -> {S}K";
+    let file = assemble(&format!("{}{lines}", nonces(125))).unwrap();
+    let entries = |from: usize| file[from..from + 8].to_vec();
+    assert_eq!(file[..4], [1, 126, 0, 0]);
+    assert_eq!(file[504..508], [3, 1, 127, 0]);
+    assert_eq!(file[512..516], [1, 2, 0, 0]);
+    assert_eq!(entries(516), [5, 0, 126, 0, 4, 0, 125, 0]);
+    assert_eq!(entries(5 * 512 + 4), [3, 0, 126, 0, 1, 0, 0, 0]);
+    assert_eq!(entries(5 * 512 + 12), [3, 0, 125, 0, 1, 0, 126, 0]);
+    let accepted = "accepted blocks=6 secrets=2 good=1 bad=0 rules=1\n";
+    assert_eq!(literal::line(&literal::verdict(&file)), accepted.as_bytes());
+    let printed = print(&file);
+    assert!(printed.contains("\natom k125 public known partner k127\n"));
+    assert!(printed.ends_with("\nrule {n0}k126 -> {k126}k125\n"));
+    assert!(!printed.contains('#'));
+    assert_eq!(assemble(&printed), Ok(file));
+}
+
+/// Atom blocks that the text form has no lines for, or not all of them.
+#[test]
+fn notes_on_atom_blocks() {
+    let printed = |atoms: usize, change: fn(&mut Vec<u8>)| {
+        let mut file = assemble(&format!("{}secret x0", nonces(atoms))).unwrap();
+        change(&mut file);
+        file.chunks_mut(512).for_each(|b| {
+            literal::seal(b).unwrap();
+        });
+        print(&file)
+    };
+    let not_full = printed(127, |file| file[1] = 125);
+    assert!(not_full.contains("# block 1: atoms after a block of atoms that is not full\n"));
+    assert!(not_full.contains("# block 1: entry 0: atom of kind 2, known 1, partner 0\n"));
+    assert!(not_full.ends_with("\nsecret n0\n"));
+    let third = printed(127, |file| file[1024] = 1);
+    assert!(third.contains("# block 2: more than 2 blocks of atoms\n"));
+    assert!(third.contains("\natom n126 nonce known\n"));
+    let wrong = printed(130, |file| file[512 + 8] = 7);
+    assert!(wrong.contains("# block 1: entry 1, e127: 7 is no kind of atom\n"));
+    let after_terms = printed(1, |file| file[0] = 2);
+    assert!(after_terms.contains("# block 0: the first block holds no atoms\n"));
+    let number = printed(127, |file| file[1024 + 6] = 127);
+    assert!(number.contains("entry 0: not read, atom number 127 is not listed\n"));
 }
 
 #[test]

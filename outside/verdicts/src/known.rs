@@ -137,7 +137,7 @@ pub fn spot_in(line: &str) -> Option<Spot> {
 pub fn corpus() -> Result<Vec<Known>, String> {
     let of = |path: PathBuf| {
         let file = files::bytes(&path.with_extension("cert"))?;
-        with_line(&path, file, "#: expect 0 ")
+        with_line(&path, file, text::level::expected_line)
     };
     texts_in("../corpus")?.into_iter().map(of).collect()
 }
@@ -147,7 +147,7 @@ pub fn texts(folder: &str) -> Result<Vec<Known>, String> {
     let of = |path: PathBuf| {
         let assembled = text::assemble(&files::text(&path)?);
         let file = assembled.map_err(|error| files::told(&path, error))?;
-        with_line(&path, file, "# expect: ")
+        with_line(&path, file, own_line)
     };
     texts_in(folder)?.into_iter().map(of).collect()
 }
@@ -170,9 +170,15 @@ fn texts_in(folder: &str) -> Result<Vec<PathBuf>, String> {
     files::ending_in("txt", &here(folder))
 }
 
-/// The line that stands in the text after these words.
-fn with_line(path: &Path, file: Vec<u8>, words: &str) -> Result<Known, String> {
+/// The only line that a text expects.
+fn own_line(text: &str) -> Option<&str> {
+    text.lines()
+        .find_map(|line| line.strip_prefix("# expect: "))
+}
+
+/// With the line that is found in the text.
+fn with_line(path: &Path, file: Vec<u8>, line: fn(&str) -> Option<&str>) -> Result<Known, String> {
     let (name, text) = (files::name(path), files::text(path)?);
-    let line = text.lines().find_map(|line| line.strip_prefix(words));
-    Known::by_line(&name, file, line.ok_or(format!("{name}: no `{words}`"))?)
+    let line = line(&text).ok_or(format!("{name}: no line expected"))?;
+    Known::by_line(&name, file, line)
 }

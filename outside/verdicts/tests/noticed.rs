@@ -4,7 +4,7 @@ use generate::random::Random;
 use literal::{Refusal, Verdict};
 use verdicts::compare::differences;
 use verdicts::known::{self, Known};
-use verdicts::{cases, proved, Checker, Spot};
+use verdicts::{cases, more_atoms, proved, Checker, Spot};
 
 const FILES: u64 = 300;
 
@@ -149,7 +149,8 @@ fn bytes_around_are_noticed() {
 
 #[test]
 fn answers_written_down_are_the_lines_own_numbers() {
-    for known in cases::all().unwrap() {
+    let more = more_atoms::all().unwrap();
+    for known in cases::all().unwrap().into_iter().chain(more) {
         let again = Known::by_line(&known.name, known.file.clone(), &known.line).unwrap();
         assert_eq!(again.packed, known.packed, "{}", known.name);
     }

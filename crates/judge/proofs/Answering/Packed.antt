@@ -22,6 +22,7 @@ use Rattle.judge.specs.Meaning.{LengthRight, BlockFaulty, checkFails, ki
 use Rattle.judge.specs.Meaning.{entryFails, patternFails, premiseFails, conclusionFails, Formed, RefusedWith, lengthFails}
 use Rattle.judge.specs.Meaning.{blockFails, missing, secretKnown, secretNotClosed, keyNotKept, placeUncovered}
 use Rattle.judge.proofs.Answering.Answers.{numbers}
+use Rattle.judge.proofs.Files.AtomBlocks.{below}
 use Rattle.judge.proofs.Files.LaidLaws.{laid}
 use Rattle.judge.proofs.Files.Verdicts.{refused-iff}
 
@@ -39,11 +40,12 @@ block-small : {file : List ℕ} {i : ℕ} {f : Fault} → i ≤ mostBlocks → B
 block-small h (checkFails e n) = rw e (record { block = h; place = omega arith })
 block-small h (kindFails e c n) = rw e (record { block = h; place = omega arith })
 block-small h (layoutFails e c k n) = rw e (record { block = h; place = omega arith })
-block-small h (atomFails e s k l n b) = rw e (record { block = h; place = omega (arith, counts-room (s .layout .counts)) })
-block-small h (entryFails e s k l n b) = rw e (record { block = h; place = omega (arith, counts-room (s .layout .counts)) })
+block-small {file} {i} h (atomFails {j} {n} e s l low inside off all before) =
+    rw e (record { block = omega (arith, h, low); place = omega (arith, below file i s l j n low inside .0) })
+block-small h (entryFails e s k l n b) = rw e (record { block = h; place = omega (arith, counts-room (s .laid .layout .counts)) })
 block-small h (patternFails e s k r n) = rw e (record { block = h; place = omega arith })
 block-small h (premiseFails e s k r n) = rw e (record { block = h; place = omega arith })
-block-small h (conclusionFails e s k r p n) = rw e (record { block = h; place = omega (arith, counts-room (s .layout .counts)) })
+block-small h (conclusionFails e s k r p n) = rw e (record { block = h; place = omega (arith, counts-room (s .laid .layout .counts)) })
 
 -- An entry of the conclusion, counted in its block.
 rule-place : {file : List ℕ} {i k : ℕ} → Formed file → i < blockCount file → kindOf (blockAt file i) ≡ ruleKind

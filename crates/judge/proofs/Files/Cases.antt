@@ -1,8 +1,9 @@
--- Document 01's starred certificates to try: whole files in one table, under one theorem by computation.
+-- Document 01's starred certificates to try, and those of document 02's requests: whole files in one table, under one
+-- theorem by computation.
 use mathlib.Core.Path.{_≡_, refl, sym, subst}
 use mathlib.Core.Logic.{_⊎_, inl, inr}
 use mathlib.Core.List.{List, [], _∷_, _++_, List·Memᴰ, List·Memᴰ·not-nil, List·Memᴰ·cases-cons}
-use Prim.Native.Nat.{ℕ, zero, suc}
+use Prim.Native.Nat.{ℕ, zero, suc, _+_}
 use Prim.Native.String.{String}
 use Rattle.blocks.specs.Block.{blockAt}
 use Rattle.blocks.specs.Check.{sealed}
@@ -64,11 +65,14 @@ joined (b ∷ l) = b ++ joined l
 
 -- Atoms: 0 A, 1 I, principals, known; 2 public key of A, known, and 3 its private key, unknown; 4 public key of I and 5
 -- its private key, both known; 6 nonce N, unknown; 7 nonce T, known.
+eight : List ℕ
+eight =
+    1 ∷ 1 ∷ 0 ∷ 0 ∷ 1 ∷ 1 ∷ 0 ∷ 0 ∷ 3 ∷ 1 ∷ 3 ∷ 0 ∷ 4 ∷ 0 ∷ 2 ∷ 0
+    ∷ 3 ∷ 1 ∷ 5 ∷ 0 ∷ 4 ∷ 1 ∷ 4 ∷ 0 ∷ 2 ∷ 0 ∷ 0 ∷ 0 ∷ 2 ∷ 1 ∷ 0 ∷ 0 ∷ []
+
 atoms : List ℕ
-unfolding block
-atoms = block 1 8 0
-    (1 ∷ 1 ∷ 0 ∷ 0 ∷ 1 ∷ 1 ∷ 0 ∷ 0 ∷ 3 ∷ 1 ∷ 3 ∷ 0 ∷ 4 ∷ 0 ∷ 2 ∷ 0
-    ∷ 3 ∷ 1 ∷ 5 ∷ 0 ∷ 4 ∷ 1 ∷ 4 ∷ 0 ∷ 2 ∷ 0 ∷ 0 ∷ 0 ∷ 2 ∷ 1 ∷ 0 ∷ 0 ∷ [])
+unfolding block eight
+atoms = block 1 8 0 eight
 
 abbrev I : Term Variable
 I = atom 1
@@ -96,9 +100,35 @@ usual : List (List ℕ) → List ℕ
 unfolding joined atoms secret good
 usual rest = joined (atoms ∷ secret N ∷ secret K ∷ good (encrypted 2 s) ∷ rest)
 
+-- ---- two atom blocks (02, No. 1)
+
+-- So many known nonces.
+nonces : ℕ → List ℕ
+nonces zero = []
+nonces (suc n) = 2 ∷ 1 ∷ 0 ∷ 0 ∷ nonces n
+
+-- A first block: document 01's atoms, so many nonces, and a private key, unknown, with this partner.
+firstAtoms : ℕ → ℕ → List ℕ
+unfolding block eight nonces
+firstAtoms n partner = block 1 (9 + n) 0 (eight ++ (nonces n ++ (4 ∷ 0 ∷ partner ∷ 0 ∷ [])))
+
+-- A full one: the key is atom 125.
+full : List ℕ
+unfolding firstAtoms
+full = firstAtoms 117 126
+
+-- A second block: atom 126 is the public key of 125, and so many nonces.
+more : ℕ → List ℕ
+unfolding block nonces
+more n = block 1 (1 + n) 0 (3 ∷ 1 ∷ 125 ∷ 0 ∷ nonces n)
+
+-- The private key is atom 125.
+abbrev L : Term Variable
+L = atom 125
+
 -- ---- the table
 
--- What document 01 says of a case.
+-- What the documents say of a case.
 pub data Case : Type 0 where
   -- The file gets this number, with block and place, or 0 with its counts.
   judged : List ℕ → VerdictValues → Case
@@ -137,7 +167,7 @@ unfolding usual from
 k = usual (from N K ∷ [])
 
 pub table : List Case
-unfolding a b k usual joined atoms secret good bad from start accepted refused
+unfolding a b k usual joined atoms secret good bad from start accepted refused full more firstAtoms block zeros
 table =
     judged a (accepted 5 2 1 0 1)
     ∷ printed a "accepted blocks=5 secrets=2 good=1 bad=0 rules=1\n"
@@ -165,6 +195,21 @@ table =
     ∷ isDead k 4
     -- l. (x, x) and (y, (T, y))
     ∷ apart (pair x x) (pair y (pair T y))
+    -- two atom blocks, secrets N and 125, good {*s}126, conclusion {N}126: a rule that uses a key of the second
+    ∷ judged (joined (full ∷ more 0 ∷ secret N ∷ secret L ∷ good (encrypted 126 s) ∷ start (encrypted 126 N) ∷ [])) (accepted 6 2 1 0 1)
+    -- a first block of 125 atoms
+    ∷ judged (joined (firstAtoms 116 126 ∷ more 0 ∷ secret N ∷ [])) (refused 5 1 0)
+    -- a wrong entry in block 0, with a wrong check in block 1 and without
+    ∷ judged (joined (firstAtoms 117 2 ∷ (1 ∷ zeros 511) ∷ [])) (refused 2 1 0)
+    ∷ judged (joined (firstAtoms 117 2 ∷ more 0 ∷ [])) (refused 6 0 125)
+    -- and with a third atom block, which is looked at later
+    ∷ judged (joined (firstAtoms 117 2 ∷ more 0 ∷ more 0 ∷ [])) (refused 6 0 125)
+    -- a symmetric key of the second block that names its place there
+    ∷ judged (joined (full ∷ block 1 2 0 (3 ∷ 1 ∷ 125 ∷ 0 ∷ 5 ∷ 0 ∷ 1 ∷ 0 ∷ []) ∷ [])) (refused 6 1 1)
+    -- a third atom block
+    ∷ judged (joined (full ∷ more 0 ∷ more 0 ∷ [])) (refused 3 2 0)
+    -- 252 atoms: a pair of 251 and 252
+    ∷ judged (joined (full ∷ more 125 ∷ secret (pair (atom 251) (atom 252)) ∷ [])) (refused 7 2 2)
     ∷ []
 
 -- ---- the theorem
@@ -190,8 +235,9 @@ rows =
     refl also refl also refl also refl also refl also refl also refl also refl also refl also refl also refl also refl also refl
     also yes-of (dead? (certificateOf k) (ruleOf (blockAt k 4))) refl
     also no-of (share? variable? variable? (pair x x) (pair y (pair T y))) refl
+    also refl also refl also refl also refl also refl also refl also refl also refl
     also none
 
--- "The starred ones, gathered in one table under one theorem": every row of the table holds.
+-- "The starred ones, gathered in one table under one theorem", with those of the requests: every row of the table holds.
 pub cases : (c : Case) → List·Memᴰ c table → Holds c
 cases = each rows

@@ -9,14 +9,12 @@ use native.Mathlib.Omega.{arith}
 use native.Mathlib.Decide.{decLt, decLe}
 use lib.ListN.{length}
 use Rattle.blocks.specs.Kinds.{secretKind, goodKind, badKind, ruleKind}
-use Rattle.blocks.specs.Limits.{mostEntries}
-use Rattle.blocks.specs.Block.{blockAt, firstEntries}
+use Rattle.blocks.specs.Limits.{mostAtoms}
 use Rattle.blocks.proofs.KindLaws.{secret-lists, good-lists, bad-lists}
-use Rattle.blocks.proofs.Parts.{first-length}
 use Rattle.terms.specs.Term.{Term, variable, atom, pair, Variable, instance, replace, wrapped}
 use Rattle.terms.specs.declared.atom.Atom.{Atom}
 use Rattle.terms.specs.Atom.{IsKey, isKey?}
-use Rattle.terms.proofs.AtomLaws.{key-listed, length-atoms}
+use Rattle.terms.proofs.AtomLaws.{key-listed}
 use Rattle.terms.specs.Place.{Place, subtermAt}
 use Rattle.terms.specs.Turns.{by-turns}
 use Rattle.terms.specs.Instance.{Matches, Share}
@@ -30,7 +28,8 @@ use Rattle.judge.specs.Meaning.{Formed}
 use Rattle.judge.specs.Cover.{Risky, isVariable, sharesSecret, SureHat, NoHat, sharesNoGood, isBad, Open}
 use Rattle.judge.specs.Foreign.{Holding, NoForeign, ProperMatch, ProperShare, ProperRisky, ProperSureHat, ProperNoHat, ProperOpen, SameCover}
 use Rattle.judge.specs.Foreign as proper
-use Rattle.judge.proofs.Files.LaidLaws.{fits, pattern-right, premise-right, conclusion-right}
+use Rattle.judge.proofs.Files.AtomBlocks.{few-atoms}
+use Rattle.judge.proofs.Files.LaidLaws.{laid, pattern-right, premise-right, conclusion-right}
 use Rattle.judge.proofs.Files.Members.{listed}
 
 -- ---- the atoms and keys of a term
@@ -90,14 +89,9 @@ module _ (file : List ℕ) (w : Formed file) where
     conclusions = listed file ruleKind ruleOf _ (λ i h k. right-built (conclusion-right file i (w .blocks i h) k));
   }
 
-  -- There are at most 126.
-  few : length (fileAtoms file) ≤ mostEntries
-  unfolding fileAtoms
-  few =
-      let l = w .long in
-      let f = fits file 0 (w .blocks 0 (omega arith)) in
-      let r = f .room in
-      omega (arith, length-atoms (firstEntries (blockAt file 0)), first-length (blockAt file 0) f)
+  -- There are at most 252.
+  few : length (fileAtoms file) ≤ mostAtoms
+  few = few-atoms file (laid file (w .long) (w .blocks) .atoms)
 
   pub no-foreign : NoForeign (certificateOf file)
   unfolding certificateOf fileAtoms

@@ -7,36 +7,35 @@ use mathlib.Core.Option.{Option}
 use Prim.Native.Nat.{ℕ, zero, suc, _+_, _*_, _/_, _%_, _<_, _≤_}
 use native.Mathlib.Decide.{ℕ-discrete}
 use native.Mathlib.Omega.{arith}
-use lib.Dec.{eqb, leb}
+use lib.Dec.{eqb, leb, ltb}
 use lib.ListN.{length, length-append}
 use Rattle.blocks.specs.Kinds.{atomsKind, secretKind, goodKind, badKind, ruleKind, ListsTerm, HoldsTerms}
-use Rattle.blocks.specs.Limits.{blockSize, mostBytes}
+use Rattle.blocks.specs.Limits.{blockSize, mostBytes, mostEntries, mostAtomBlocks}
 use Rattle.blocks.specs.Block.{blockAt, kindOf, firstCount, secondCount, firstEntries, secondEntries, Fitting}
 use Rattle.blocks.specs.Check.{CheckRight, checkRight}
 use Rattle.blocks.specs.Layout.{LayoutRight, layoutRight, within}
 use Rattle.blocks.proofs.Sealing.{check-right, right-check}
 use Rattle.blocks.proofs.Layouts.{layout-right, right-layout, layout-fits}
 use Rattle.blocks.proofs.Parts.{first-length, second-length, entries-used}
-use Rattle.terms.specs.Term.{encryption}
 use Rattle.terms.specs.Entry.{termOf}
 use Rattle.terms.specs.declared.atom.Atom.{Atom}
-use Rattle.terms.specs.Atom.{atomsOf, atomRight?, wrongAtom}
-use Rattle.terms.proofs.AtomLaws.{length-atoms}
+use Rattle.terms.specs.Atom.{AtomRight, atomRight?, wrongAtom}
 use Rattle.terms.specs.TermEntry.{rightAt?, wrongEntry}
 use Rattle.terms.specs.OneTerm.{OneTerm, IsEncryption, encryption?}
 use Rattle.terms.specs.Reading.{oneTerm?}
 use Rattle.terms.specs.Decide.{answer}
 use Rattle.terms.specs.Decisions.{Says, says-same}
-use Rattle.terms.proofs.AnswerLaws.{says-eq}
+use Rattle.terms.proofs.AnswerLaws.{says-eq, says-lt}
 use Rattle.judge.specs.declared.verdict.Fault.{Fault}
-use Rattle.judge.specs.declared.verdict.Fault.the-variants.{Length, Check, Kind, Layout, AtomEntry, TermEntry, NotOneTerm}
-use Rattle.judge.specs.Verdict.{lengthRight, lengthFault, kindRight, atomFault, entryFault, rootRight}
-use Rattle.judge.specs.File.{fileAtoms, usedEntries}
+use Rattle.judge.specs.declared.verdict.Fault.the-variants.{Length, Check, Kind, Layout, TermEntry, NotOneTerm}
+use Rattle.judge.specs.Verdict.{lengthRight, lengthFault, laterKind, kindRight, behindFull, laidOut, atomEntry, atomFault, atomsFault, entryFault, rootRight}
+use Rattle.judge.specs.File.{TwoAtomBlocks, fileAtoms, usedEntries}
 use Rattle.judge.specs.Verdict.{patternFault, conclusionFault, rulePartsFault, termFault, entriesFault, blockFault}
-use Rattle.judge.specs.Meaning.{LengthRight, KindRight, first, later, Shaped, AtomEntryRight, TermEntryRight, EntriesRight, PatternRight}
+use Rattle.judge.specs.Meaning.{LengthRight, KindRight, atomBlock, later, LaidOut, Shaped, LastAtoms, AtomEntriesRight, TermEntryRight, EntriesRight, PatternRight}
 use Rattle.judge.specs.Meaning.{PremiseRight, BlockRight, BlockFaulty, checkFails, kindFails, layoutFails, atomFails}
 use Rattle.judge.specs.Meaning.{entryFails, patternFails, premiseFails, conclusionFails}
-use Rattle.judge.proofs.Files.Exact.{Exact, reworded, tested, tested-then, either, then, FirstPlace, at, first-place}
+use Rattle.judge.proofs.Files.Exact.{Exact, found-none, reworded, tested, tested-then, either, then, FirstPlace, at, first-place}
+use Rattle.judge.proofs.Files.AtomBlocks.{FirstNumber, entries-to, entries-back, first-to, first-back}
 use Rattle.judge.proofs.Files.Exact.{says-test, says-decided, says-le, says-both, says-within}
 
 -- ---- what the tests say
@@ -51,14 +50,14 @@ says-length file = says-same (lengthRight file) (λ w. record { some-byte = w .0
     n : ℕ
     n = length file
 
-says-kind : (file : List ℕ) (i : ℕ) → Says (kindRight file i) (KindRight file i)
-unfolding kindRight
-says-kind file zero = says-same (kindRight file zero) (first refl) go (says-eq (kindOf (blockAt file 0)) atomsKind)
+says-later : (file : List ℕ) (i : ℕ) → ¬ (kindOf (blockAt file i) ≡ atomsKind) → Says (laterKind file i) (KindRight file i)
+unfolding laterKind
+says-later file zero n = go
   where
-    go : KindRight file zero → kindOf (blockAt file 0) ≡ atomsKind
-    go (first e k) = k
-    go (later e l h b) = absurd (omega arith)
-says-kind file (suc i) = says-same (kindRight file (suc i)) (λ w. later refl (w .0 .0) (w .0 .1) (w .1)) go
+    go : ¬ KindRight file zero
+    go (atomBlock l k) = n k
+    go (later e l h b) = omega arith
+says-later file (suc i) n = says-same (laterKind file (suc i)) (λ w. later refl (w .0 .0) (w .0 .1) (w .1)) go
     (says-both ((secretKind ≤ kind) × (kind ≤ ruleKind)) (before ≤ kind) (within secretKind ruleKind kind) (leb before kind) (says-within secretKind ruleKind kind) (says-le before kind))
   where
     kind : ℕ
@@ -69,8 +68,43 @@ says-kind file (suc i) = says-same (kindRight file (suc i)) (λ w. later refl (w
 
     go : KindRight file (suc i) → ((secretKind ≤ kindOf (blockAt file (suc i))) × (kindOf (blockAt file (suc i)) ≤ ruleKind))
         × (kindOf (blockAt file i) ≤ kindOf (blockAt file (suc i)))
-    go (first e k) = absurd (omega arith)
+    go (atomBlock l k) = absurd (n k)
     go (later {j} e l h b) = let same : j ≡ i = omega arith in ((l, h), (rw same at b))
+
+pub says-kind : (file : List ℕ) (i : ℕ) → Says (kindRight file i) (KindRight file i)
+unfolding kindRight
+says-kind file i = go (eqb kind atomsKind) (says-eq kind atomsKind)
+  where
+    kind : ℕ
+    kind = kindOf (blockAt file i)
+
+    low : KindRight file i → kindOf (blockAt file i) ≡ atomsKind → i < mostAtomBlocks
+    low (atomBlock l k) is = l
+    low (later e l h b) is = absurd (omega arith)
+
+    go : (t : Bool) → Says t (kindOf (blockAt file i) ≡ atomsKind)
+        → Says (elim t [ true ↦ ltb i mostAtomBlocks | false ↦ laterKind file i ]) (KindRight file i)
+    go true is = says-same (ltb i mostAtomBlocks) (λ l. atomBlock l is) (λ k. low k is) (says-lt i mostAtomBlocks)
+    go false n = says-later file i n
+
+says-full : (file : List ℕ) (i : ℕ) → Says (behindFull file i) (i ≡ 1 → TwoAtomBlocks file → firstCount (blockAt file 0) ≡ mostEntries)
+unfolding behindFull
+says-full file i = go (eqb i 1 && eqb (kindOf (blockAt file 1)) atomsKind)
+    (says-both (i ≡ 1) (TwoAtomBlocks file) (eqb i 1) (eqb (kindOf (blockAt file 1)) atomsKind) (says-eq i 1) (says-eq (kindOf (blockAt file 1)) atomsKind))
+  where
+    go : (t : Bool) → Says t ((i ≡ 1) × TwoAtomBlocks file)
+        → Says (elim t [ true ↦ eqb (firstCount (blockAt file 0)) mostEntries | false ↦ true ])
+        (i ≡ 1 → TwoAtomBlocks file → firstCount (blockAt file 0) ≡ mostEntries)
+    go true w = says-same (eqb (firstCount (blockAt file 0)) mostEntries) (λ e one two. e) (λ f. f (w .0) (w .1))
+        (says-eq (firstCount (blockAt file 0)) mostEntries)
+    go false n = λ one two. absurd (n (one, two))
+
+pub says-laid : (file : List ℕ) (i : ℕ) → Says (laidOut file i) (LaidOut file i)
+unfolding laidOut
+says-laid file i = says-same (laidOut file i) (λ w. record { layout = w .0; full = w .1 }) (λ r. (r .layout, r .full))
+    (says-both (LayoutRight (blockAt file i)) (i ≡ 1 → TwoAtomBlocks file → firstCount (blockAt file 0) ≡ mostEntries)
+    (layoutRight (blockAt file i)) (behindFull file i)
+    (says-test (layoutRight (blockAt file i)) (layout-right (blockAt file i)) (right-layout (blockAt file i))) (says-full file i))
 
 says-root : (b : List ℕ) → Says (rootRight (kindOf b) (firstEntries b)) (goodKind ≤ kindOf b → kindOf b ≤ badKind → IsEncryption (termOf (firstEntries b)))
 unfolding rootRight
@@ -107,12 +141,42 @@ recount : {P : ℕ → Type 0} {F : ℕ → Fault} {o : Option Fault} (c d : ℕ
     → Exact ((n : ℕ) → n < c → P n) (FirstPlace P c F) o → Exact ((n : ℕ) → n < d → P n) (FirstPlace P d F) o
 recount {P} {F} {o} c d e x = rw e at x
 
-module _ (i : ℕ) (b : List ℕ) (fits : Fitting b) where
-  atom-judged : Exact ((n : ℕ) → n < firstCount b → AtomEntryRight b n) (FirstPlace (AtomEntryRight b) (firstCount b) (AtomEntry i)) (atomFault i b)
-  unfolding atomFault wrongAtom
-  atom-judged = recount (length (atomsOf (firstEntries b))) (firstCount b) (omega (arith, length-atoms (firstEntries b), first-length b fits))
-      (first-place (atomRight? (atomsOf (firstEntries b))) (length (atomsOf (firstEntries b))) (AtomEntry i))
+-- At the last atom block, all of them.
+atoms-judged : (file : List ℕ) (i : ℕ) → Shaped file i → kindOf (blockAt file i) ≡ atomsKind
+    → Exact (LastAtoms file i → (j : ℕ) → j ≤ i → AtomEntriesRight file j) (λ g. LastAtoms file i × FirstNumber file g) (atomsFault file i)
+unfolding atomsFault atomFault wrongAtom
+atoms-judged file i shaped is = reworded to back (λ g w. wrong-to g w) (λ g w. wrong-back g w)
+    (either (eqb i 0 && eqb (kindOf (blockAt file 1)) atomsKind)
+    (says-both (i ≡ 0) (TwoAtomBlocks file) (eqb i 0) (eqb (kindOf (blockAt file 1)) atomsKind) (says-eq i 0) (says-eq (kindOf (blockAt file 1)) atomsKind))
+    (λ w. found-none {Right = Unit {0}} {Wrong = λ g. ⊥} tt (λ f v. v))
+    (λ n. first-place (atomRight? (fileAtoms file)) (length (fileAtoms file)) atomEntry))
+  where
+    First : Type 0
+    First = (i ≡ 0) × TwoAtomBlocks file
 
+    last : ¬ First → LastAtoms file i
+    last n = record { is = is; last = λ z two. n (z, two) }
+
+    none-last : First → ¬ LastAtoms file i
+    none-last w l = l .last (w .0) (w .1)
+
+    All : Type 0
+    All = (n : ℕ) → n < length (fileAtoms file) → AtomRight (fileAtoms file) n
+
+    to : (First → Unit {0}) × (¬ First → All) → LastAtoms file i → (j : ℕ) → j ≤ i → AtomEntriesRight file j
+    to w l = entries-to file i shaped l (w .1 (λ f. none-last f l))
+
+    back : (LastAtoms file i → (j : ℕ) → j ≤ i → AtomEntriesRight file j) → (First → Unit {0}) × (¬ First → All)
+    back all = (λ f. tt, λ n. entries-back file i shaped (last n) (all (last n)))
+
+    wrong-to : (g : Fault) → (First × ⊥) ⊎ ((¬ First) × FirstNumber file g) → LastAtoms file i × FirstNumber file g
+    wrong-to g (inl w) = absurd (w .1)
+    wrong-to g (inr w) = (last (w .0), w .1)
+
+    wrong-back : (g : Fault) → LastAtoms file i × FirstNumber file g → (First × ⊥) ⊎ ((¬ First) × FirstNumber file g)
+    wrong-back g w = inr ((λ f. none-last f (w .0)), w .1)
+
+module _ (i : ℕ) (b : List ℕ) (fits : Fitting b) where
   entry-judged : (atoms : List Atom)
       → Exact (EntriesRight atoms b) (FirstPlace (TermEntryRight atoms b) (firstCount b + secondCount b) (TermEntry i)) (entryFault atoms i b)
   unfolding entryFault wrongEntry
@@ -194,7 +258,7 @@ module _ (file : List ℕ) (i : ℕ) where
   b = blockAt file i
 
   abbrev Content : Type 0
-  Content = (kindOf b ≡ atomsKind → (n : ℕ) → n < firstCount b → AtomEntryRight b n)
+  Content = (kindOf b ≡ atomsKind → LastAtoms file i → (j : ℕ) → j ≤ i → AtomEntriesRight file j)
       × (¬ (kindOf b ≡ atomsKind) → EntriesRight (fileAtoms file) b
       × ((kindOf b ≡ ruleKind → PremiseRight b × OneTerm (secondEntries b)) × (¬ (kindOf b ≡ ruleKind) → PatternRight b)))
 
@@ -202,20 +266,20 @@ module _ (file : List ℕ) (i : ℕ) where
   TermsWrong g = ((kindOf b ≡ ruleKind) × RuleWrong i b g) ⊎ ((¬ (kindOf b ≡ ruleKind)) × ((g ≡ NotOneTerm i 0) × (¬ PatternRight b)))
 
   abbrev ContentWrong : Fault → Type 0
-  ContentWrong g = ((kindOf b ≡ atomsKind) × FirstPlace (AtomEntryRight b) (firstCount b) (AtomEntry i) g)
+  ContentWrong g = ((kindOf b ≡ atomsKind) × (LastAtoms file i × FirstNumber file g))
       ⊎ ((¬ (kindOf b ≡ atomsKind)) × (FirstPlace (TermEntryRight (fileAtoms file) b) (firstCount b + secondCount b) (TermEntry i) g
       ⊎ (EntriesRight (fileAtoms file) b × TermsWrong g)))
 
   module _ (shaped : Shaped file i) where
     fits : Fitting b
-    fits = layout-fits b (shaped .layout)
+    fits = layout-fits b (shaped .laid .layout)
 
     -- The kinds that the tests leave.
     others : ¬ (kindOf b ≡ atomsKind) → HoldsTerms (kindOf b)
     others n = go (shaped .kind)
       where
         go : KindRight file i → HoldsTerms (kindOf b)
-        go (first e k) = absurd (n k)
+        go (atomBlock l k) = absurd (n k)
         go (later e l h p) = record { low = l; high = h }
 
     patterns : ¬ (kindOf b ≡ atomsKind) → ¬ (kindOf b ≡ ruleKind) → ListsTerm (kindOf b)
@@ -224,7 +288,7 @@ module _ (file : List ℕ) (i : ℕ) where
     to : Content → BlockRight file i
     to w = record {
       shaped = shaped;
-      atoms = w .0;
+      atoms = λ l. w .0 (l .is) l;
       entries = λ l. w .1 (λ z. omega (arith, l .low)) .0;
       pattern = λ l. w .1 (λ z. omega (arith, l .low)) .1 .1 (λ z. omega (arith, l .high));
       premise = λ e. w .1 (λ z. omega arith) .1 .0 e .0;
@@ -233,7 +297,7 @@ module _ (file : List ℕ) (i : ℕ) where
 
     back : BlockRight file i → Content
     back r = (
-      r .atoms,
+      λ is. r .atoms,
       λ n. (
         r .entries (others n),
         ((λ e. (r .premise e, r .conclusion e)), λ m. r .pattern (patterns n m)),
@@ -242,10 +306,7 @@ module _ (file : List ℕ) (i : ℕ) where
 
     wrong-to : (g : Fault) → ContentWrong g → BlockFaulty file i g
     unfolding RuleWrong
-    wrong-to g (inl (e, w)) = go w
-      where
-        go : FirstPlace (AtomEntryRight b) (firstCount b) (AtomEntry i) g → BlockFaulty file i g
-        go (at q l off all) = atomFails q shaped e l off all
+    wrong-to g (inl (e, w)) = first-to file i shaped (w .0) g (w .1)
     wrong-to g (inr (n, inl w)) = go w
       where
         go : FirstPlace (TermEntryRight (fileAtoms file) b) (firstCount b + secondCount b) (TermEntry i) g → BlockFaulty file i g
@@ -258,25 +319,25 @@ module _ (file : List ℕ) (i : ℕ) where
     unfolding RuleWrong
     wrong-back g (checkFails e n) = absurd (n (shaped .check))
     wrong-back g (kindFails e c n) = absurd (n (shaped .kind))
-    wrong-back g (layoutFails e c k n) = absurd (n (shaped .layout))
-    wrong-back g (atomFails e s k l off all) = inl (k, at e l off all)
+    wrong-back g (layoutFails e c k n) = absurd (n (shaped .laid))
+    wrong-back g (atomFails e s l low h off all before) = inl (l .is, (l, first-back file i s l g e low h off all before))
     wrong-back g (entryFails e s k l off all) = inr ((λ z. omega (arith, k .low)), inl (at e l off all))
     wrong-back g (patternFails e s k all off) =
         inr ((λ z. omega (arith, k .low)), inr (all, inr ((λ z. omega (arith, k .high)), (e, off))))
     wrong-back g (premiseFails e s k all off) = inr ((λ z. omega arith), inr (all, inl (k, inl (e, off))))
     wrong-back g (conclusionFails e s k all p off) = inr ((λ z. omega arith), inr (all, inl (k, inr (p, (e, off)))))
 
-    content-judged : Exact (BlockRight file i) (BlockFaulty file i) (entriesFault (fileAtoms file) i (blockAt file i))
+    content-judged : Exact (BlockRight file i) (BlockFaulty file i) (entriesFault file i)
     unfolding entriesFault termFault
     content-judged = reworded to back wrong-to wrong-back
-        (either (eqb (kindOf b) atomsKind) (says-eq (kindOf b) atomsKind) (λ e. atom-judged i b fits)
+        (either (eqb (kindOf b) atomsKind) (says-eq (kindOf b) atomsKind) (λ e. atoms-judged file i shaped e)
         (λ n. then (entryFault (fileAtoms file) i b) (entry-judged i b fits (fileAtoms file))
         (λ all. either (eqb (kindOf b) ruleKind) (says-eq (kindOf b) ruleKind) (λ r. rule-judged i b) (λ m. pattern-judged i b))))
 
   -- 2, 3, 5, and then these.
   abbrev BlockWrong : Fault → Type 0
   BlockWrong g = ((g ≡ Check i) × (¬ CheckRight b)) ⊎ (CheckRight b × (((g ≡ Kind i) × (¬ KindRight file i))
-      ⊎ (KindRight file i × (((g ≡ Layout i) × (¬ LayoutRight b)) ⊎ (LayoutRight b × BlockFaulty file i g)))))
+      ⊎ (KindRight file i × (((g ≡ Layout i) × (¬ LaidOut file i)) ⊎ (LaidOut file i × BlockFaulty file i g)))))
 
   block-to : (g : Fault) → BlockWrong g → BlockFaulty file i g
   block-to g (inl w) = checkFails (w .0) (w .1)
@@ -288,13 +349,13 @@ module _ (file : List ℕ) (i : ℕ) where
   block-back g w = go w
     where
       later-on : Shaped file i → BlockWrong g
-      later-on s = inr (s .check, inr (s .kind, inr (s .layout, w)))
+      later-on s = inr (s .check, inr (s .kind, inr (s .laid, w)))
 
       go : BlockFaulty file i g → BlockWrong g
       go (checkFails e n) = inl (e, n)
       go (kindFails e c n) = inr (c, inl (e, n))
       go (layoutFails e c k n) = inr (c, inr (k, inl (e, n)))
-      go (atomFails e s k l off all) = later-on s
+      go (atomFails e s l low h off all before) = later-on s
       go (entryFails e s k l off all) = later-on s
       go (patternFails e s k all off) = later-on s
       go (premiseFails e s k all off) = later-on s
@@ -302,8 +363,8 @@ module _ (file : List ℕ) (i : ℕ) where
 
   pub block-judged : Exact (BlockRight file i) (BlockFaulty file i) (blockFault file i)
   unfolding blockFault
-  block-judged = reworded (λ w. w .1 .1 .1) (λ r. (r .shaped .check, (r .shaped .kind, (r .shaped .layout, r)))) block-to block-back
+  block-judged = reworded (λ w. w .1 .1 .1) (λ r. (r .shaped .check, (r .shaped .kind, (r .shaped .laid, r)))) block-to block-back
       (tested-then (checkRight b) (Check i) (says-test (checkRight b) (check-right b) (right-check b))
       (λ c. tested-then (kindRight file i) (Kind i) (says-kind file i)
-      (λ k. tested-then (layoutRight b) (Layout i) (says-test (layoutRight b) (layout-right b) (right-layout b))
-      (λ l. content-judged (record { check = c; kind = k; layout = l })))))
+      (λ k. tested-then (laidOut file i) (Layout i) (says-laid file i)
+      (λ l. content-judged (record { check = c; kind = k; laid = l })))))

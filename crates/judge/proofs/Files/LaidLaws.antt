@@ -3,12 +3,12 @@ use mathlib.Core.Path.{_≡_}
 use mathlib.Core.Bool.{true}
 use mathlib.Core.List.{List, _++_}
 use mathlib.Core.Option.{none, some, Option·none-ne-some}
-use Prim.Native.Nat.{ℕ, zero, suc, _+_, _*_, _<_, _≤_}
+use Prim.Native.Nat.{ℕ, zero, suc, _*_, _<_, _≤_}
 use native.Mathlib.Omega.{arith}
 use native.Mathlib.Decide.{ℕ-discrete}
 use lib.Seq.{take-at, drop-at}
 use borrow.Author.Tests.{eq-eqb, ne-eqb}
-use Rattle.blocks.specs.Kinds.{secretKind, goodKind, ruleKind, ListsTerm, HoldsTerms}
+use Rattle.blocks.specs.Kinds.{atomsKind, secretKind, goodKind, ruleKind, ListsTerm, HoldsTerms}
 use Rattle.blocks.specs.Limits.{mostTermEntries}
 use Rattle.blocks.specs.Block.{blockAt, kindOf, firstCount, secondCount, firstEntries, secondEntries, Fitting}
 use Rattle.blocks.specs.Layout.{CountsRight, atoms, term, rule}
@@ -24,7 +24,8 @@ use Rattle.terms.proofs.OneTermLaws.{TermRight, one-begins, one-whole, right-te
 use Rattle.judge.specs.File.{blockCount, patternOf, ruleOf, fileAtoms, usedEntries}
 use Rattle.judge.specs.Laid.{TermBlock, RuleBlock, SecretBlock, GoodBlock, Laid}
 use Rattle.judge.specs.Verdict.{lengthRight, lengthFault, blockFault, formFrom, formFault}
-use Rattle.judge.specs.Meaning.{LengthRight, KindRight, first, later, BlockRight}
+use Rattle.judge.specs.Meaning.{LengthRight, KindRight, atomBlock, later, BlockRight}
+use Rattle.judge.proofs.Files.AtomBlocks.{two-inside}
 use Rattle.judge.proofs.Files.Exact.{first-block}
 use Rattle.judge.proofs.Files.Judged.{length-judged, used-both, used-length, block-judged}
 
@@ -35,11 +36,11 @@ module _ (file : List ℕ) (i : ℕ) (right : BlockRight file i) where
   b = blockAt file i
 
   pub fits : Fitting b
-  fits = layout-fits b (right .shaped .layout)
+  fits = layout-fits b (right .shaped .laid .layout)
 
   -- No term has more than 63 entries.
   short : HoldsTerms (kindOf b) → firstCount b ≤ mostTermEntries
-  short l = go (right .shaped .layout .counts)
+  short l = go (right .shaped .laid .layout .counts)
     where
       go : CountsRight (kindOf b) (firstCount b) (secondCount b) → firstCount b ≤ mostTermEntries
       go (atoms k a c d) = let low = l .low in absurd (omega arith)
@@ -47,7 +48,7 @@ module _ (file : List ℕ) (i : ℕ) (right : BlockRight file i) where
       go (rule k a c d) = a
 
   second-short : kindOf b ≡ ruleKind → secondCount b ≤ mostTermEntries
-  second-short l = go (right .shaped .layout .counts)
+  second-short l = go (right .shaped .laid .layout .counts)
     where
       go : CountsRight (kindOf b) (firstCount b) (secondCount b) → secondCount b ≤ mostTermEntries
       go (atoms k a c d) = absurd (omega arith)
@@ -121,7 +122,11 @@ module _ (file : List ℕ) (i : ℕ) (right : BlockRight file i) where
 
 -- ---- a file that has passed
 
--- Kinds do not fall from block to block.
+-- Kinds do not fall from block to block. The first is that of atoms.
+kind-first : {file : List ℕ} → KindRight file 0 → kindOf (blockAt file 0) ≡ atomsKind
+kind-first (atomBlock l k) = k
+kind-first (later e l h b) = absurd (omega arith)
+
 in-order : (file : List ℕ) → ((i : ℕ) → i < blockCount file → BlockRight file i)
     → (i j : ℕ) → i ≤ j → j < blockCount file → kindOf (blockAt file i) ≤ kindOf (blockAt file j)
 in-order file blocks i zero low inside = let same : i ≡ 0 = omega arith in rw same (omega arith)
@@ -131,7 +136,10 @@ in-order file blocks i (suc j) low inside = elim (ℕ-discrete i (suc j)) [
 ]
   where
     go : kindOf (blockAt file i) ≤ kindOf (blockAt file j) → KindRight file (suc j) → kindOf (blockAt file i) ≤ kindOf (blockAt file (suc j))
-    go before (first e k) = absurd (omega arith)
+    go before (atomBlock l k) =
+        let same : j ≡ 0 = omega arith in
+        let start = rw same at before in
+        omega (arith, start, k, kind-first (blocks 0 (omega arith) .shaped .kind))
     go before (later {j = k} e l h step) = let same : k ≡ j = omega arith in let next = rw same at step in omega (arith, before, next)
 
 pub laid : (file : List ℕ) → LengthRight file → ((i : ℕ) → i < blockCount file → BlockRight file i) → Laid file
@@ -140,7 +148,11 @@ laid file l blocks = record {
   some-block = omega arith;
   few = omega arith;
   ordered = in-order file blocks;
-  atoms = fits file 0 (blocks 0 (omega arith));
+  atoms = record {
+    whole = l .whole;
+    first = fits file 0 (blocks 0 (omega arith));
+    second = λ two. fits file 1 (blocks 1 (omega (arith, two-inside file (l .whole) two)));
+  };
   terms = λ i h. term-block file i (blocks i h);
   rules = λ i h. rule-block file i (blocks i h);
   secrets = λ i h. secret-block file i (blocks i h);

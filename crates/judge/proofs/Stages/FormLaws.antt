@@ -1,29 +1,28 @@
 -- Laws of specs/Verdict.antt, numbers 1 to 8, and of the counts, shaped like the branches of the code. Assumes nothing.
 use mathlib.Core.Path.{_≡_, refl, sym, ap, _∙_}
-use mathlib.Core.Bool.{Bool, true, false, _&&_}
+use mathlib.Core.Bool.{Bool, true, false, false≢true, not, _&&_}
 use mathlib.Core.List.{List}
 use mathlib.Core.Option.{Option, none, some}
 use Prim.Native.Nat.{ℕ, zero, suc, _+_, _-_, _*_, _/_, _%_, _≤_, _<_}
 use native.Mathlib.Numerals.{add-one}
 use native.Mathlib.Omega.{arith}
-use lib.Dec.{eqb, leb}
+use lib.Dec.{eqb, leb, ltb}
+use native.Mathlib.Decide.{ℕ-discrete}
 use lib.ListN.{length, take, drop}
 use lib.Seq.{take-take, take-at, drop-at}
-use borrow.Author.Tests.{eq-eqb, ne-eqb, le-leb, lt-leb}
+use borrow.Author.Tests.{eq-eqb, ne-eqb, le-leb, lt-leb, leb-true}
 use Rattle.blocks.specs.Kinds.{atomsKind, secretKind, goodKind, badKind, ruleKind}
-use Rattle.blocks.specs.Limits.{blockSize, mostBytes}
-use Rattle.blocks.specs.Block.{blockAt, kindOf, firstCount, secondCount, entriesOf, firstEntries, secondEntries, Fitting}
+use Rattle.blocks.specs.Limits.{blockSize, mostBytes, mostBlocks, mostEntries, mostAtoms, mostAtomBlocks}
+use Rattle.blocks.specs.Block.{HasBlock, hasBlock, blockAt, kindOf, firstCount, secondCount, entriesOf, firstEntries, secondEntries, Fitting}
 use Rattle.blocks.specs.Check.{checkRight}
 use Rattle.blocks.specs.Layout.{layoutRight}
-use Rattle.blocks.proofs.Layouts.{layout-right, layout-fits}
+use Rattle.blocks.proofs.Layouts.{layout-fits}
 use Rattle.blocks.proofs.Parts.{first-length}
-use Rattle.terms.specs.Term.{encryption}
 use Rattle.terms.specs.declared.valid.Found.{Found}
 use Rattle.terms.specs.declared.valid.Found.the-variants.{At, Nothing}
 use Rattle.terms.specs.Entry.{Begins, termOf}
 use Rattle.terms.specs.declared.atom.Atom.{Atom}
-use Rattle.terms.specs.Atom.{atomsOf, atomRight?, wrongAtom}
-use Rattle.terms.proofs.AtomLaws.{length-atoms}
+use Rattle.terms.specs.Atom.{joinedAtoms, atomRight?, wrongAtom}
 use Rattle.terms.specs.TermEntry.{rightAt?, wrongEntry}
 use Rattle.terms.proofs.EachLaws.{each-take, each-drop}
 use Rattle.terms.specs.First.{FirstNot, fails, holds}
@@ -32,18 +31,23 @@ use Rattle.terms.specs.OneTerm.{encryption?}
 use Rattle.terms.specs.Reading.{oneTerm?}
 use Rattle.terms.proofs.OneTermLaws.{right-each, right-symbols, one-begins}
 use Rattle.terms.specs.Decide.{answer}
-use Rattle.terms.proofs.AnswerLaws.{yes-of}
+use Rattle.terms.proofs.AnswerLaws.{yes-of, says-yes, says-eq}
+use Rattle.terms.specs.Decisions.{Says}
 use Rattle.judge.specs.declared.verdict.Counts.{Counts}
 use Rattle.judge.specs.declared.verdict.Fault.{Fault}
-use Rattle.judge.specs.declared.verdict.Fault.the-variants.{Check, Kind, Missing, Layout, AtomEntry, TermEntry, NotOneTerm}
+use Rattle.judge.specs.declared.verdict.Fault.the-variants.{Check, Kind, Missing, Layout, TermEntry, NotOneTerm}
 use Rattle.judge.specs.declared.form.Judged.{Judged}
 use Rattle.judge.specs.declared.form.Judged.the-variants.{Fine, Faulty}
-use Rattle.judge.specs.File.{blockCount, blocksFrom, blocksOf, ofKind, fileAtoms, usedEntries, kindCount, countsOf}
-use Rattle.judge.specs.Judgement.{judgedOf, Spelled}
-use Rattle.judge.specs.Verdict.{lengthRight, kindRight, atomFault, entryFault, rootRight, patternFault}
+use Rattle.judge.specs.File.{blockCount, blocksFrom, blocksOf, ofKind, TwoAtomBlocks, moreEntries, fileAtoms, usedEntries, kindCount, countsOf}
+use Rattle.judge.specs.Laid.{AtomsFit}
+use Rattle.judge.specs.Judgement.{judgedOf, Reached, Spelled}
+use Rattle.judge.specs.Meaning.{KindRight, atomBlock, NotFirstOfTwo}
+use Rattle.judge.specs.Meaning as meaning
+use Rattle.judge.specs.Verdict.{lengthRight, laterKind, kindRight, behindFull, laidOut, atomEntry, atomFault, atomsFault, entryFault, rootRight, patternFault}
 use Rattle.judge.specs.Verdict.{conclusionFault, rulePartsFault, termFault, entriesFault, blockFault, firstFault, formFrom}
 use Rattle.judge.specs.Verdict.{formFault, missingFault}
-use Rattle.judge.proofs.Files.Judged.{used-both, used-length}
+use Rattle.judge.proofs.Files.AtomBlocks.{few-atoms, two-inside}
+use Rattle.judge.proofs.Files.Judged.{used-both, used-length, says-kind, says-laid}
 
 -- ---- what the code's answer tells
 
@@ -80,30 +84,85 @@ module _ (file : List ℕ) where
   unfolding lengthRight
   length-whole l e = rw (le-leb 1 (length file) l, eq-eqb (length file % blockSize) 0 e)
 
+-- ---- the atom blocks
+
+module _ (file : List ℕ) where
+  module _ (whole : length file % blockSize ≡ 0) {b : Bool} (said : b ≡ hasBlock file 1) where
+    pub not-two : b ≡ false → ¬ TwoAtomBlocks file
+    not-two h two = let there = le-leb _ _ (two-inside file whole two) in false≢true (sym h ∙ said ∙ there)
+
+    pub second-inside : b ≡ true → HasBlock file 1
+    second-inside h = leb-true _ _ (sym said ∙ h)
+
+  pub two-says : {k : ℕ} → k ≡ kindOf (blockAt file 1) → Says (eqb k atomsKind) (TwoAtomBlocks file)
+  two-says {k} kind = rw kind (says-eq (kindOf (blockAt file 1)) atomsKind)
+
+  -- Block 0 is the last one if block 1 is none.
+  pub last-says : {i : ℕ} → i ≡ 0 → (b : Bool) → Says b (TwoAtomBlocks file) → Says (not b) (NotFirstOfTwo file i)
+  last-says z true two = λ last. last z two
+  last-says z false n = λ e. n
+
 -- ---- number 3
 
 module _ (file : List ℕ) (i : ℕ) {k : ℕ} (kind : k ≡ kindOf (blockAt file i)) where
-  pub kind-first : i ≡ 0 → eqb k atomsKind ≡ kindRight file i
+  pub kind-atoms : k ≡ atomsKind → ltb i mostAtomBlocks ≡ kindRight file i
   unfolding kindRight
-  kind-first z = rw (kind, z)
+  kind-atoms e = rw (eq-eqb (kindOf (blockAt file i)) atomsKind (sym kind ∙ e), kindRight)
 
-  later : (i ≡ 0 → ⊥) → kindRight file i ≡ ((leb secretKind k && leb k ruleKind) && leb (kindOf (blockAt file (i - 1))) k)
-  unfolding kindRight
-  later n = go i kind n
-    where
-      go : (i : ℕ) → k ≡ kindOf (blockAt file i) → (i ≡ 0 → ⊥)
-          → kindRight file i ≡ ((leb secretKind k && leb k ruleKind) && leb (kindOf (blockAt file (i - 1))) k)
-      go zero e n = absurd (n refl)
-      go (suc j) e n = let one : suc j - 1 ≡ j = omega arith in rw (one, e)
+  module _ (other : k ≡ atomsKind → ⊥) where
+    not-atoms : kindRight file i ≡ laterKind file i
+    unfolding kindRight
+    not-atoms = rw (ne-eqb (kindOf (blockAt file i)) atomsKind (λ e. other (kind ∙ e)), kindRight)
 
-  pub kind-low : (i ≡ 0 → ⊥) → k < secretKind → false ≡ kindRight file i
-  kind-low n l = rw (later n, lt-leb secretKind k l)
+    pub kind-first : i ≡ 0 → false ≡ kindRight file i
+    unfolding laterKind
+    kind-first z = rw (not-atoms, z)
 
-  pub kind-high : (i ≡ 0 → ⊥) → secretKind ≤ k → ruleKind < k → false ≡ kindRight file i
-  kind-high n l h = rw (later n, le-leb secretKind k l, lt-leb k ruleKind h)
+    later : (i ≡ 0 → ⊥) → kindRight file i ≡ ((leb secretKind k && leb k ruleKind) && leb (kindOf (blockAt file (i - 1))) k)
+    unfolding laterKind
+    later n = not-atoms ∙ go i kind n
+      where
+        go : (i : ℕ) → k ≡ kindOf (blockAt file i) → (i ≡ 0 → ⊥)
+            → laterKind file i ≡ ((leb secretKind k && leb k ruleKind) && leb (kindOf (blockAt file (i - 1))) k)
+        go zero e n = absurd (n refl)
+        go (suc j) e n = let one : suc j - 1 ≡ j = omega arith in rw (one, e)
 
-  pub kind-after : (i ≡ 0 → ⊥) → secretKind ≤ k → k ≤ ruleKind → {before : ℕ} → before ≡ kindOf (blockAt file (i - 1)) → leb before k ≡ kindRight file i
-  kind-after n l h e = rw (later n, le-leb secretKind k l, le-leb k ruleKind h, e)
+    pub kind-low : (i ≡ 0 → ⊥) → k < secretKind → false ≡ kindRight file i
+    kind-low n l = rw (later n, lt-leb secretKind k l)
+
+    pub kind-high : (i ≡ 0 → ⊥) → secretKind ≤ k → ruleKind < k → false ≡ kindRight file i
+    kind-high n l h = rw (later n, le-leb secretKind k l, lt-leb k ruleKind h)
+
+    pub kind-after : (i ≡ 0 → ⊥) → secretKind ≤ k → k ≤ ruleKind → {before : ℕ} → before ≡ kindOf (blockAt file (i - 1)) → leb before k ≡ kindRight file i
+    kind-after n l h e = rw (later n, le-leb secretKind k l, le-leb k ruleKind h, e)
+
+-- ---- number 5
+
+module _ (file : List ℕ) (i : ℕ) {b : List ℕ} (same : b ≡ blockAt file i) {right : Bool} (said : right ≡ layoutRight b) where
+  pub laid-not : right ≡ false → false ≡ laidOut file i
+  unfolding laidOut
+  laid-not h = rw (← same, ← said, h)
+
+  module _ (is-right : right ≡ true) where
+    laid : laidOut file i ≡ behindFull file i
+    unfolding laidOut
+    laid = rw (← same, ← said, is-right)
+
+    pub laid-other : (i ≡ 1 → ⊥) → true ≡ laidOut file i
+    unfolding behindFull
+    laid-other n = rw (laid, ne-eqb i 1 n, behindFull)
+
+    module _ (second : i ≡ 1) {k : ℕ} (kind : k ≡ kindOf b) where
+      at-one : k ≡ kindOf (blockAt file 1)
+      at-one = kind ∙ ap kindOf same ∙ ap (λ (n : ℕ). kindOf (blockAt file n)) second
+
+      pub laid-no-atoms : (k ≡ atomsKind → ⊥) → true ≡ laidOut file i
+      unfolding behindFull
+      laid-no-atoms n = rw (laid, eq-eqb i 1 second, ne-eqb (kindOf (blockAt file 1)) atomsKind (λ e. n (at-one ∙ e)), behindFull)
+
+      pub laid-full : k ≡ atomsKind → {n : ℕ} → n ≡ firstCount (blockAt file 0) → eqb n mostEntries ≡ laidOut file i
+      unfolding behindFull
+      laid-full e count = rw (laid, eq-eqb i 1 second, eq-eqb (kindOf (blockAt file 1)) atomsKind (sym at-one ∙ e), behindFull, count)
 
 -- ---- number 6
 
@@ -115,21 +174,50 @@ found-below (fails e l off all) h = let same = sym e ∙ h in go same l
     go {m} {n} e l = let same : m ≡ n = cc in omega arith
 found-below (holds e all) h = let z : _≡_ {A = ℕ} 0 1 = cc in absurd (omega arith)
 
-module _ (i : ℕ) (b : List ℕ) {e : List ℕ} (part : e ≡ firstEntries b) {f : Found} (said : f ≡ wrongAtom (atomsOf e)) where
-  pub atom-small : Fitting b → {n : ℕ} → f ≡ At n → n < 256
-  unfolding wrongAtom
-  atom-small fits {n} h =
-      let below = found-below (first-is (atomRight? (atomsOf e)) (length (atomsOf e))) (sym said ∙ h) in
-      let room = fits .room in
-      omega (arith, length-atoms e, ap length part, first-length b fits)
+module _ (file : List ℕ) {e d : List ℕ} (first : e ≡ firstEntries (blockAt file 0)) (more : d ≡ moreEntries file) where
+  -- The parts that the code takes are the file's atoms.
+  pub parts-are : joinedAtoms e d ≡ fileAtoms file
+  unfolding fileAtoms
+  parts-are = ap (λ (x : List ℕ). joinedAtoms x d) first ∙ ap (joinedAtoms (firstEntries (blockAt file 0))) more
 
-  pub atom-found : {n : ℕ} → f ≡ At n → Faulty (AtomEntry i n) ≡ judgedOf (atomFault i b)
-  unfolding judgedOf atomFault
-  atom-found h = rw (← part, ← said, h, atomFault)
+  module _ {f : Found} (said : f ≡ wrongAtom (joinedAtoms e d)) where
+    found : f ≡ wrongAtom (fileAtoms file)
+    found = said ∙ ap wrongAtom parts-are
 
-  pub atom-fine : f ≡ Nothing → Fine ≡ judgedOf (atomFault i b)
-  unfolding judgedOf atomFault
-  atom-fine h = rw (← part, ← said, h, atomFault)
+    pub atom-small : AtomsFit file → {n : ℕ} → f ≡ At n → n < mostAtoms
+    unfolding wrongAtom
+    atom-small fits {n} h =
+        let below = found-below (first-is (atomRight? (fileAtoms file)) (length (fileAtoms file))) (sym found ∙ h) in
+        omega (arith, few-atoms file fits)
+
+    pub atom-found : {n : ℕ} → f ≡ At n → Faulty (atomEntry n) ≡ judgedOf (atomFault file)
+    unfolding judgedOf atomFault
+    atom-found h = rw (← found, h, atomFault)
+
+    pub atom-fine : f ≡ Nothing → Fine ≡ judgedOf (atomFault file)
+    unfolding judgedOf atomFault
+    atom-fine h = rw (← found, h, atomFault)
+
+-- At the last atom block, and at the first of two.
+module _ (file : List ℕ) (i : ℕ) where
+  pub atoms-last : NotFirstOfTwo file i → {r : Judged} → r ≡ judgedOf (atomFault file) → r ≡ judgedOf (atomsFault file i)
+  unfolding atomsFault
+  atoms-last last h = rw (tested, atomsFault) h
+    where
+      tested : (eqb i 0 && eqb (kindOf (blockAt file 1)) atomsKind) ≡ false
+      tested = elim (ℕ-discrete i 0) [
+        | yes z ↦ rw (eq-eqb i 0 z, ne-eqb (kindOf (blockAt file 1)) atomsKind (last z))
+        | no n ↦ rw (ne-eqb i 0 n)
+      ]
+
+  pub atoms-first : ¬ NotFirstOfTwo file i → Fine ≡ judgedOf (atomsFault file i)
+  unfolding judgedOf atomsFault
+  atoms-first not-last = go (ℕ-discrete i 0) (ℕ-discrete (kindOf (blockAt file 1)) atomsKind)
+    where
+      go : Dec (i ≡ 0) → Dec (TwoAtomBlocks file) → Fine ≡ judgedOf (atomsFault file i)
+      go (yes z) (yes two) = rw (eq-eqb i 0 z, eq-eqb (kindOf (blockAt file 1)) atomsKind two, atomsFault)
+      go (yes z) (no n) = absurd (not-last (λ e. n))
+      go (no n) two = absurd (not-last (λ e. absurd (n e)))
 
 -- ---- number 7
 
@@ -249,27 +337,64 @@ module _ (i : ℕ) (b : List ℕ) {k : ℕ} (kind : k ≡ kindOf b) {r : Judged}
 
 -- ---- a block
 
-module _ (atoms : List Atom) (i : ℕ) (b : List ℕ) {k : ℕ} (kind : k ≡ kindOf b) where
-  pub entries-atoms : k ≡ atomsKind → {r : Judged} → r ≡ judgedOf (atomFault i b) → r ≡ judgedOf (entriesFault atoms i b)
+module _ (file : List ℕ) (i : ℕ) {b : List ℕ} (same : b ≡ blockAt file i) {k : ℕ} (kind : k ≡ kindOf b) where
+  is-kind : k ≡ kindOf (blockAt file i)
+  is-kind = kind ∙ ap kindOf same
+
+  pub entries-atoms : k ≡ atomsKind → {r : Judged} → r ≡ judgedOf (atomsFault file i) → r ≡ judgedOf (entriesFault file i)
   unfolding entriesFault
-  entries-atoms e h = rw (eq-eqb (kindOf b) atomsKind (sym kind ∙ e), entriesFault) h
+  entries-atoms e h = rw (eq-eqb (kindOf (blockAt file i)) atomsKind (sym is-kind ∙ e), entriesFault) h
 
-  module _ (other : k ≡ atomsKind → ⊥) {j : Judged} (said : j ≡ judgedOf (entryFault atoms i b)) where
-    pub entries-wrong : {f : Fault} → j ≡ Faulty f → Faulty f ≡ judgedOf (entriesFault atoms i b)
+  module _ (other : k ≡ atomsKind → ⊥) {atoms : List Atom} (are : atoms ≡ fileAtoms file) {j : Judged} (said : j ≡ judgedOf (entryFault atoms i b)) where
+    judged : j ≡ judgedOf (entryFault (fileAtoms file) i (blockAt file i))
+    judged = said ∙ ap (λ (x : List Atom). judgedOf (entryFault x i b)) are ∙ ap (λ (x : List ℕ). judgedOf (entryFault (fileAtoms file) i x)) same
+
+    pub entries-wrong : {f : Fault} → j ≡ Faulty f → Faulty f ≡ judgedOf (entriesFault file i)
     unfolding judgedOf entriesFault
-    entries-wrong h = rw (ne-eqb (kindOf b) atomsKind (λ e. other (kind ∙ e)), faulty-some (entryFault atoms i b) said h, entriesFault)
+    entries-wrong h = rw (
+      ne-eqb (kindOf (blockAt file i)) atomsKind (λ e. other (is-kind ∙ e)),
+      faulty-some (entryFault (fileAtoms file) i (blockAt file i)) judged h,
+      entriesFault,
+    )
 
-    pub entries-right : j ≡ Fine → {r : Judged} → r ≡ judgedOf (termFault i b) → r ≡ judgedOf (entriesFault atoms i b)
+    pub entries-right : j ≡ Fine → {r : Judged} → r ≡ judgedOf (termFault i b) → r ≡ judgedOf (entriesFault file i)
     unfolding entriesFault
-    entries-right h t = rw (ne-eqb (kindOf b) atomsKind (λ e. other (kind ∙ e)), fine-none (entryFault atoms i b) said h, entriesFault) t
+    entries-right h t = rw (
+      ne-eqb (kindOf (blockAt file i)) atomsKind (λ e. other (is-kind ∙ e)),
+      fine-none (entryFault (fileAtoms file) i (blockAt file i)) judged h,
+      entriesFault,
+      ← same,
+    ) t
 
--- The atoms are to be read once block i has passed number 5: it is block 0, or that has passed before.
-pub fits-right : {b : List ℕ} {right : Bool} → right ≡ layoutRight b → right ≡ true → Fitting b
-fits-right {b} said h = layout-fits b (layout-right b (sym said ∙ h))
+-- Once block i has passed 2, 3 and 5, the atoms are to be read: at the last atom block, and at all others.
+module _ (file : List ℕ) (i : ℕ) (reached : Reached file i) where
+  pub atoms-fit-last : NotFirstOfTwo file i → AtomsFit file
+  atoms-fit-last last = record {
+    whole = reached .whole;
+    first = reached .fits 0 (omega arith);
+    second = λ two. elim (ℕ-discrete i 0) [ yes z ↦ absurd (last z two) | no n ↦ reached .fits 1 (omega arith) ];
+  }
 
-pub atoms-fit : (file : List ℕ) (i : ℕ) → (0 < i → Fitting (blockAt file 0)) → Fitting (blockAt file i) → Fitting (blockAt file 0)
-atoms-fit file zero before fits = fits
-atoms-fit file (suc i) before fits = before (omega arith)
+  pub atoms-fit-later : ¬ (kindOf (blockAt file i) ≡ atomsKind) → AtomsFit file
+  atoms-fit-later n = atoms-fit-last (λ z. go z (reached .kind))
+    where
+      go : i ≡ 0 → KindRight file i → ¬ TwoAtomBlocks file
+      go z (atomBlock l k) = absurd (n k)
+      go z (meaning.later e l h b) = absurd (omega arith)
+
+pub reach : (file : List ℕ) (i : ℕ) → length file % blockSize ≡ 0 → HasBlock file i → i < mostBlocks
+    → ((j : ℕ) → j < i → Fitting (blockAt file j))
+    → {kind : Bool} → kind ≡ kindRight file i → kind ≡ true → {laid : Bool} → laid ≡ laidOut file i → laid ≡ true → Reached file i
+reach file i whole inside few before ordered in-order shaped right = record {
+  whole = whole;
+  inside = inside;
+  few = few;
+  kind = says-yes (kindRight file i) (says-kind file i) (sym ordered ∙ in-order);
+  fits = λ j low. elim (ℕ-discrete j i) [ yes same ↦ rw same here | no other ↦ before j (omega arith) ];
+}
+  where
+    here : Fitting (blockAt file i)
+    here = layout-fits (blockAt file i) (says-yes (laidOut file i) (says-laid file i) (sym shaped ∙ right) .layout)
 
 module _ (file : List ℕ) (i : ℕ) {b : List ℕ} (same : b ≡ blockAt file i) {check : Bool} (checked : check ≡ checkRight b) where
   pub block-check : check ≡ false → Faulty (Check i) ≡ judgedOf (blockFault file i)
@@ -281,15 +406,14 @@ module _ (file : List ℕ) (i : ℕ) {b : List ℕ} (same : b ≡ blockAt file i
     unfolding judgedOf blockFault
     block-kind h = rw (← same, ← checked, passed, ← ordered, h, blockFault)
 
-    module _ (in-order : kind ≡ true) {laid : Bool} (shaped : laid ≡ layoutRight b) where
+    module _ (in-order : kind ≡ true) {laid : Bool} (shaped : laid ≡ laidOut file i) where
       pub block-layout : laid ≡ false → Faulty (Layout i) ≡ judgedOf (blockFault file i)
       unfolding judgedOf blockFault
-      block-layout h = rw (← same, ← checked, passed, ← ordered, in-order, ← same, ← shaped, h, blockFault)
+      block-layout h = rw (← same, ← checked, passed, ← ordered, in-order, ← shaped, h, blockFault)
 
-      pub block-entries : laid ≡ true → {e : List ℕ} → e ≡ firstEntries (blockAt file 0)
-          → {r : Judged} → r ≡ judgedOf (entriesFault (atomsOf e) i b) → r ≡ judgedOf (blockFault file i)
-      unfolding blockFault fileAtoms
-      block-entries h part r = rw (← same, ← checked, passed, ← ordered, in-order, ← same, ← shaped, h, ← part, ← same, blockFault) r
+      pub block-entries : laid ≡ true → {r : Judged} → r ≡ judgedOf (entriesFault file i) → r ≡ judgedOf (blockFault file i)
+      unfolding blockFault
+      block-entries h r = rw (← same, ← checked, passed, ← ordered, in-order, ← shaped, h, blockFault) r
 
 -- ---- the blocks in file order
 

@@ -10,7 +10,7 @@ use lib.ListN.{length, take, drop}
 use lib.Seq.{length-take-le}
 use Rattle.blocks.specs.Kinds.{secretKind, goodKind, badKind, ruleKind}
 use Rattle.blocks.specs.Limits.{blockSize}
-use Rattle.blocks.specs.Block.{blockAt, kindOf}
+use Rattle.blocks.specs.Block.{blockAt, kindOf, Fitting}
 use Rattle.blocks.proofs.Parts.{block-before}
 use Rattle.terms.specs.declared.valid.Found.{Found}
 use Rattle.terms.specs.declared.valid.Found.the-variants.{Nothing}
@@ -22,12 +22,13 @@ use Rattle.terms.proofs.AnswerLaws.{answer-same}
 use Rattle.terms.specs.First.{FirstNot, fails, holds, firstNot}
 use Rattle.terms.proofs.FirstLaws.{first-is, first-only}
 use Rattle.judge.specs.Certificate.{Certificate, Rule, Secret, Good, Bad}
-use Rattle.judge.specs.File.{blockCount, blocksOf, ofKind, patternOf, secretOf, certificateOf}
+use Rattle.judge.specs.File.{blockCount, TwoAtomBlocks, blocksOf, ofKind, patternOf, secretOf, certificateOf}
 use Rattle.judge.specs.Laid.{Laid}
 use Rattle.judge.specs.Cover.{SureHat, NoHat, sharesNoGood, isBad, AtOpenPlace, Risky, isVariable, sharesSecret, Covered, sureHat, inPremise, Dead}
 use Rattle.judge.specs.Decisions.{dead?}
 use Rattle.judge.specs.Verdict.{FineSpot, fine?, uncovered}
 use Rattle.judge.specs.Judgement.{OnlyRulesFrom, Heads}
+use Rattle.judge.proofs.Files.AtomBlocks.{two-inside}
 use Rattle.judge.proofs.Files.Members.{block-listed, listed-block}
 
 -- ---- what the judging of a rule asks of a certificate
@@ -157,13 +158,24 @@ module _ {file : List ℕ} {n : ℕ} (laid : Laid file) (only : OnlyRulesFrom fi
     some-block = rw count (only .some-block);
     few = rw count (omega (arith, only .inside, laid .few));
     ordered = λ i j low h. let here : j < n = rw count at h in rw (block i (omega arith), block j here) (laid .ordered i j low (within here));
-    atoms = rw (block 0 (only .some-block)) (laid .atoms);
+    atoms = record {
+      whole = omega (arith, long);
+      first = rw (block 0 (only .some-block)) (laid .atoms .first);
+      second = second-fits;
+    };
     terms = λ i h. let here : i < n = rw count at h in rw (block i here) (laid .terms i (within here));
     rules = λ i h. let here : i < n = rw count at h in rw (block i here) (laid .rules i (within here));
     secrets = λ i h. let here : i < n = rw count at h in rw (block i here) (laid .secrets i (within here));
     goods = λ i h. let here : i < n = rw count at h in rw (block i here) (laid .goods i (within here));
   }
     where
+      -- A second atom block of the head is one of the file.
+      second-fits : TwoAtomBlocks head → Fitting (blockAt head 1)
+      second-fits two =
+          let inside : 1 < n = omega (arith, long, two-inside head (omega (arith, long)) two) in
+          let same : blockAt head 1 ≡ blockAt file 1 = block 1 inside in
+          rw same (laid .atoms .second (ap kindOf (sym same) ∙ two))
+
       within : {i : ℕ} → i < n → i < blockCount file
       within h = omega (arith, only .inside)
 

@@ -9,14 +9,14 @@ use native.Mathlib.Omega.{arith}
 use lib.Dec.{eqb}
 use lib.ListN.{drop}
 use borrow.Author.Tests.{eq-eqb, ne-eqb}
-use Rattle.blocks.specs.Block.{blockAt, kindOf, firstEntries}
+use Rattle.blocks.specs.Block.{blockAt, kindOf}
 use Rattle.terms.specs.Term.{Term, Message, Variable, variable, atom, pair, encrypted, replace, asTerm, wrapped, encryption}
 use Rattle.terms.specs.Tag.{atomTag, pairTag, encryptionTag}
 use Rattle.terms.specs.Entry.{Begins, Reads, termsOf, termOf, symbolOf, withZero, before, beforeAll, tagAt, valueAt, size, from}
 use Rattle.terms.specs.Reading.{First, first-atom, first-pair, first-wrapped, first-variable, first}
 use Rattle.terms.proofs.EntryLaws.{reads-atom, reads-pair, reads-encrypted, termOf-reads, pair-first, encryption-first, right-begins}
 use Rattle.terms.specs.declared.atom.Atom.{Atom}
-use Rattle.terms.specs.Atom.{atomsOf, atomAt, knownOf}
+use Rattle.terms.specs.Atom.{atomAt, knownOf}
 use Rattle.terms.proofs.AtomLaws.{known-listed}
 use Rattle.terms.specs.OneTerm.{IsEncryption}
 use Rattle.terms.specs.Decisions.{Says, says-same}
@@ -25,7 +25,7 @@ use Rattle.terms.specs.Decide.{answer}
 use Rattle.judge.specs.declared.form.Judged.the-variants.{Fine, Faulty}
 use Rattle.judge.specs.declared.listed.Condition.{Condition}
 use Rattle.judge.specs.Certificate.{Certificate, Secret, inverse}
-use Rattle.judge.specs.File.{patternOf, secretOf, fileAtoms, certificateOf}
+use Rattle.judge.specs.File.{patternOf, secretOf}
 use Rattle.judge.specs.Laid.{SecretBlock, GoodBlock}
 use Rattle.judge.specs.Conditions.{KnownAtom, WeaklyClosed, KeptKey}
 use Rattle.judge.specs.Meaning.{SecretNotKnown, SecretClosed, RootKeyKept}
@@ -151,16 +151,8 @@ module _ (c : Certificate) where
       ofEncrypted = λ n k is. absurd (off′ (reads-encrypted (read b (message ∙ ap asTerm is)) .0));
     }
 
--- The atoms of a certificate are those of the entries that the code reads.
-pub atoms-are : (file : List ℕ) {b : List ℕ} → b ≡ firstEntries (blockAt file 0) → atomsOf b ≡ certificateOf file .atoms
-unfolding certificateOf fileAtoms
-atoms-are file is = ap atomsOf is
-
 -- The atom of a number.
-module _ (c : Certificate) {atoms : List Atom} (are : atoms ≡ c .atoms) (n : ℕ) {a : Atom} (is : a ≡ atomAt atoms n) where
-  listed : a ≡ atomAt (c .atoms) n
-  listed = is ∙ ap (λ (l : List Atom). atomAt l n) are
-
+module _ (c : Certificate) (n : ℕ) {a : Atom} (listed : a ≡ atomAt (c .atoms) n) where
   -- The partner field.
   pub inverse-at : a .partner ≡ inverse c n
   inverse-at = ap (λ (x : Atom). x .partner) listed

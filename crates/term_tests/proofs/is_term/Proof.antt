@@ -14,18 +14,16 @@ is-term-spec = tie.close (tie.spec
     (λ c. too-long (c .before .before .args .e .now) (c .if1 .taken))  -- returns
     (λ c. not-whole (c .before .before .before .args .e .now) (c .before .if1 .left) (c .if2 .taken))  -- returns-2
     (λ c. search needs)  -- slice-aggregate-wrong-entry
+    (λ c. search needs)  -- slice-aggregate-wrong-entry-2
     (λ c κs. search needs)  -- wrong-entry-requires
     (λ c. search needs)  -- enum-told
     (λ c. search needs)  -- enum-told-2
-    (λ c κs. let args = c .before .before .before .before .before .before .before .args in let if2 = c .before .before .before .before .if2 in
-    (found-symbols (args .e .now) (if2 .left) (c .before .before .wrong-entry .ensures) (c .enum-told2 .given .1), search needs))  -- is-one-term-requires
-    (λ c. let args = c .before .before .before .before .before .before .before .args in let if1 = c .before .before .before .before .before .if1 in
-    let if2 = c .before .before .before .before .if2 in
-    by-entries (args .e .now) false (if1 .left) (if2 .left) (c .before .before .wrong-entry .ensures)
-    (sym (ap (λ g. then (nothingFound g) (answer (oneTerm? (args .e .now)))) (c .enum-told .given .1))))  -- returns-3
-    (λ c. let args = c .before .before .before .before .before .before .before .before .args in
-    let if1 = c .before .before .before .before .before .before .if1 in let if2 = c .before .before .before .before .before .if2 in
-    let wrong-entry = c .before .before .before .wrong-entry in
-    by-entries (args .e .now) (c .is-one-term .result) (if1 .left) (if2 .left) (wrong-entry .ensures)
-    (c .is-one-term .ensures ∙ sym (ap (λ g. then (nothingFound g) (answer (oneTerm? (args .e .now)))) (c .before .enum-told2 .given .1))))  -- returns-4
+    (λ c κs. let entries = c .before .before .before .before .before .before .before .before .args .e .now in
+    (found-symbols entries (c .before .before .before .before .before .if2 .left) (c .before .before .wrong-entry .ensures) (c .enum-told2 .given .1), search needs))  -- is-one-term-requires
+    (λ c. let entries = c .before .before .before .before .before .before .before .before .args .e .now in
+    by-entries entries false (c .before .before .before .before .before .before .if1 .left) (c .before .before .before .before .before .if2 .left) (c .before .before .wrong-entry .ensures)
+    (sym (ap (λ g. then (nothingFound g) (answer (oneTerm? entries))) (c .enum-told .given .1))))  -- returns-3
+    (λ c. let entries = c .before .before .before .before .before .before .before .before .before .args .e .now in
+    by-entries entries (c .is-one-term .result) (c .before .before .before .before .before .before .before .if1 .left) (c .before .before .before .before .before .before .if2 .left) (c .before .before .before .wrong-entry .ensures)
+    (c .is-one-term .ensures ∙ sym (ap (λ g. then (nothingFound g) (answer (oneTerm? entries))) (c .before .enum-told2 .given .1))))  -- returns-4
     )

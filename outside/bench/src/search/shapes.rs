@@ -19,12 +19,15 @@ const NONCE: u16 = 6;
 const FIRST_KNOWN: u16 = 7;
 const KNOWN: u16 = 60;
 
-fn atoms() -> Vec<Atom> {
-    let atom = |kind, known, partner| Atom {
+pub fn atom(kind: u8, known: u8, partner: u16) -> Atom {
+    Atom {
         kind,
         known,
         partner,
-    };
+    }
+}
+
+fn atoms() -> Vec<Atom> {
     let key = |number| atom(atom_kind::SYMMETRIC, (number == KNOWN_KEY) as u8, number);
     let mut atoms = vec![atom(atom_kind::PRINCIPAL, 1, 0); 2];
     atoms.extend((KEY..=KNOWN_KEY).map(key));

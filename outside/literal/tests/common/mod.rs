@@ -1,7 +1,7 @@
-//! Certificates over the document's eight atoms.
+//! Certificates over the document's eight atoms, or over two blocks of atoms.
 #![allow(dead_code)]
 
-use literal::{encode, Term};
+use literal::{encode, packed, verdict, Term};
 
 pub const I: Term = Term::Atom(1);
 pub const N: Term = Term::Atom(6);
@@ -51,13 +51,23 @@ impl Parts {
         }
     }
 
+    /// Atoms of a second block behind the document's and nonces up to the 126th:
+    /// secrets 127, 128 and 129, good {*s}126 and {*s}128, no rule.
+    pub fn joined() -> Parts {
+        let mut atoms = ATOMS.to_vec();
+        atoms.resize(125, [2, 1, 0]);
+        atoms.extend(ACROSS);
+        Parts {
+            atoms,
+            secrets: [127, 128, 129].map(Term::Atom).to_vec(),
+            goods: vec![enc(S, 126), enc(S, 128)],
+            bads: vec![],
+            rules: vec![],
+        }
+    }
+
     pub fn blocks(&self) -> Vec<Vec<u8>> {
-        let atoms: Vec<u8> = self
-            .atoms
-            .iter()
-            .flat_map(|a| [a[0], a[1], a[2], 0])
-            .collect();
-        let mut blocks = vec![block(1, &atoms, &[])];
+        let mut blocks: Vec<Vec<u8>> = self.atoms.chunks(126).map(atom_block).collect();
         for (kind, terms) in [(2, &self.secrets), (3, &self.goods), (4, &self.bads)] {
             blocks.extend(terms.iter().map(|term| block(kind, &encode(term), &[])));
         }
@@ -71,6 +81,28 @@ impl Parts {
     pub fn bytes(&self) -> Vec<u8> {
         self.blocks().concat()
     }
+}
+
+/// The atoms from 125 on: a private key whose public one is 130; then the
+/// second block, a public and a private key, a symmetric one and a nonce.
+const ACROSS: [[u8; 3]; 6] = [
+    [4, 0, 130],
+    [3, 1, 127],
+    [4, 0, 126],
+    [5, 0, 128],
+    [2, 0, 0],
+    [3, 1, 125],
+];
+
+/// Number, block, place of the verdict; zeros if accepted.
+pub fn spot(file: &[u8]) -> (u32, u32, u32) {
+    let packed = packed(&verdict(file));
+    (packed >> 16, packed >> 8 & 255, packed & 255)
+}
+
+pub fn atom_block(atoms: &[[u8; 3]]) -> Vec<u8> {
+    let entries = atoms.iter().flat_map(|a| [a[0], a[1], a[2], 0]);
+    block(1, &entries.collect::<Vec<u8>>(), &[])
 }
 
 /// A sealed block with one or two lists of entries.

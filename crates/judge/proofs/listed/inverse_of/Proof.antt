@@ -1,16 +1,12 @@
 -- `judge::listed::inverse_of` meets its contract. Assumes nothing.
-use borrow.Author.Needs.{needs}
 use Rattle.judge.specs.File.{certificateOf}
-use Rattle.judge.proofs.Stages.Numbers.{atoms-are, inverse-at}
+use Rattle.judge.proofs.Stages.Numbers.{inverse-at}
 use Rattle.judge.proofs.listed.inverse_of.Statement.{statement}
 use Rattle.judge.proofs.listed.inverse_of.Tie as tie
 
 pub inverse-of-spec : {M : Type 1} → statement M
+unfolding certificateOf
 inverse-of-spec = tie.close (tie.spec
-    (λ c κs. search needs)  -- atom-entries-requires
-    (λ c κs. search needs)  -- atom-at-requires
-    (λ c. let file = c .before .before .before .args .file .now in (
-      inverse-at (certificateOf file) (atoms-are file (c .before .atom-entries .ensures)) _ (c .atom-at .ensures .0),
-      c .atom-at .ensures .1,
-    ))  -- returns
+    (λ c κs. c .before .pre .atoms)  -- atom-at-requires
+    (λ c. (inverse-at (certificateOf (c .before .before .args .file .now)) _ (c .atom-at .ensures .0), c .atom-at .ensures .1))  -- returns
     )

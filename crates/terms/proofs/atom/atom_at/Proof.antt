@@ -1,18 +1,14 @@
 -- `terms::atom::atom_at` meets its contract. Assumes nothing.
-use Rattle.terms.proofs.AtomLaws.{atom-none, atom-entry}
+use mathlib.Core.Path.{_∙_}
+use Rattle.terms.proofs.AtomLaws.{joined-first, joined-second}
 use borrow.Author.Needs.{needs}
 use Rattle.terms.proofs.atom.atom_at.Statement.{statement}
 use Rattle.terms.proofs.atom.atom_at.Tie as tie
 
 pub atom-at-spec : {M : Type 1} → statement M
 atom-at-spec = tie.close (tie.spec
-    (λ c. (atom-none _ _ (c .if1 .taken), search needs))  -- returns
-    (λ c. search needs)  -- mul-e
-    (λ c. search needs)  -- sub-e
-    (λ c. search needs)  -- part-e-start
-    (λ c. search needs)  -- part-e-end
-    (λ c. search needs)  -- shared-slice-read-t10
-    (λ c. search needs)  -- shared-slice-read-t12
-    (λ c κs. search needs)  -- value-requires
-    (λ c. (atom-entry _ _ (c .before .before .before .before .if1 .left) (c .value .ensures .0), c .value .ensures .1))  -- returns-2
+    (λ c κs. search needs)  -- atom-of-requires
+    (λ c κs. search needs)  -- atom-of-requires-2
+    (λ c. (c .atom-of .ensures .0 ∙ joined-first _ _ _ (c .before .if1 .taken), c .atom-of .ensures .1))  -- returns
+    (λ c. (c .atom-of2 .ensures .0 ∙ joined-second _ _ _ (c .before .if1 .left), c .atom-of2 .ensures .1))  -- returns-2
     )

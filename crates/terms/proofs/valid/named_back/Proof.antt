@@ -9,7 +9,7 @@ named-back-spec = tie.close (tie.spec
     (λ c κs. search needs)  -- atom-at-requires
     (λ c κs. search needs)  -- atom-at-requires-2
     (λ c. let at = c .before .before .before in
-    back-named _ _ _ (at .before .atom-at .ensures .0) (at .atom-at2 .ensures .0) (at .before .before .before .pre) (c .before .if1 .taken))  -- returns
+    back-named _ _ _ (at .before .atom-at .ensures .0) (at .atom-at2 .ensures .0) (at .before .before .before .before .pre) (c .before .if1 .taken))  -- returns
     (λ c. let at = c .before .before in
     back-other _ _ _ (at .before .atom-at .ensures .0) (at .atom-at2 .ensures .0) (c .if1 .left))  -- returns-2
     )

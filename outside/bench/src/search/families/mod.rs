@@ -3,6 +3,7 @@
 mod chains;
 mod deep;
 mod hats;
+mod joined;
 mod links;
 mod secrets;
 mod wide;
@@ -56,6 +57,10 @@ pub fn written() -> Vec<Family> {
         family("wide-mixed", wide::mixed),
         family("deep-cycles", deep::cycles),
         family("deep-walks", deep::walks),
+        family("joined-atoms", joined::atoms),
+        family("joined-keys", joined::keys),
+        family("joined-cyclic", joined::cyclic),
+        family("joined-hats", joined::hats),
         family("generated", generated),
     ]
 }
