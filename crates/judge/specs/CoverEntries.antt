@@ -102,6 +102,10 @@ pub record MarkOver (good u : Term Variable) (h k : ℕ) : Type 0 where
   pub low : h + entryAt place u ≤ k
   pub high : k < h + entryAt place u + size subterm
 
+-- The pattern p matches u, and laid on it covers entry k.
+abbrev pub Lays : Term Variable → ℕ → ℕ → Term Variable → Type 0
+Lays u h k p = Matches p u × MarkOver p u h k
+
 -- What laying a pattern asks for: it is the pattern of the term at entry h of e.
 pub record Laying (p e : List ℕ) (h : ℕ) : Type 0 where
   pub pattern : Begins p

@@ -5,10 +5,9 @@ ghost use mathlib.Core.Path.{_≡_};
 ghost use mathlib.Core.Bool.{true};
 ghost use Prim.Native.Nat.{_+_, _*_, _<_, _≤_};
 ghost use lib.ListN.{length, getD};
-ghost use Rattle.blocks.specs.Kinds.{secretKind, goodKind};
+ghost use Rattle.blocks.specs.Kinds.{secretKind, goodKind, ListsTerm};
 ghost use Rattle.blocks.specs.Block.{firstEntries, secondEntries};
 ghost use Rattle.terms.specs.Entry.{Begins, termOf, size};
-ghost use Rattle.terms.specs.Instance.{Matches};
 ghost use Rattle.terms.specs.Decisions.{Says};
 ghost use Rattle.terms.specs.TermGraph.{SizesOf};
 ghost use Rattle.judge.specs.Listed.{rootSlots, HoldsAt, AnyListed, Searching, IsSecret, SharesBad, RootsOf, SizesIn, slotAt};
@@ -17,7 +16,7 @@ ghost use Rattle.judge.specs.File.{blockCount, certificateOf, ruleOf};
 ghost use Rattle.judge.specs.Laid.{Laid, RuleBlock};
 ghost use Rattle.judge.specs.Cover.{NoHat, Risky};
 ghost use Rattle.judge.specs.Verdict as verdicts;
-ghost use Rattle.judge.specs.CoverEntries.{subAt, On, Raised, Cleared, MarkOver, Laying, Standing, HatOver, HatBelow, Flags, Entries, OpenAmong, OpenFlags};
+ghost use Rattle.judge.specs.CoverEntries.{subAt, On, Raised, Cleared, MarkOver, Lays, Laying, Standing, HatOver, HatBelow, Flags, Entries, OpenAmong, OpenFlags};
 ghost use Rattle.judge.specs.CoverEntries.{ClosedBelow, Flagged, FlaggedWith, SomeFlagged, IndexedBelow, Indexed, Remembered, RiskyEntry, Wanted, WantedEntry, Concluded};
 use crate::flag;
 use crate::flag::FLAGS;
@@ -53,42 +52,49 @@ fn mark_cover(p: &[u8], e: &[u8], h: usize, marked: &mut [u8; FLAGS])
     }
 }
 
-// Lays the pattern of block i, if it is a good one and matches the term at entry h.
-fn lay_good(file: &[u8], i: usize, e: &[u8], h: usize, marked: &mut [u8; FLAGS])
-    requires { ⌜ Standing (now file) (now e) h × (i < blockCount (now file)) × (length (now marked) ≡ entryFlags) ⌝ }
-    ensures { λ _. ⌜ Raised (now (marked .entry)) (now (marked .exit))
-        (λ k. HoldsAt (now (file .entry)) goodKind (λ p. Matches p (subAt (now (e .entry)) h) × MarkOver p (subAt (now (e .entry)) h) h k) i) ⌝ }
+// Lays the pattern of block i, if it is of this kind and matches the term at entry h.
+fn lay_pattern(
+    file: &[u8],
+    i: usize,
+    kind: u8,
+    e: &[u8],
+    h: usize,
+    marked: &mut [u8; FLAGS],
+)
+    requires { ⌜ Standing (now file) (now e) h × ListsTerm kind × (i < blockCount (now file)) × (length (now marked) ≡ entryFlags) ⌝ }
+    ensures { λ _. ⌜ Raised (now (marked .entry)) (now (marked .exit)) (λ k. HoldsAt (now (file .entry)) kind (Lays (subAt (now (e .entry)) h) h k) i) ⌝ }
 {
-    let block = blocks::block(file, i);
-    if blocks::kind(block) == kinds::GOOD {
-        let p = blocks::first_entries(block);
+    if listed::is_kind(file, i, kind) {
+        let p = listed::term_at(file, i);
         if matching::matches(p, &e[4 * h..]) {
             mark_cover(p, e, h, marked);
         }
     }
 }
 
-// Lays every good pattern that matches the term at entry h.
-fn lay_goods(file: &[u8], e: &[u8], h: usize, marked: &mut [u8; FLAGS])
-    requires { ⌜ Standing (now file) (now e) h × (length (now marked) ≡ entryFlags) ⌝ }
-    ensures { λ _. ⌜ Raised (now (marked .entry)) (now (marked .exit))
-        (λ k. AnyListed (certificateOf (now (file .entry))) goodKind (λ p. Matches p (subAt (now (e .entry)) h) × MarkOver p (subAt (now (e .entry)) h) h k)) ⌝ }
+// Lays every pattern of this kind that matches the term at entry h, from the last block back to the first of a lower kind.
+fn lay_patterns(file: &[u8], kind: u8, e: &[u8], h: usize, marked: &mut [u8; FLAGS])
+    requires { ⌜ Standing (now file) (now e) h × ListsTerm kind × (length (now marked) ≡ entryFlags) ⌝ }
+    ensures { λ _. ⌜ Raised (now (marked .entry)) (now (marked .exit)) (λ k. AnyListed (certificateOf (now (file .entry))) kind (Lays (subAt (now (e .entry)) h) h k)) ⌝ }
 {
     let count = file.len() / limits::BLOCK_SIZE;
-    let mut i = 0;
-    while i < count {
-        lay_good(file, i, e, h, marked);
-        i += 1;
+    let mut left = count;
+    while 0 < left {
+        lay_pattern(file, left - 1, kind, e, h, marked);
+        if listed::kind_at(file, left - 1) < kind {
+            return;
+        }
+        left -= 1;
     }
 }
 
-// The entries at or below a mark of a good pattern that matches the term at entry h.
-fn marked_places(file: &[u8], e: &[u8], h: usize) -> [u8; FLAGS]
-    requires { ⌜ Standing (now file) (now e) h ⌝ }
-    ensures { λ r. ⌜ Flags r (λ k. AnyListed (certificateOf (now (file .entry))) goodKind (λ p. Matches p (subAt (now (e .entry)) h) × MarkOver p (subAt (now (e .entry)) h) h k)) ⌝ }
+// The entries at or below a mark of a pattern of this kind that matches the term at entry h.
+fn marked_places(file: &[u8], kind: u8, e: &[u8], h: usize) -> [u8; FLAGS]
+    requires { ⌜ Standing (now file) (now e) h × ListsTerm kind ⌝ }
+    ensures { λ r. ⌜ Flags r (λ k. AnyListed (certificateOf (now (file .entry))) kind (Lays (subAt (now (e .entry)) h) h k)) ⌝ }
 {
     let mut marked = [0u8; FLAGS];
-    lay_goods(file, e, h, &mut marked);
+    lay_patterns(file, kind, e, h, &mut marked);
     marked
 }
 
@@ -133,7 +139,7 @@ fn take_hat(
     ensures flags { λ _. ⌜ Cleared (now (bare .entry)) (now (bare .exit)) (HatOver (certificateOf (now (file .entry))) (subAt (now (e .entry)) h) h) ⌝ }
 {
     if !shares_bad(file, sizes, e, z, h, shared) {
-        let marked = marked_places(file, e, h);
+        let marked = marked_places(file, kinds::GOOD, e, h);
         flag::clear(bare, &marked);
     }
 }

@@ -45,7 +45,7 @@ pub enum Condition {
 }
 
 // The kind of block i.
-fn kind_at(file: &[u8], i: usize) -> u8
+pub fn kind_at(file: &[u8], i: usize) -> u8
     requires { ⌜ i < blockCount (now file) ⌝ }
     ensures { λ r. ⌜ r ≡ kindOf (blockAt (now (file .entry)) i) ⌝ }
 {
@@ -53,7 +53,7 @@ fn kind_at(file: &[u8], i: usize) -> u8
 }
 
 // Is block i of this kind?
-fn is_kind(file: &[u8], i: usize, kind: u8) -> bool
+pub fn is_kind(file: &[u8], i: usize, kind: u8) -> bool
     requires { ⌜ i < blockCount (now file) ⌝ }
     ensures { λ r. ⌜ Says r (kindOf (blockAt (now (file .entry)) i) ≡ kind) ⌝ }
 {
@@ -61,7 +61,7 @@ fn is_kind(file: &[u8], i: usize, kind: u8) -> bool
 }
 
 // The entries of the term of block i.
-fn term_at(file: &[u8], i: usize) -> &[u8]
+pub fn term_at(file: &[u8], i: usize) -> &[u8]
     requires { ⌜ (i < blockCount (now file)) × TermBlock (blockAt (now file) i) ⌝ }
     ensures { λ r. ⌜ TermPart (now (file .entry)) i (now r) ⌝ }
 {

@@ -2,9 +2,9 @@
 use mathlib.Core.Path.{_≡_, refl, sym, ap, subst, _∙_}
 use mathlib.Core.List.{List}
 use mathlib.Core.Logic.{_⊎_, inl, inr, _↔_}
-use Prim.Native.Nat.{ℕ, _+_, _*_, _<_, _≤_}
+use Prim.Native.Nat.{ℕ, _+_, _*_, _-_, _<_, _≤_}
 use native.Mathlib.Omega.{arith}
-use native.Mathlib.Decide.{ℕ-discrete}
+use native.Mathlib.Decide.{ℕ-discrete, decLe}
 use borrow.Rule.Slice.PartAt.{part-to-end}
 use lib.ListN.{length, getD, replicate}
 use Rattle.blocks.specs.Kinds.{goodKind, badKind, ListsTerm}
@@ -20,13 +20,13 @@ use Rattle.terms.proofs.TermGraphLaws.{tag-in}
 use Rattle.terms.proofs.PlacedLaws.{placed, within, spotted, subterm-at, strictly-above-entry}
 use Rattle.judge.specs.Certificate.{Certificate, Good}
 use Rattle.judge.specs.File.{blockCount, patternOf, certificateOf}
-use Rattle.judge.specs.Laid.{Laid, TermBlock}
+use Rattle.judge.specs.Laid.{Laid}
 use Rattle.judge.specs.Cover.{SureHat}
-use Rattle.judge.specs.Listed.{listedOf, AnyListed, HoldsAt, Searching, SharesListed}
-use Rattle.judge.specs.CoverEntries.{subAt, On, Raised, Cleared, SomeOn, Flags, MarkOver, Laying, Standing, HatOver, HatBelow}
+use Rattle.judge.specs.Listed.{listedOf, AnyListed, HoldsAt, Searching, SharesListed, TermPart}
+use Rattle.judge.specs.CoverEntries.{subAt, On, Raised, Cleared, SomeOn, Flags, MarkOver, Lays, Laying, Standing, HatOver, HatBelow}
 use Rattle.judge.proofs.Covering.Flags.{raised-none, raised-as, raised-twice, zero-off, zero-bits, cleared-none, cleared-as, cleared-twice}
 use Rattle.judge.proofs.Covering.Marks.{mark-inside, mark-place}
-use Rattle.judge.proofs.Stages.Listing.{one-found, none-found}
+use Rattle.judge.proofs.Stages.Listing.{one-found, none-found, held-at}
 use Rattle.judge.proofs.Stages.ListedLaws.{not-bad-is}
 
 -- What a search at entry h asks for.
@@ -41,83 +41,75 @@ standing-end {e = e} {h = h} s is =
     let short = s .short in let inside = s .inside in
     (omega arith, omega (arith, from-length (4 * h) e))
 
--- A good block's pattern.
-pub good-block : {file : List ℕ} {i : ℕ} {b : List ℕ} → Laid file → i < blockCount file → b ≡ blockAt file i → {n : ℕ} → n ≡ kindOf b → n ≡ goodKind → TermBlock b
-good-block {file} {i} {b} laid inside is {n} kind good =
-    let k : kindOf (blockAt file i) ≡ goodKind = ap kindOf (sym is) ∙ sym kind ∙ good in rw is (laid .terms i inside (good-lists k))
+-- What laying the pattern of a block asks for.
+pub pattern-laying : {file e p : List ℕ} {h i : ℕ} → Standing file e h → TermPart file i p → Matches (termOf p) (subAt e h) → Laying p e h
+pattern-laying s part match = record { pattern = part .term; term = s .term; match = match; inside = let l = s .inside in omega arith; short = s .short }
 
-pub good-part : {b p : List ℕ} → TermBlock b → p ≡ firstEntries b → Begins p
-good-part block part = rw part (block .term)
-
-pub good-laying : {file e p : List ℕ} {h : ℕ} → Standing file e h → Begins p → Matches (termOf p) (subAt e h) → Laying p e h
-good-laying s b match = record { pattern = b; term = s .term; match = match; inside = let l = s .inside in omega arith; short = s .short }
-
--- The good pattern p of a block and the subterm u at entry h: what laying covers.
-abbrev pub Lays : Term Variable → ℕ → ℕ → Term Variable → Type 0
-Lays u h k p = Matches p u × MarkOver p u h k
-
-module _ (file : List ℕ) (i : ℕ) {b : List ℕ} (is : b ≡ blockAt file i) {p : List ℕ} (part : p ≡ firstEntries b) where
-  pattern-is : termOf p ≡ patternOf (blockAt file i)
+-- What one block raises: of this kind, and of another.
+module _ {file : List ℕ} {kind i : ℕ} where
+  pub pattern-raised : (P : ℕ → Term Variable → Type 0) {Q : ℕ → Type 0} → kindOf (blockAt file i) ≡ kind → {p : List ℕ} → TermPart file i p
+      → ((k : ℕ) → Q k ↔ P k (termOf p)) → {old new : List ℕ} → Raised old new Q → Raised old new (λ k. HoldsAt file kind (P k) i)
   unfolding patternOf
-  pattern-is = ap (λ (q : List ℕ). termOf q) (part ∙ ap firstEntries is)
+  pattern-raised P is part same r =
+      let term = ap termOf (part .part) in
+      raised-as r (λ k. (
+        λ q. record { of-kind = is; holds = subst (P k) term (same k .0 q) },
+        λ w. same k .1 (subst (P k) (sym term) (w .holds)),
+      ))
 
-  pattern-lays : {u : Term Variable} {h k : ℕ} → Lays u h k (termOf p) → Lays u h k (patternOf (blockAt file i))
-  pattern-lays {u} {h} {k} w = subst (Lays u h k) pattern-is w
+  pub no-match-raised : {u : Term Variable} {h : ℕ} {p : List ℕ} → TermPart file i p → {old : List ℕ} → length old ≡ 64 → ¬ Matches (termOf p) u
+      → Raised old old (λ k. HoldsAt file kind (Lays u h k) i)
+  unfolding patternOf
+  no-match-raised {u} {h} part long off = raised-none long (λ k w. off (rw (← (ap termOf (part .part))) at (w .holds .0)))
 
-  pub good-raised : kindOf b ≡ goodKind → {u : Term Variable} {h : ℕ} {old new : List ℕ} → Matches (termOf p) u → Raised old new (MarkOver (termOf p) u h)
-      → Raised old new (λ k. HoldsAt file goodKind (Lays u h k) i)
-  good-raised kind {u} {h} match r = raised-as r (λ k. (
-    λ m. record { of-kind = ap kindOf (sym is) ∙ kind; holds = pattern-lays (match, m) },
-    λ w. rw pattern-is (w .holds .1),
-  ))
+  pub other-raised : {P : ℕ → Term Variable → Type 0} {old : List ℕ} → length old ≡ 64 → ¬ (kindOf (blockAt file i) ≡ kind)
+      → Raised old old (λ k. HoldsAt file kind (P k) i)
+  other-raised long off = raised-none long (λ k w. off (w .of-kind))
 
-  pub no-match-raised : {u : Term Variable} {h : ℕ} {old : List ℕ} → length old ≡ 64 → ¬ Matches (termOf p) u
-      → Raised old old (λ k. HoldsAt file goodKind (Lays u h k) i)
-  no-match-raised {u} {h} long off = raised-none long (λ k w. off (rw pattern-is (w .holds .0)))
-
-pub other-raised : (file : List ℕ) (i : ℕ) {b : List ℕ} → b ≡ blockAt file i → ¬ (kindOf b ≡ goodKind) → {P : ℕ → Term Variable → Type 0} {old : List ℕ}
-    → length old ≡ 64
-    → Raised old old (λ k. HoldsAt file goodKind (P k) i)
-other-raised file i is off long = raised-none long (λ k w. off (ap kindOf is ∙ w .of-kind))
-
--- Block after block.
-pub record LaidBelow (file : List ℕ) (u : Term Variable) (h n k : ℕ) : Type 0 where
+-- Block after block, from the last one back: a block from number n on holds one.
+pub record HeldFrom (file : List ℕ) (kind : ℕ) (P : Term Variable → Type 0) (n : ℕ) : Type 0 where
   pub number : ℕ
-  pub before : number < n
-  pub holds : HoldsAt file goodKind (Lays u h k) number
+  pub low : n ≤ number
+  pub inside : number < blockCount file
+  pub holds : HoldsAt file kind P number
 
-pub laid-none : {file : List ℕ} {u : Term Variable} {h : ℕ} {old : List ℕ} → length old ≡ 64 → Raised old old (LaidBelow file u h 0)
-laid-none long = raised-none long (λ k w. (let l = w .before in omega arith))
+-- The blocks before are of lower kinds, or there are none: all are asked.
+held-listed : {file : List ℕ} {kind n : ℕ} (P : Term Variable → Type 0) → Laid file → ListsTerm kind
+    → ((i : ℕ) → i < blockCount file → kindOf (blockAt file i) ≡ kind → n ≤ i) → HeldFrom file kind P n ↔ AnyListed (certificateOf file) kind P
+held-listed {kind = kind} P laid lists from-here = (
+  λ w. one-found laid kind P lists (w .inside) (w .holds),
+  λ a. (let w = held-at laid kind P a in record { number = w .0; low = from-here (w .0) (w .1) (w .2 .of-kind); inside = w .1; holds = w .2 }),
+)
 
-pub laid-more : {file : List ℕ} {u : Term Variable} {h i : ℕ} {a b c : List ℕ} → Raised a b (LaidBelow file u h i)
-    → Raised b c (λ k. HoldsAt file goodKind (Lays u h k) i)
-    → Raised a c (LaidBelow file u h (i + 1))
-laid-more {file} {u} {h} {i} r s = raised-as (raised-twice r s) (λ k. (to k, λ w. back k w (ℕ-discrete (w .number) i)))
-  where
-    to : (k : ℕ) → LaidBelow file u h i k ⊎ HoldsAt file goodKind (Lays u h k) i → LaidBelow file u h (i + 1) k
-    to k (inl w) = record { number = w .number; before = let l = w .before in omega arith; holds = w .holds }
-    to k (inr w) = record { number = i; before = omega arith; holds = w }
+module _ {file : List ℕ} {kind : ℕ} {P : ℕ → Term Variable → Type 0} where
+  pub held-none : {n : ℕ} {old : List ℕ} → length old ≡ 64 → n ≡ blockCount file → Raised old old (λ k. HeldFrom file kind (P k) n)
+  held-none long all = raised-none long (λ k w. (let l = w .low in let g = w .inside in omega arith))
 
-    back : (k : ℕ) (w : LaidBelow file u h (i + 1) k) → Dec (w .number ≡ i) → LaidBelow file u h i k ⊎ HoldsAt file goodKind (Lays u h k) i
-    back k w (yes e) = inr (rw e at (w .holds))
-    back k w (no n) = inl (record { number = w .number; before = let l = w .before in omega arith; holds = w .holds })
+  pub held-more : {n : ℕ} {a b c : List ℕ} → 0 < n → n ≤ blockCount file → Raised a b (λ k. HeldFrom file kind (P k) n)
+      → Raised b c (λ k. HoldsAt file kind (P k) (n - 1)) → Raised a c (λ k. HeldFrom file kind (P k) (n - 1))
+  held-more {n} some-left within r s = raised-as (raised-twice r s) (λ k. (to k, λ w. back k w (ℕ-discrete (w .number) (n - 1))))
+    where
+      to : (k : ℕ) → HeldFrom file kind (P k) n ⊎ HoldsAt file kind (P k) (n - 1) → HeldFrom file kind (P k) (n - 1)
+      to k (inl w) = record { number = w .number; low = let l = w .low in omega arith; inside = w .inside; holds = w .holds }
+      to k (inr w) = record { number = n - 1; low = omega arith; inside = omega arith; holds = w }
 
-pub laid-all : {file : List ℕ} {u : Term Variable} {h n : ℕ} {old new : List ℕ} → Laid file → n ≡ blockCount file → Raised old new (LaidBelow file u h n)
-    → Raised old new (λ k. AnyListed (certificateOf file) goodKind (Lays u h k))
-laid-all {file} {u} {h} {n} {old} {new} laid all r = record { long = r .long; bits = r .bits; on = λ k. (λ e. to k (r .on k .0 e), back k) }
-  where
-    to : (k : ℕ) → On old k ⊎ LaidBelow file u h n k → On old k ⊎ AnyListed (certificateOf file) goodKind (Lays u h k)
-    to k (inl e) = inl e
-    to k (inr w) = inr (one-found laid goodKind (Lays u h k) (good-lists refl) (rw all at (w .before)) (w .holds))
+      back : (k : ℕ) (w : HeldFrom file kind (P k) (n - 1)) → Dec (w .number ≡ n - 1) → HeldFrom file kind (P k) n ⊎ HoldsAt file kind (P k) (n - 1)
+      back k w (yes e) = inr (rw e at (w .holds))
+      back k w (no off) = inl (record { number = w .number; low = let l = w .low in omega arith; inside = w .inside; holds = w .holds })
 
-    listed : (k : ℕ) → AnyListed (certificateOf file) goodKind (Lays u h k) → Dec (On new k) → On new k
-    listed k a (yes e) = e
-    listed k a (no off) =
-        absurd (none-found laid goodKind (Lays u h k) (λ i inside w. off (r .on k .1 (inr (record { number = i; before = rw all inside; holds = w })))) a)
+  pub held-all : {n : ℕ} → Laid file → ListsTerm kind → n ≡ 0 → {old new : List ℕ} → Raised old new (λ k. HeldFrom file kind (P k) n)
+      → Raised old new (λ k. AnyListed (certificateOf file) kind (P k))
+  held-all laid lists none-left r = raised-as r (λ k. held-listed (P k) laid lists (λ i inside is. omega arith))
 
-    back : (k : ℕ) → On old k ⊎ AnyListed (certificateOf file) goodKind (Lays u h k) → On new k
-    back k (inl e) = r .on k .1 (inl e)
-    back k (inr a) = listed k a (ℕ-discrete (getD new k 0) 1)
+  pub held-lower : {n m : ℕ} → Laid file → ListsTerm kind → n < blockCount file → m ≡ kindOf (blockAt file n) → m < kind
+      → {old new : List ℕ} → Raised old new (λ k. HeldFrom file kind (P k) n) → Raised old new (λ k. AnyListed (certificateOf file) kind (P k))
+  held-lower {n} laid lists here of-kind lower r = raised-as r (λ k. held-listed (P k) laid lists low)
+    where
+      low : (i : ℕ) → i < blockCount file → kindOf (blockAt file i) ≡ kind → n ≤ i
+      low i inside is = elim (decLe n i) [
+        | yes l ↦ l
+        | no off ↦ absurd (omega (arith, laid .ordered i n (omega arith) here))
+      ]
 
 -- The term at entry h as a hat: what the good patterns lay is put off, if no bad one shares an instance with it.
 module _ {c : Certificate} {u : Term Variable} {h : ℕ} where

@@ -111,14 +111,16 @@ module _ {file : List ℕ} (laid : Laid file) where
   ]
 
   module _ (kind : ℕ) (P : Term Variable → Type 0) where
-    -- One is found at a block: one is listed. None is found at any block: none is.
+    -- One is found at a block: one is listed, and the other way round. None is found at any block: none is.
     pub one-found : {i : ℕ} → ListsTerm kind → i < blockCount file → HoldsAt file kind P i → AnyListed (certificateOf file) kind P
     one-found lists inside h = record { term = _; listed = listed-at kind lists inside (h .of-kind); holds = h .holds }
 
+    pub held-at : AnyListed (certificateOf file) kind P → (i : ℕ) × (i < blockCount file) × HoldsAt file kind P i
+    held-at s =
+        let w = listed-from kind (s .listed) in (w .0, w .1, record { of-kind = w .2; holds = subst P (sym (w .3)) (s .holds) })
+
     pub none-found : ((i : ℕ) → i < blockCount file → ¬ HoldsAt file kind P i) → ¬ AnyListed (certificateOf file) kind P
-    none-found none s =
-        let w = listed-from kind (s .listed) in
-        none (w .0) (w .1) (record { of-kind = w .2; holds = subst P (sym (w .3)) (s .holds) })
+    none-found none s = let w = held-at s in none (w .0) (w .1) (w .2)
 
 -- The answer of a search, early and at its end.
 module _ {file : List ℕ} {kind : ℕ} {e : List ℕ} (asked : Searching file kind e) (P : Term Variable → Type 0) where

@@ -6,6 +6,6 @@ use Rattle.judge.proofs.cover.marked_places.Tie as tie
 
 pub marked-places-spec : {M : Type 1} → statement M
 marked-places-spec = tie.close (tie.spec
-    (λ c κs. search needs)  -- lay-goods-requires
-    (λ c. marked-flags (c .lay-goods .ensures))  -- returns
+    (λ c κs. search needs)  -- lay-patterns-requires
+    (λ c. marked-flags (c .lay-patterns .ensures))  -- returns
     )

@@ -1,5 +1,7 @@
 -- `judge::cover::take_hat` meets its contract. Assumes nothing.
+use mathlib.Core.Path.{refl}
 use borrow.Author.Needs.{needs}
+use Rattle.blocks.proofs.KindLaws.{good-lists}
 use borrow.Author.Tests.{not-true, not-false}
 use Rattle.terms.proofs.AnswerLaws.{says-yes, says-no}
 use Rattle.judge.proofs.Covering.Hats.{hat-taken, hat-shares}
@@ -9,7 +11,7 @@ use Rattle.judge.proofs.cover.take_hat.Tie as tie
 pub take-hat-spec : {M : Type 1} → statement M
 take-hat-spec = tie.close (tie.spec
     (λ c κs. let pre = c .before .before .before .pre in (pre .0, pre .1, pre .3, pre .4))  -- shares-bad-requires
-    (λ c κs. c .before .before .before .before .before .pre .0)  -- marked-places-requires
+    (λ c κs. (c .before .before .before .before .before .pre .0, good-lists refl))  -- marked-places-requires
     (λ c κs. (c .before .before .before .before .before .before .before .before .pre .2, c .before .before .marked-places .ensures .long))  -- clear-requires
     (λ c. let told = c .before .before .before .before .before .shares-bad in (
       told .ensures .1,
