@@ -2,7 +2,7 @@
 -- there is what the entries from k on begin with (terms/proofs/PlacedLaws.antt).
 use mathlib.Core.Path.{_≡_}
 use mathlib.Core.Bool.{Bool, true, false}
-use mathlib.Core.List.{List}
+use mathlib.Core.List.{List, _++_}
 use mathlib.Core.Logic.{_⊎_, _↔_}
 use mathlib.Core.Option.{some}
 use Prim.Native.Nat.{ℕ, _+_, _*_, _-_, _<_, _≤_}
@@ -10,15 +10,17 @@ use lib.ListN.{length, getD}
 use Rattle.blocks.specs.Kinds.{ruleKind}
 use Rattle.blocks.specs.Limits.{mostTermBytes}
 use Rattle.blocks.specs.Block.{blockAt, kindOf}
-use Rattle.terms.specs.Term.{Term, Variable, variable, marked, named}
+use Rattle.terms.specs.Term.{Term, Variable}
 use Rattle.terms.specs.Place.{Place, subtermAt}
-use Rattle.terms.specs.Instance.{Matches}
+use Rattle.terms.specs.Instance.{Matches, Share}
 use Rattle.terms.specs.Entry.{size, termOf, Begins, from, entryAt}
-use Rattle.judge.specs.Certificate.{Certificate, Good}
+use Rattle.terms.specs.Tag.{markedTag}
+use Rattle.terms.specs.TermGraph.{SizesOf}
+use Rattle.judge.specs.Certificate.{Certificate, Good, Bad}
+use Rattle.judge.specs.Hat.{MarkAt, Marked}
 use Rattle.judge.specs.Laid.{Laid}
-use Rattle.judge.specs.Cover.{NoHat, Risky}
+use Rattle.judge.specs.Cover.{Risky}
 use Rattle.judge.specs.Listed.{IsSecret, rootSlots, slotAt}
-use Rattle.judge.specs.Decisions.{NotBad}
 
 -- The subterm at entry k.
 abbrev pub subAt : List ℕ → ℕ → Term Variable
@@ -36,14 +38,23 @@ On flags k = getD flags k 0 ≡ 1
 abbrev pub Bits : List ℕ → Type 0
 Bits flags = (k : ℕ) → getD flags k 0 ≤ 1
 
--- The flag of an answer; and a flag, put off or as it is.
+-- The flag of an answer; and a flag, put on or off, or as it is.
 unfoldable pub flagOf : Bool → ℕ
 flagOf true = 1
 flagOf false = 0
 
+unfoldable pub putOn : ℕ → Bool → ℕ
+putOn flag true = 1
+putOn flag false = flag
+
 unfoldable pub putOff : ℕ → Bool → ℕ
 putOff flag true = 0
 putOff flag false = flag
+
+-- One of two answers is yes.
+unfoldable pub either : Bool → Bool → Bool
+either true b = true
+either false b = b
 
 -- What is remembered of an answer: 1 for yes, 2 for no; 0 says that it is not known.
 unfoldable pub toldOf : Bool → ℕ
@@ -85,6 +96,12 @@ pub record Cleared (old new : List ℕ) (P : ℕ → Type 0) : Type 0 where
   pub kept : (k : ℕ) → On new k → On old k × ¬ P k
   pub gone : (k : ℕ) → On old k → ¬ On new k → P k
 
+-- Of the flags from entry `low` up to entry `high` that were on, those that are on in the other ones are; the rest is as it was.
+pub record Narrowed (old new : List ℕ) (low high : ℕ) (kept : List ℕ) : Type 0 where
+  pub long : length new ≡ entryFlags
+  pub bits : Bits old → Bits new
+  pub on : (k : ℕ) → On new k ↔ (On old k × (low ≤ k → k < high → On kept k))
+
 -- A flag from `low` up to `high` is on.
 pub record SomeOn (flags : List ℕ) (low high : ℕ) : Type 0 where
   pub number : ℕ
@@ -92,19 +109,43 @@ pub record SomeOn (flags : List ℕ) (low high : ℕ) : Type 0 where
   pub below : number < high
   pub on : On flags number
 
+-- A flag is on in both.
+pub record SomeBoth (flags others : List ℕ) : Type 0 where
+  pub number : ℕ
+  pub on : On flags number
+  pub other : On others number
+
 -- With a pattern laid on the subterm u at entry h, a marked variable of it stands at or above entry k.
-pub record MarkOver (good u : Term Variable) (h k : ℕ) : Type 0 where
+pub record MarkOver (pattern u : Term Variable) (h k : ℕ) : Type 0 where
   pub number : ℕ
   pub place : Place
   pub subterm : Term Variable
-  pub stands : subtermAt place good ≡ some (variable (named marked number))
+  pub stands : MarkAt pattern place number
   pub under : subtermAt place u ≡ some subterm
   pub low : h + entryAt place u ≤ k
   pub high : k < h + entryAt place u + size subterm
 
+-- One stands at or below entry k: `place` leads to the entry, and `rest` from there to the mark, which u need not have.
+pub record MarkUnder (pattern u : Term Variable) (h k : ℕ) : Type 0 where
+  pub number : ℕ
+  pub place : Place
+  pub rest : Place
+  pub subterm : Term Variable
+  pub stands : MarkAt pattern (place ++ rest) number
+  pub under : subtermAt place u ≡ some subterm
+  pub entry : h + entryAt place u ≡ k
+
+-- One stands at, above or below entry k.
+abbrev pub MarkAround : Term Variable → Term Variable → ℕ → ℕ → Type 0
+MarkAround pattern u h k = MarkOver pattern u h k ⊎ MarkUnder pattern u h k
+
 -- The pattern p matches u, and laid on it covers entry k.
 abbrev pub Lays : Term Variable → ℕ → ℕ → Term Variable → Type 0
 Lays u h k p = Matches p u × MarkOver p u h k
+
+-- The pattern p shares an instance with u, and has a mark at, above or below entry k.
+abbrev pub LaysAround : Term Variable → ℕ → ℕ → Term Variable → Type 0
+LaysAround u h k p = Share p u × MarkAround p u h k
 
 -- What laying a pattern asks for: it is the pattern of the term at entry h of e.
 pub record Laying (p e : List ℕ) (h : ℕ) : Type 0 where
@@ -114,6 +155,19 @@ pub record Laying (p e : List ℕ) (h : ℕ) : Type 0 where
   pub inside : 4 * h ≤ length e
   pub short : length e ≤ mostTermBytes
 
+-- What laying a pattern around asks for: the pattern's part at entry i of p, which has no marks from entry `last` on, a term at
+-- entry h of e, and the sizes of both.
+pub record LayingAround (p y : List ℕ) (last i : ℕ) (e z : List ℕ) (h : ℕ) : Type 0 where
+  pub pattern : Begins (from (4 * i) p)
+  pub term : Begins (from (4 * h) e)
+  pub pattern-inside : 4 * i < length p
+  pub inside : 4 * h < length e
+  pub pattern-short : length p ≤ mostTermBytes
+  pub short : length e ≤ mostTermBytes
+  pub pattern-sizes : SizesOf p y
+  pub behind : (k : ℕ) → last ≤ k → ¬ (getD p (4 * k) 0 ≡ markedTag)
+  pub sizes : SizesOf e z
+
 -- The file is laid, and a term stands at entry h of e.
 pub record Standing (file e : List ℕ) (h : ℕ) : Type 0 where
   pub laid : Laid file
@@ -121,14 +175,21 @@ pub record Standing (file e : List ℕ) (h : ℕ) : Type 0 where
   pub inside : 4 * h < length e
   pub short : length e ≤ mostTermBytes
 
+-- What a bad pattern laid on the subterm u at entry h cancels, and may cancel, for entry k.
+abbrev pub CancelsOver : Term Variable → Term Variable → ℕ → ℕ → Type 0
+CancelsOver bad u h k = (¬ Marked bad) ⊎ MarkOver bad u h k
+
+abbrev pub MayCancelOver : Term Variable → Term Variable → ℕ → ℕ → Type 0
+MayCancelOver bad u h k = (¬ Marked bad) ⊎ MarkAround bad u h k
+
 -- A sure hat for entry k: the subterm u at entry h, a good pattern with its variables replaced by terms, a mark at or
--- above the entry, that shares an instance with no bad pattern.
+-- above the entry, that shares an instance with no bad pattern that counts for the entry.
 pub record HatOver (certificate : Certificate) (u : Term Variable) (h k : ℕ) : Type 0 where
   pub good : Term Variable
   pub listed : Good certificate good
   pub match : Matches good u
   pub mark : MarkOver good u h k
-  pub notBad : NotBad certificate u
+  pub notBad : (bad : Term Variable) → Bad certificate bad → Share bad u → MayCancelOver bad u h k → ⊥
 
 -- There is one among the first n entries.
 pub record HatBelow (certificate : Certificate) (e : List ℕ) (n k : ℕ) : Type 0 where
@@ -148,17 +209,22 @@ pub record Entries (e : List ℕ) : Type 0 where
   pub whole : ¬ (length e ≡ 0) → 4 * size (termOf e) ≡ length e
   pub short : length e ≤ mostTermBytes
 
--- Entry k is open as far as the first n entries go: every encryption among them that stands strictly above it either
--- shares an instance with no good pattern, or is a bad pattern with its variables replaced by terms.
+-- What an open entry k may have above it: the subterm u at entry h, which shares an instance with no good pattern, or is a
+-- bad pattern with its variables replaced by terms that counts for the entry.
+pub data NoHatOver (certificate : Certificate) (u : Term Variable) (h k : ℕ) : Type 0 where
+  sharesNoGood : ((good : Term Variable) → Good certificate good → Share good u → ⊥) → NoHatOver certificate u h k
+  isBad : {bad : Term Variable} → Bad certificate bad → Matches bad u → CancelsOver bad u h k → NoHatOver certificate u h k
+
+-- Entry k is open as far as the first n entries go: every encryption among them that stands strictly above it is such.
 pub record OpenBelow (certificate : Certificate) (e : List ℕ) (n k : ℕ) : Type 0 where
   pub inside : k < size (termOf e)
-  pub every : (h : ℕ) → h < n → getD e (4 * h) 0 ≡ 3 → h < k → k < h + size (subAt e h) → NoHat certificate (subAt e h)
+  pub every : (h : ℕ) → h < n → getD e (4 * h) 0 ≡ 3 → h < k → k < h + size (subAt e h) → NoHatOver certificate (subAt e h) h k
 
--- The entries strictly below entry h are closed, if it is an encryption that no open place may have above it.
+-- Of the entries strictly below entry h, if it is an encryption, those are closed that may not have it above them.
 pub record ClosedBelow (certificate : Certificate) (old new e : List ℕ) (h : ℕ) : Type 0 where
   pub long : length new ≡ entryFlags
   pub bits : Bits old → Bits new
-  pub on : (k : ℕ) → On new k ↔ (On old k × (getD e (4 * h) 0 ≡ 3 → h < k → k < h + size (subAt e h) → NoHat certificate (subAt e h)))
+  pub on : (k : ℕ) → On new k ↔ (On old k × (getD e (4 * h) 0 ≡ 3 → h < k → k < h + size (subAt e h) → NoHatOver certificate (subAt e h) h k))
 
 -- Entry k is an open place of the term, if there is one.
 pub record OpenEntry (certificate : Certificate) (e : List ℕ) (k : ℕ) : Type 0 where

@@ -15,8 +15,8 @@ use Rattle.terms.specs.Instance.{Matches, Share}
 use Rattle.terms.specs.Decisions.{dec-map, dec-not, dec-and, dec-or}
 use Rattle.terms.specs.Search.{any?, all?, member?, any-above?, all-above?, at-or-above?, any-place?}
 use Rattle.judge.specs.Certificate.{Rule, Certificate, Secret, Good, Bad, Known, inverse}
-use Rattle.judge.specs.Hat.{Mark}
-use Rattle.judge.specs.Cover.{SureHat, NoHat, sharesNoGood, isBad, Open, AtOpenPlace, Risky, isVariable}
+use Rattle.judge.specs.Hat.{Mark, Marked, Cancels, everywhere, atMark}
+use Rattle.judge.specs.Cover.{MarkBelow, MayCancel, cancels, belowPlace, SureHat, NoHat, sharesNoGood, isBad, Open, AtOpenPlace, Risky, isVariable}
 use Rattle.judge.specs.Cover.{sharesSecret, Covered, sureHat, inPremise, Dead}
 use Rattle.judge.specs.Conditions.{KnownAtom, WeaklyClosed, KeptKey}
 
@@ -81,7 +81,7 @@ kept-key? certificate (variable x) = no (λ h. let e = h .same in let z : _≡_ 
 kept-key? certificate (atom a) = no (λ h. let e = h .same in let z : _≡_ {A = ℕ} 0 1 = cc in omega arith)
 kept-key? certificate (pair t u) = no (λ h. let e = h .same in let z : _≡_ {A = ℕ} 0 1 = cc in omega arith)
 
--- A mark at or above the place.
+-- A mark of a pattern.
 unfoldable pub marked? : (t : Term Variable) → Dec ((n : ℕ) × (t ≡ variable (named marked n)))
 marked? (variable (named plain n)) = no (λ w. let e = w .1 in let z : _≡_ {A = ℕ} 0 1 = cc in omega arith)
 marked? (variable (named marked n)) = yes (n, refl)
@@ -95,12 +95,50 @@ is-variable? (atom a) = no (λ w. let e = w .1 in let z : _≡_ {A = ℕ} 0 1 = 
 is-variable? (pair t u) = no (λ w. let e = w .1 in let z : _≡_ {A = ℕ} 0 1 = cc in omega arith)
 is-variable? (wrapped wr k t) = no (λ w. let e = w .1 in let z : _≡_ {A = ℕ} 0 1 = cc in omega arith)
 
-unfoldable pub mark? : (good : Term Variable) (q p : Place) → Dec (Mark good q p)
+unfoldable pub mark? : (pattern : Term Variable) (q p : Place) → Dec (Mark pattern q p)
 unfolding dec-map dec-and any-place? marked? at-or-above?
-mark? good q p =
+mark? pattern q p =
     dec-map (λ w. record { number = w .2 .0 .0; place = w .0 .0; stands = w .1 ∙ ap some (w .2 .0 .1); above = w .2 .1 })
     (λ h. ((h .place, variable (named marked (h .number))), h .stands, ((h .number, refl), h .above)))
-    (any-place? good (λ w. dec-and (marked? (w .1)) (λ m. at-or-above? (q ++ w .0) p)))
+    (any-place? pattern (λ w. dec-and (marked? (w .1)) (λ m. at-or-above? (q ++ w .0) p)))
+
+-- What a bad pattern cancels, and may cancel.
+unfoldable pub is-marked? : (pattern : Term Variable) → Dec (Marked pattern)
+unfolding dec-map any-place? marked?
+is-marked? pattern =
+    dec-map (λ w. record { number = w .2 .0; place = w .0 .0; stands = w .1 ∙ ap some (w .2 .1) })
+    (λ h. ((h .place, variable (named marked (h .number))), h .stands, (h .number, refl))) (any-place? pattern (λ w. marked? (w .1)))
+
+unfoldable pub mark-below? : (bad : Term Variable) (q p : Place) → Dec (MarkBelow bad q p)
+unfolding dec-map dec-and any-place? marked? at-or-above?
+mark-below? bad q p =
+    dec-map (λ w. record { number = w .2 .0 .0; place = w .0 .0; stands = w .1 ∙ ap some (w .2 .0 .1); below = w .2 .1 })
+    (λ h. ((h .place, variable (named marked (h .number))), h .stands, ((h .number, refl), h .below)))
+    (any-place? bad (λ w. dec-and (marked? (w .1)) (λ m. at-or-above? p (q ++ w .0))))
+
+unfoldable pub cancels? : (bad : Term Variable) (q p : Place) → Dec (Cancels bad q p)
+unfolding dec-map dec-or dec-not is-marked? mark?
+cancels? bad q p = dec-map to from (dec-or (dec-not (is-marked? bad)) (λ n. mark? bad q p))
+  where
+    to : (¬ Marked bad) ⊎ Mark bad q p → Cancels bad q p
+    to (inl off) = everywhere off
+    to (inr m) = atMark m
+
+    from : Cancels bad q p → (¬ Marked bad) ⊎ Mark bad q p
+    from (everywhere off) = inl off
+    from (atMark m) = inr m
+
+unfoldable pub may-cancel? : (bad : Term Variable) (q p : Place) → Dec (MayCancel bad q p)
+unfolding dec-map dec-or cancels? mark-below?
+may-cancel? bad q p = dec-map to from (dec-or (cancels? bad q p) (λ n. mark-below? bad q p))
+  where
+    to : Cancels bad q p ⊎ MarkBelow bad q p → MayCancel bad q p
+    to (inl h) = cancels h
+    to (inr m) = belowPlace m
+
+    from : MayCancel bad q p → Cancels bad q p ⊎ MarkBelow bad q p
+    from (cancels h) = inl h
+    from (belowPlace m) = inr m
 
 -- A pattern with its variables replaced, and a shared instance, at the variables of a file.
 unfoldable pub matches? : (p t : Term Variable) → Dec (Matches p t)
@@ -116,12 +154,15 @@ unfolding decide.share? decide.variable?
 shares-secret? t secret = decide.share? decide.variable? (λ x. absurd x) t secret
 
 module _ (certificate : Certificate) where
-  abbrev pub NotBad : Term Variable → Type 0
-  NotBad t = (bad : Term Variable) → Bad certificate bad → Share bad t → ⊥
+  -- No bad pattern that shares an instance with t, at place q, counts for place p.
+  abbrev pub NotBad : Term Variable → Place → Place → Type 0
+  NotBad t q p = (bad : Term Variable) → Bad certificate bad → Share bad t → MayCancel bad q p → ⊥
 
-  unfoldable pub not-bad? : (t : Term Variable) → Dec (NotBad t)
-  unfolding all? dec-not shares?
-  not-bad? t = all? (certificate .bads) (λ bad. dec-not (shares? bad t))
+  unfoldable pub not-bad? : (t : Term Variable) (q p : Place) → Dec (NotBad t q p)
+  unfolding all? dec-map dec-not dec-and shares? may-cancel?
+  not-bad? t q p =
+      all? (certificate .bads)
+      (λ bad. dec-map (λ n s m. n (s, m)) (λ n w. n (w .0) (w .1)) (dec-not (dec-and (shares? bad t) (λ s. may-cancel? bad q p))))
 
   -- Sure hat for a place p of t.
   unfoldable pub sure-hat? : (t : Term Variable) (p : Place) → Dec (SureHat certificate t p)
@@ -142,7 +183,7 @@ module _ (certificate : Certificate) where
       (any-above? p (λ q. here q (subtermAt q t) refl))
     where
       Fits : Place → Term Variable → Type 0
-      Fits q u = (good : Term Variable) × Good certificate good × (Matches good u × (Mark good q p × NotBad u))
+      Fits q u = (good : Term Variable) × Good certificate good × (Matches good u × (Mark good q p × NotBad u q p))
 
       here : (q : Place) (o : Option (Term Variable)) → subtermAt q t ≡ o →
           Dec ((u : Term Variable) × (subtermAt q t ≡ some u) × Fits q u)
@@ -150,26 +191,26 @@ module _ (certificate : Certificate) where
       here q (some u) e =
           dec-map (λ w. (u, e, w)) (λ w. let same : w .0 ≡ u = cc in subst (Fits q) same (w .2))
           (any? (certificate .goods)
-          (λ good. dec-and (matches? good u) (λ m. dec-and (mark? good q p) (λ k. not-bad? u))))
+          (λ good. dec-and (matches? good u) (λ m. dec-and (mark? good q p) (λ k. not-bad? u q p))))
 
-  unfoldable pub no-hat? : (t : Term Variable) → Dec (NoHat certificate t)
-  unfolding dec-map dec-or dec-not all? any? shares? matches?
-  no-hat? t =
+  unfoldable pub no-hat? : (t : Term Variable) (q p : Place) → Dec (NoHat certificate t q p)
+  unfolding dec-map dec-or dec-and dec-not all? any? shares? matches? cancels?
+  no-hat? t q p =
       dec-map to from
       (dec-or (all? (certificate .goods) (λ good. dec-not (shares? good t)))
-      (λ n. any? (certificate .bads) (λ bad. matches? bad t)))
+      (λ n. any? (certificate .bads) (λ bad. dec-and (matches? bad t) (λ m. cancels? bad q p))))
     where
       Ways : Type 0
       Ways = ((good : Term Variable) → Good certificate good → Share good t → ⊥) ⊎
-          ((bad : Term Variable) × Bad certificate bad × Matches bad t)
+          ((bad : Term Variable) × Bad certificate bad × (Matches bad t × Cancels bad q p))
 
-      to : Ways → NoHat certificate t
+      to : Ways → NoHat certificate t q p
       to (inl h) = sharesNoGood h
-      to (inr w) = isBad (w .1) (w .2)
+      to (inr w) = isBad (w .1) (w .2 .0) (w .2 .1)
 
-      from : NoHat certificate t → Ways
+      from : NoHat certificate t q p → Ways
       from (sharesNoGood h) = inl h
-      from (isBad {bad = bad} listed match) = inr (bad, listed, match)
+      from (isBad {bad = bad} listed match over) = inr (bad, listed, (match, over))
 
   -- Open place of a premise.
   unfoldable pub open? : (premise : Term Variable) (p : Place) → Dec (Open certificate premise p)
@@ -179,7 +220,7 @@ module _ (certificate : Certificate) where
     where
       Fine : Place → Type 0
       Fine q = (k : ℕ) (t : Term Variable) → subtermAt q premise ≡ some (encrypted k t) →
-          NoHat certificate (encrypted k t)
+          NoHat certificate (encrypted k t) q p
 
       other : (q : Place) {o : Option (Term Variable)} → subtermAt q premise ≡ o →
           ((k : ℕ) (t : Term Variable) → o ≡ some (encrypted k t) → ⊥) → Dec (Fine q)
@@ -192,7 +233,7 @@ module _ (certificate : Certificate) where
       here q (some (pair u w)) e = other q e (λ k t f. let z : _≡_ {A = ℕ} 0 1 = cc in omega arith)
       here q (some (wrapped encryption k t)) e =
           dec-map (λ h k′ t′ f. let a : k ≡ k′ = cc in let b : t ≡ t′ = cc in rw (a, b) at h) (λ h. h k t e)
-          (no-hat? (encrypted k t))
+          (no-hat? (encrypted k t) q p)
 
   -- The term, symbol for symbol, at an open place of the premise.
   unfoldable pub at-open-place? : (rule : Rule) (t : Term Variable) → Dec (AtOpenPlace certificate rule t)

@@ -10,8 +10,8 @@ use Rattle.terms.specs.Atom.{IsKey}
 use Rattle.terms.specs.Place.{Place, subtermAt, StrictlyAbove}
 use Rattle.terms.specs.Built.{Built, BuiltMatch, BuiltShare, MessageAtom}
 use Rattle.judge.specs.Certificate.{Rule, Certificate, Secret, Good, Bad, Listed}
-use Rattle.judge.specs.Hat.{Mark}
-use Rattle.judge.specs.Cover.{Risky, SureHat, Open}
+use Rattle.judge.specs.Hat.{Mark, Cancels}
+use Rattle.judge.specs.Cover.{MayCancel, Risky, SureHat, Open}
 
 -- ---- what a certificate's terms hold
 
@@ -51,16 +51,16 @@ pub record ProperSureHat (certificate : Certificate) (t : Term Variable) (p : Pl
   pub listed : Good certificate good
   pub match : ProperMatch certificate good subterm
   pub mark : Mark good place p
-  pub notBad : (bad : Term Variable) → Bad certificate bad → ProperShare certificate bad subterm → ⊥
+  pub notBad : (bad : Term Variable) → Bad certificate bad → ProperShare certificate bad subterm → MayCancel bad place p → ⊥
 
-pub data ProperNoHat (certificate : Certificate) (t : Term Variable) : Type 0 where
+pub data ProperNoHat (certificate : Certificate) (t : Term Variable) (q p : Place) : Type 0 where
   sharesNoGood : ((good : Term Variable) → Good certificate good → ProperShare certificate good t → ⊥)
-      → ProperNoHat certificate t
-  isBad : {bad : Term Variable} → Bad certificate bad → ProperMatch certificate bad t → ProperNoHat certificate t
+      → ProperNoHat certificate t q p
+  isBad : {bad : Term Variable} → Bad certificate bad → ProperMatch certificate bad t → Cancels bad q p → ProperNoHat certificate t q p
 
 pub record ProperOpen (certificate : Certificate) (premise : Term Variable) (p : Place) : Type 0 where
   pub every : (q : Place) → StrictlyAbove q p → (k : ℕ) (t : Term Variable) →
-      subtermAt q premise ≡ some (encrypted k t) → ProperNoHat certificate (encrypted k t)
+      subtermAt q premise ≡ some (encrypted k t) → ProperNoHat certificate (encrypted k t) q p
 
 -- It is the same cover of a rule: the restriction changes no risky place, no sure hat and no open place.
 pub record SameCover (certificate : Certificate) (rule : Rule) : Type 0 where

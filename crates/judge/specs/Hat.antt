@@ -1,4 +1,4 @@
--- Hats and protected secrets (document 01, "Hats and cover").
+-- Hats and protected secrets (document 01, "Hats and cover", and 02, No. 2).
 use mathlib.Core.Path.{_≡_}
 use mathlib.Core.List.{_++_}
 use mathlib.Core.Option.{some}
@@ -8,19 +8,37 @@ use Rattle.terms.specs.Place.{Place, subtermAt, StrictlyAbove, AtOrAbove}
 use Rattle.terms.specs.Instance.{Matches}
 use Rattle.judge.specs.Certificate.{Certificate, Good, Bad}
 
--- A message is a hat if it is an instance of a good pattern and of no bad one. The good pattern is named, because its
--- marks count.
-pub record Hat (certificate : Certificate) (good : Term Variable) (m : Message) : Type 0 where
-  pub listed : Good certificate good
-  pub match : Matches good m
-  pub notBad : (bad : Term Variable) → Bad certificate bad → Matches bad m → ⊥
+-- The marked variable of this number stands at this place of the pattern.
+abbrev pub MarkAt : Term Variable → Place → ℕ → Type 0
+MarkAt pattern place number = subtermAt place pattern ≡ some (variable (named marked number))
 
--- With the good pattern laid on place q, a marked variable of it stands at or above place p.
-pub record Mark (good : Term Variable) (q p : Place) : Type 0 where
+-- With the pattern laid on place q, a marked variable of it stands at or above place p.
+pub record Mark (pattern : Term Variable) (q p : Place) : Type 0 where
   pub number : ℕ
   pub place : Place
-  pub stands : subtermAt place good ≡ some (variable (named marked number))
+  pub stands : MarkAt pattern place number
   pub above : AtOrAbove (q ++ place) p
+
+-- A pattern is marked if it holds at least one marked variable (02, No. 2).
+pub record Marked (pattern : Term Variable) : Type 0 where
+  pub number : ℕ
+  pub place : Place
+  pub stands : MarkAt pattern place number
+
+-- What a bad pattern cancels, where a message at place q is an instance of it (02, No. 2): without marks the hat for
+-- every place p; a marked one "cancels only the protection that its own instances would give as hats, and only for
+-- secrets at or below a mark".
+pub data Cancels (bad : Term Variable) (q p : Place) : Type 0 where
+  everywhere : ¬ Marked bad → Cancels bad q p
+  atMark : Mark bad q p → Cancels bad q p
+
+-- A message is a hat if it is an instance of a good pattern and of no bad one; since a bad pattern may mark places, it
+-- is one place by place (02, No. 2): the message at place q is a hat for place p if no bad pattern of which it is an
+-- instance cancels that. The good pattern is named, because its marks count.
+pub record Hat (certificate : Certificate) (good : Term Variable) (m : Message) (q p : Place) : Type 0 where
+  pub listed : Good certificate good
+  pub match : Matches good m
+  pub notBad : (bad : Term Variable) → Bad certificate bad → Matches bad m → Cancels bad q p → ⊥
 
 -- A secret at place p of a message is protected if a hat stands strictly above it and a marked variable of that hat's
 -- good pattern stands at or above it.
@@ -30,5 +48,5 @@ pub record Protected (certificate : Certificate) (m : Message) (p : Place) : Typ
   pub message : Message
   pub stands : subtermAt place m ≡ some message
   pub good : Term Variable
-  pub hat : Hat certificate good message
+  pub hat : Hat certificate good message place p
   pub mark : Mark good place p

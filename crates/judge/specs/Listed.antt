@@ -2,25 +2,27 @@
 use mathlib.Core.Path.{_≡_}
 use mathlib.Core.Bool.{true, false}
 use mathlib.Core.List.{List, [], map, List·Memᴰ}
-use mathlib.Core.Logic.{_⊎_, inl, inr}
-use Prim.Native.Nat.{ℕ, zero, suc, _+_, _*_, _%_, _<_, _≤_}
+use mathlib.Core.Logic.{_⊎_, inl, inr, _↔_}
+use Prim.Native.Nat.{ℕ, _+_, _*_, _-_, _%_, _<_, _≤_}
+use native.Mathlib.Decide.{ℕ-discrete}
 use lib.Dec.{eqb}
 use lib.ListN.{length, getD, drop}
 use Rattle.blocks.specs.Kinds.{secretKind, goodKind, badKind, ListsTerm}
-use Rattle.blocks.specs.Limits.{mostTermBytes}
+use Rattle.blocks.specs.Limits.{mostTermBytes, mostTermEntries}
 use Rattle.blocks.specs.Block.{blockAt, kindOf, firstEntries}
 use Rattle.terms.specs.Term.{Term, Variable, asTerm, replace}
 use Rattle.terms.specs.Instance.{Matches, Share}
-use Rattle.terms.specs.Tag.{pairTag, SymbolTag, Tagged, anAtom, aPair, aWrapping, aVariable, noTag, tagged}
+use Rattle.terms.specs.Tag.{pairTag, markedTag, SymbolTag, Tagged, anAtom, aPair, aWrapping, aVariable, noTag, tagged}
 use Rattle.terms.specs.Slot.{slotCount}
 use Rattle.terms.specs.Entry.{Begins, termOf, size, tagAt, valueAt, from}
 use Rattle.terms.specs.TermGraph.{SizesOf}
-use Rattle.terms.specs.Decisions.{dec-map}
+use Rattle.terms.specs.Decisions.{dec-map, dec-not, dec-and}
 use Rattle.terms.specs.Search.{any?}
 use Rattle.judge.specs.Certificate.{Certificate}
 use Rattle.judge.specs.File.{patternOf, blockCount}
 use Rattle.judge.specs.Laid.{Laid}
-use Rattle.judge.specs.Decisions.{same-term?, matches?, shares?}
+use Rattle.judge.specs.Hat.{Marked}
+use Rattle.judge.specs.Decisions.{same-term?, is-marked?, matches?, shares?}
 
 -- The terms that the blocks of one kind list: secrets, good patterns or bad ones.
 unfoldable pub listedOf : Certificate → ℕ → List (Term Variable)
@@ -44,13 +46,21 @@ unfolding listedOf dec-map any?
 any-listed? c kind d =
     dec-map (λ w. record { term = w .0; listed = w .1; holds = w .2 }) (λ h. (h .term, h .listed, h .holds)) (any? (listedOf c kind) d)
 
--- The term is a listed pattern with its variables replaced by terms.
-abbrev pub MatchesListed : Certificate → ℕ → Term Variable → Type 0
-MatchesListed c kind t = AnyListed c kind (λ p. Matches p t)
+-- A listed pattern counts for every place, but for a marked bad one (02, No. 2).
+abbrev pub Everywhere : ℕ → Term Variable → Type 0
+Everywhere kind p = ¬ ((kind ≡ badKind) × Marked p)
 
-unfoldable pub matches-listed? : (c : Certificate) (kind : ℕ) (t : Term Variable) → Dec (MatchesListed c kind t)
-unfolding any-listed? matches?
-matches-listed? c kind t = any-listed? c kind (λ p. matches? p t)
+unfoldable pub everywhere? : (kind : ℕ) (p : Term Variable) → Dec (Everywhere kind p)
+unfolding dec-not dec-and ℕ-discrete is-marked?
+everywhere? kind p = dec-not (dec-and (ℕ-discrete kind badKind) (λ e. is-marked? p))
+
+-- The term is a listed pattern, one that counts for every place, with its variables replaced by terms.
+abbrev pub MatchesEverywhere : Certificate → ℕ → Term Variable → Type 0
+MatchesEverywhere c kind t = AnyListed c kind (λ p. Everywhere kind p × Matches p t)
+
+unfoldable pub matches-everywhere? : (c : Certificate) (kind : ℕ) (t : Term Variable) → Dec (MatchesEverywhere c kind t)
+unfolding any-listed? dec-and everywhere? matches?
+matches-everywhere? c kind t = any-listed? c kind (λ p. dec-and (everywhere? kind p) (λ w. matches? p t))
 
 -- A listed term shares an instance with the term.
 abbrev pub SharesListed : Certificate → ℕ → Term Variable → Type 0
@@ -60,9 +70,22 @@ unfoldable pub shares-listed? : (c : Certificate) (kind : ℕ) (t : Term Variabl
 unfolding any-listed? shares?
 shares-listed? c kind t = any-listed? c kind (λ p. shares? p t)
 
--- A bad pattern shares an instance with the term.
-abbrev pub SharesBad : Certificate → Term Variable → Type 0
-SharesBad c t = SharesListed c badKind t
+-- A listed pattern, one that counts for every place, does.
+abbrev pub SharesEverywhere : Certificate → ℕ → Term Variable → Type 0
+SharesEverywhere c kind t = AnyListed c kind (λ p. Everywhere kind p × Share p t)
+
+unfoldable pub shares-everywhere? : (c : Certificate) (kind : ℕ) (t : Term Variable) → Dec (SharesEverywhere c kind t)
+unfolding any-listed? dec-and everywhere? shares?
+shares-everywhere? c kind t = any-listed? c kind (λ p. dec-and (everywhere? kind p) (λ w. shares? p t))
+
+-- The term is no hat for any place: no good pattern shares an instance with it, or it is a bad one without marks with its
+-- variables replaced by terms.
+abbrev pub NeverHat : Certificate → Term Variable → Type 0
+NeverHat c t = (¬ SharesListed c goodKind t) ⊎ MatchesEverywhere c badKind t
+
+-- A bad pattern without marks shares an instance with the term.
+abbrev pub SharesUnmarked : Certificate → Term Variable → Type 0
+SharesUnmarked c t = SharesEverywhere c badKind t
 
 -- The term, symbol for symbol, is a listed secret.
 abbrev pub IsSecret : Certificate → Term Variable → Type 0
@@ -76,6 +99,13 @@ is-secret? c t = any-listed? c secretKind (λ p. same-term? p t)
 pub record HoldsAt (file : List ℕ) (kind : ℕ) (P : Term Variable → Type 0) (i : ℕ) : Type 0 where
   pub of-kind : kindOf (blockAt file i) ≡ kind
   pub holds : P (patternOf (blockAt file i))
+
+-- One of the blocks from `low` up to `high` is such.
+pub record HeldAmong (file : List ℕ) (kind : ℕ) (P : Term Variable → Type 0) (low high : ℕ) : Type 0 where
+  pub number : ℕ
+  pub above : low ≤ number
+  pub below : number < high
+  pub holds : HoldsAt file kind P number
 
 -- What a search asks for: a laid file, a kind that lists terms, and entries that begin with a term.
 pub record Searching (file : List ℕ) (kind : ℕ) (e : List ℕ) : Type 0 where
@@ -152,18 +182,52 @@ pub record NoRoot (roots e : List ℕ) : Type 0 where
   pub left-symbol : tagAt e ≡ pairTag → SymbolTag (tagAt (drop 4 e))
   pub absent : getD roots (slotAt e) 0 ≡ 0
 
--- Room for the sizes of the terms of all blocks: 64 for each.
-abbrev pub listedSizes : ℕ
-listedSizes = 4096
+-- Room for what is noted of the listed terms: a row of 64 for each block, and one slot more.
+abbrev pub rowSize : ℕ
+rowSize = 64
 
--- The table has the sizes of the terms that the first n blocks list, those of block i from 64 * i on.
+abbrev pub listedRows : ℕ
+listedRows = 4096
+
+abbrev pub listedSizes : ℕ
+listedSizes = listedRows + 1
+
+-- The last slot of block i's row, which no size stands in.
+abbrev pub markSlot : ℕ → ℕ
+markSlot i = rowSize * i + mostTermEntries
+
+-- An entry from `low` up to `high` has the tag of a marked variable.
+pub record MarkTag (e : List ℕ) (low high : ℕ) : Type 0 where
+  pub number : ℕ
+  pub above : low ≤ number
+  pub below : number < high
+  pub tag : getD e (4 * number) 0 ≡ markedTag
+
+-- From entry r on there is no such tag, and entry r - 1 has it, if r is not 0.
+pub record LastMark (e : List ℕ) (r : ℕ) : Type 0 where
+  pub behind : (k : ℕ) → r ≤ k → ¬ (getD e (4 * k) 0 ≡ markedTag)
+  pub here : ¬ (r ≡ 0) → getD e (4 * (r - 1)) 0 ≡ markedTag
+
+-- Block i is a marked bad pattern.
+abbrev pub MarkedBad : List ℕ → ℕ → Type 0
+MarkedBad file i = (kindOf (blockAt file i) ≡ badKind) × Marked (patternOf (blockAt file i))
+
+-- What is noted of it: 0 if it is none, and else so many entries that no mark stands behind them.
+pub record Noted (file : List ℕ) (i v : ℕ) : Type 0 where
+  pub marked : (¬ (v ≡ 0)) ↔ MarkedBad file i
+  pub behind : kindOf (blockAt file i) ≡ badKind → (k : ℕ) → v ≤ k → ¬ (getD (firstEntries (blockAt file i)) (4 * k) 0 ≡ markedTag)
+
+-- The table has the sizes of the terms that the first n blocks list, those of block i in its row, and in the row's last slot
+-- what is noted of its marks.
 pub record SizesBelow (file : List ℕ) (n : ℕ) (sizes : List ℕ) : Type 0 where
   pub long : length sizes ≡ listedSizes
-  pub at : (i : ℕ) → i < n → ListsTerm (kindOf (blockAt file i)) → SizesOf (firstEntries (blockAt file i)) (from (64 * i) sizes)
+  pub at : (i : ℕ) → i < n → ListsTerm (kindOf (blockAt file i)) → SizesOf (firstEntries (blockAt file i)) (from (rowSize * i) sizes)
+  pub marks : (i : ℕ) → i < n → ListsTerm (kindOf (blockAt file i)) → Noted file i (getD sizes (markSlot i) 0)
 
--- It has those of all blocks.
-abbrev pub SizesIn : List ℕ → List ℕ → Type 0
-SizesIn file sizes = SizesBelow file (blockCount file) sizes
+-- It has those of all blocks; and the slot behind them is 1 if there is a marked bad pattern.
+pub record SizesIn (file sizes : List ℕ) : Type 0 where
+  pub rows : SizesBelow file (blockCount file) sizes
+  pub some : (i : ℕ) → i < blockCount file → MarkedBad file i → getD sizes listedRows 0 ≡ 1
 
 -- The entries are those of the term of block i.
 pub record TermPart (file : List ℕ) (i : ℕ) (e : List ℕ) : Type 0 where

@@ -3,20 +3,21 @@
 // left open, since one that is missing is asked for.
 ghost use mathlib.Core.Path.{_≡_};
 ghost use mathlib.Core.Bool.{true};
-ghost use Prim.Native.Nat.{_+_, _*_, _<_, _≤_};
+ghost use Prim.Native.Nat.{_+_, _*_, _<_};
 ghost use lib.ListN.{length, getD};
-ghost use Rattle.blocks.specs.Kinds.{secretKind, goodKind, ListsTerm};
+ghost use Rattle.blocks.specs.Kinds.{secretKind, goodKind, badKind, ListsTerm};
 ghost use Rattle.blocks.specs.Block.{firstEntries, secondEntries};
 ghost use Rattle.terms.specs.Entry.{Begins, termOf, size};
 ghost use Rattle.terms.specs.Decisions.{Says};
 ghost use Rattle.terms.specs.TermGraph.{SizesOf};
-ghost use Rattle.judge.specs.Listed.{rootSlots, HoldsAt, AnyListed, Searching, IsSecret, SharesBad, RootsOf, SizesIn, slotAt};
+ghost use Rattle.judge.specs.Listed.{rootSlots, HoldsAt, AnyListed, Searching, IsSecret, NeverHat, SharesUnmarked, RootsOf, SizesIn, slotAt};
 ghost use Rattle.judge.specs.CoverEntries.{entryFlags};
 ghost use Rattle.judge.specs.File.{blockCount, certificateOf, ruleOf};
 ghost use Rattle.judge.specs.Laid.{Laid, RuleBlock};
-ghost use Rattle.judge.specs.Cover.{NoHat, Risky};
+ghost use Rattle.judge.specs.Hat.{Marked};
+ghost use Rattle.judge.specs.Cover.{Risky};
 ghost use Rattle.judge.specs.Verdict as verdicts;
-ghost use Rattle.judge.specs.CoverEntries.{subAt, On, Raised, Cleared, MarkOver, Lays, Laying, Standing, HatOver, HatBelow, Flags, Entries, OpenAmong, OpenFlags};
+ghost use Rattle.judge.specs.CoverEntries.{subAt, On, Raised, Cleared, MarkOver, MarkAround, Lays, LaysAround, Laying, LayingAround, Standing, HatOver, HatBelow, Flags, Entries, OpenAmong, OpenFlags};
 ghost use Rattle.judge.specs.CoverEntries.{ClosedBelow, Flagged, FlaggedWith, SomeFlagged, IndexedBelow, Indexed, Remembered, RiskyEntry, Wanted, WantedEntry, Concluded};
 use crate::flag;
 use crate::flag::FLAGS;
@@ -53,14 +54,7 @@ fn mark_cover(p: &[u8], e: &[u8], h: usize, marked: &mut [u8; FLAGS])
 }
 
 // Lays the pattern of block i, if it is of this kind and matches the term at entry h.
-fn lay_pattern(
-    file: &[u8],
-    i: usize,
-    kind: u8,
-    e: &[u8],
-    h: usize,
-    marked: &mut [u8; FLAGS],
-)
+fn lay_pattern(file: &[u8], i: usize, kind: u8, e: &[u8], h: usize, marked: &mut [u8; FLAGS])
     requires { ⌜ Standing (now file) (now e) h × ListsTerm kind × (i < blockCount (now file)) × (length (now marked) ≡ entryFlags) ⌝ }
     ensures { λ _. ⌜ Raised (now (marked .entry)) (now (marked .exit)) (λ k. HoldsAt (now (file .entry)) kind (Lays (subAt (now (e .entry)) h) h k) i) ⌝ }
 {
@@ -98,7 +92,123 @@ fn marked_places(file: &[u8], kind: u8, e: &[u8], h: usize) -> [u8; FLAGS]
     marked
 }
 
-// Does the encryption at entry h share an instance with a bad pattern? The answer is remembered.
+// Lays the pattern's part at entry i of p on the term at entry h: every entry with a mark of it at, above or below is
+// flagged. Where the two symbols differ, all marks of the part lie at or below the term's entry. From entry `last` on p has no
+// marks. Has the part one?
+fn mark_around(
+    p: &[u8],
+    y: &[u8],
+    last: usize,
+    i: usize,
+    e: &[u8],
+    z: &[u8; SIZES],
+    h: usize,
+    around: &mut [u8; FLAGS],
+) -> bool
+    requires { ⌜ LayingAround (now p) (now y) last i (now e) (now z) h × (length (now around) ≡ entryFlags) ⌝ }
+    ensures marked { λ r. ⌜ Says r (Marked (subAt (now (p .entry)) i)) ⌝ }
+    ensures flags { λ _. ⌜ Raised (now (around .entry)) (now (around .exit)) (MarkAround (subAt (now (p .entry)) i) (subAt (now (e .entry)) h) h) ⌝ }
+{
+    if last <= i {
+        return false;
+    }
+    let tag = p[4 * i];
+    if tag == MARKED {
+        flag::paint(around, h, entry::end_of(e, z, h), 1);
+        return true;
+    }
+    if tag != e[4 * h] {
+        let hidden = listed::has_mark(p, i, i + wide(y[i]));
+        return flag::raise(around, h, hidden);
+    }
+    if tag == PAIR {
+        let left = mark_around(p, y, last, i + 1, e, z, h + 1, around);
+        let past = i + 1 + wide(y[i + 1]);
+        let right = mark_around(p, y, last, past, e, z, h + 1 + wide(z[h + 1]), around);
+        let found = flag::either(left, right);
+        return flag::raise(around, h, found);
+    }
+    if tag == ENCRYPTION {
+        let inner = mark_around(p, y, last, i + 1, e, z, h + 1, around);
+        return flag::raise(around, h, inner);
+    }
+    false
+}
+
+// The entries of the term at entry h with a mark of the pattern p at, above or below them.
+fn marks_around(p: &[u8], y: &[u8], last: usize, e: &[u8], z: &[u8; SIZES], h: usize) -> [u8; FLAGS]
+    requires { ⌜ LayingAround (now p) (now y) last 0 (now e) (now z) h ⌝ }
+    ensures { λ r. ⌜ Flags r (MarkAround (subAt (now (p .entry)) 0) (subAt (now (e .entry)) h) h) ⌝ }
+{
+    let mut around = [0u8; FLAGS];
+    mark_around(p, y, last, 0, e, z, h, &mut around);
+    around
+}
+
+// Puts off the flags of the entries that have a mark of block i at, above or below them, if it is a bad pattern that shares an
+// instance with the term at entry h. Whether it does is asked only if one of those flags is on.
+fn drop_exception(
+    file: &[u8],
+    sizes: &[u8; LISTED_SIZES],
+    i: usize,
+    e: &[u8],
+    z: &[u8; SIZES],
+    h: usize,
+    hats: &mut [u8; FLAGS],
+)
+    requires { ⌜ Standing (now file) (now e) h × (i < blockCount (now file)) × (length (now hats) ≡ entryFlags) × SizesIn (now file) (now sizes) × SizesOf (now e) (now z) ⌝ }
+    ensures { λ _. ⌜ Cleared (now (hats .entry)) (now (hats .exit)) (λ k. HoldsAt (now (file .entry)) badKind (LaysAround (subAt (now (e .entry)) h) h k) i) ⌝ }
+{
+    if listed::is_kind(file, i, kinds::BAD) {
+        let last = listed::last_mark_of(sizes, i);
+        if last != 0 {
+            let p = listed::term_at(file, i);
+            let around = marks_around(p, listed::row(sizes, i), last, e, z, h);
+            if flag::some_both(hats, &around) {
+                let part = &z[..];
+                if listed::shares_among(
+                    file,
+                    sizes,
+                    kinds::BAD,
+                    i,
+                    i + 1,
+                    &e[4 * h..],
+                    &part[h..],
+                ) {
+                    flag::clear(hats, &around);
+                }
+            }
+        }
+    }
+}
+
+// The same for every bad pattern, from the last block back to the first of a lower kind.
+fn drop_exceptions(
+    file: &[u8],
+    sizes: &[u8; LISTED_SIZES],
+    e: &[u8],
+    z: &[u8; SIZES],
+    h: usize,
+    hats: &mut [u8; FLAGS],
+)
+    requires { ⌜ Standing (now file) (now e) h × (length (now hats) ≡ entryFlags) × SizesIn (now file) (now sizes) × SizesOf (now e) (now z) ⌝ }
+    ensures { λ _. ⌜ Cleared (now (hats .entry)) (now (hats .exit)) (λ k. AnyListed (certificateOf (now (file .entry))) badKind (LaysAround (subAt (now (e .entry)) h) h k)) ⌝ }
+{
+    if !listed::some_marked(sizes) {
+        return;
+    }
+    let count = file.len() / limits::BLOCK_SIZE;
+    let mut left = count;
+    while 0 < left {
+        drop_exception(file, sizes, left - 1, e, z, h, hats);
+        if listed::kind_at(file, left - 1) < kinds::BAD {
+            return;
+        }
+        left -= 1;
+    }
+}
+
+// Does the encryption at entry h share an instance with a bad pattern without marks? The answer is remembered.
 fn shares_bad(
     file: &[u8],
     sizes: &[u8; LISTED_SIZES],
@@ -107,9 +217,9 @@ fn shares_bad(
     h: usize,
     shared: &mut [u8; FLAGS],
 ) -> bool
-    requires { ⌜ Standing (now file) (now e) h × Remembered (SharesBad (certificateOf (now file))) (now e) (now shared) × SizesIn (now file) (now sizes) × SizesOf (now e) (now z) ⌝ }
-    ensures answer { λ r. ⌜ Says r (SharesBad (certificateOf (now (file .entry))) (subAt (now (e .entry)) h)) ⌝ }
-    ensures memo { λ _. ⌜ Remembered (SharesBad (certificateOf (now (file .entry)))) (now (e .entry)) (now (shared .exit)) ⌝ }
+    requires { ⌜ Standing (now file) (now e) h × Remembered (SharesUnmarked (certificateOf (now file))) (now e) (now shared) × SizesIn (now file) (now sizes) × SizesOf (now e) (now z) ⌝ }
+    ensures answer { λ r. ⌜ Says r (SharesUnmarked (certificateOf (now (file .entry))) (subAt (now (e .entry)) h)) ⌝ }
+    ensures memo { λ _. ⌜ Remembered (SharesUnmarked (certificateOf (now (file .entry)))) (now (e .entry)) (now (shared .exit)) ⌝ }
 {
     let known = shared[h];
     if known == 1 {
@@ -119,7 +229,7 @@ fn shares_bad(
         return false;
     }
     let part = &z[..];
-    let answer = listed::shares_listed(file, sizes, kinds::BAD, &e[4 * h..], &part[h..]);
+    let answer = listed::shares_bad(file, sizes, &e[4 * h..], &part[h..]);
     shared[h] = flag::told(answer);
     answer
 }
@@ -134,13 +244,14 @@ fn take_hat(
     shared: &mut [u8; FLAGS],
     bare: &mut [u8; FLAGS],
 )
-    requires { ⌜ Standing (now file) (now e) h × Remembered (SharesBad (certificateOf (now file))) (now e) (now shared) × (length (now bare) ≡ entryFlags) × SizesIn (now file) (now sizes) × SizesOf (now e) (now z) ⌝ }
-    ensures memo { λ _. ⌜ Remembered (SharesBad (certificateOf (now (file .entry)))) (now (e .entry)) (now (shared .exit)) ⌝ }
+    requires { ⌜ Standing (now file) (now e) h × Remembered (SharesUnmarked (certificateOf (now file))) (now e) (now shared) × (length (now bare) ≡ entryFlags) × SizesIn (now file) (now sizes) × SizesOf (now e) (now z) ⌝ }
+    ensures memo { λ _. ⌜ Remembered (SharesUnmarked (certificateOf (now (file .entry)))) (now (e .entry)) (now (shared .exit)) ⌝ }
     ensures flags { λ _. ⌜ Cleared (now (bare .entry)) (now (bare .exit)) (HatOver (certificateOf (now (file .entry))) (subAt (now (e .entry)) h) h) ⌝ }
 {
     if !shares_bad(file, sizes, e, z, h, shared) {
-        let marked = marked_places(file, kinds::GOOD, e, h);
-        flag::clear(bare, &marked);
+        let mut hats = marked_places(file, kinds::GOOD, e, h);
+        drop_exceptions(file, sizes, e, z, h, &mut hats);
+        flag::clear(bare, &hats);
     }
 }
 
@@ -154,8 +265,8 @@ fn take_below(
     shared: &mut [u8; FLAGS],
     bare: &mut [u8; FLAGS],
 )
-    requires { ⌜ Standing (now file) (now e) h × SizesOf (now e) (now z) × Remembered (SharesBad (certificateOf (now file))) (now e) (now shared) × (length (now bare) ≡ entryFlags) × SizesIn (now file) (now sizes) ⌝ }
-    ensures memo { λ _. ⌜ Remembered (SharesBad (certificateOf (now (file .entry)))) (now (e .entry)) (now (shared .exit)) ⌝ }
+    requires { ⌜ Standing (now file) (now e) h × SizesOf (now e) (now z) × Remembered (SharesUnmarked (certificateOf (now file))) (now e) (now shared) × (length (now bare) ≡ entryFlags) × SizesIn (now file) (now sizes) ⌝ }
+    ensures memo { λ _. ⌜ Remembered (SharesUnmarked (certificateOf (now (file .entry)))) (now (e .entry)) (now (shared .exit)) ⌝ }
     ensures flags { λ _. ⌜ Cleared (now (bare .entry)) (now (bare .exit)) (HatOver (certificateOf (now (file .entry))) (subAt (now (e .entry)) h) h) ⌝ }
 {
     if e[4 * h] == ENCRYPTION {
@@ -173,8 +284,8 @@ fn take_hats(
     shared: &mut [u8; FLAGS],
     bare: &mut [u8; FLAGS],
 )
-    requires { ⌜ Concluded (now file) (now e) × Remembered (SharesBad (certificateOf (now file))) (now e) (now shared) × (length (now bare) ≡ entryFlags) × SizesIn (now file) (now sizes) ⌝ }
-    ensures memo { λ _. ⌜ Remembered (SharesBad (certificateOf (now (file .entry)))) (now (e .entry)) (now (shared .exit)) ⌝ }
+    requires { ⌜ Concluded (now file) (now e) × Remembered (SharesUnmarked (certificateOf (now file))) (now e) (now shared) × (length (now bare) ≡ entryFlags) × SizesIn (now file) (now sizes) ⌝ }
+    ensures memo { λ _. ⌜ Remembered (SharesUnmarked (certificateOf (now (file .entry)))) (now (e .entry)) (now (shared .exit)) ⌝ }
     ensures flags { λ _. ⌜ Cleared (now (bare .entry)) (now (bare .exit)) (HatBelow (certificateOf (now (file .entry))) (now (e .entry)) (size (termOf (now (e .entry))))) ⌝ }
 {
     let z = entry::sizes(e);
@@ -186,20 +297,20 @@ fn take_hats(
     }
 }
 
-// Is the term such that an open place may have it above?
-fn no_hat(file: &[u8], sizes: &[u8; LISTED_SIZES], t: &[u8], z: &[u8]) -> bool
+// May every open place have the term above it?
+fn never_hat(file: &[u8], sizes: &[u8; LISTED_SIZES], t: &[u8], z: &[u8]) -> bool
     requires { ⌜ Searching (now file) goodKind (now t) × SizesIn (now file) (now sizes) × SizesOf (now t) (now z) ⌝ }
-    ensures { λ r. ⌜ Says r (NoHat (certificateOf (now (file .entry))) (termOf (now (t .entry)))) ⌝ }
+    ensures { λ r. ⌜ Says r (NeverHat (certificateOf (now (file .entry))) (termOf (now (t .entry)))) ⌝ }
 {
     if listed::shares_listed(file, sizes, kinds::GOOD, t, z) {
-        listed::is_listed_match(file, kinds::BAD, t)
+        listed::is_listed_match(file, sizes, kinds::BAD, t)
     } else {
         true
     }
 }
 
 // The same of the encryption at entry h. The answer is remembered.
-fn no_hat_at(
+fn never_hat_at(
     file: &[u8],
     sizes: &[u8; LISTED_SIZES],
     e: &[u8],
@@ -207,9 +318,9 @@ fn no_hat_at(
     h: usize,
     above: &mut [u8; FLAGS],
 ) -> bool
-    requires { ⌜ Standing (now file) (now e) h × Remembered (NoHat (certificateOf (now file))) (now e) (now above) × SizesIn (now file) (now sizes) × SizesOf (now e) (now z) ⌝ }
-    ensures answer { λ r. ⌜ Says r (NoHat (certificateOf (now (file .entry))) (subAt (now (e .entry)) h)) ⌝ }
-    ensures memo { λ _. ⌜ Remembered (NoHat (certificateOf (now (file .entry)))) (now (e .entry)) (now (above .exit)) ⌝ }
+    requires { ⌜ Standing (now file) (now e) h × Remembered (NeverHat (certificateOf (now file))) (now e) (now above) × SizesIn (now file) (now sizes) × SizesOf (now e) (now z) ⌝ }
+    ensures answer { λ r. ⌜ Says r (NeverHat (certificateOf (now (file .entry))) (subAt (now (e .entry)) h)) ⌝ }
+    ensures memo { λ _. ⌜ Remembered (NeverHat (certificateOf (now (file .entry)))) (now (e .entry)) (now (above .exit)) ⌝ }
 {
     let known = above[h];
     if known == 1 {
@@ -219,12 +330,24 @@ fn no_hat_at(
         return false;
     }
     let part = &z[..];
-    let answer = no_hat(file, sizes, &e[4 * h..], &part[h..]);
+    let answer = never_hat(file, sizes, &e[4 * h..], &part[h..]);
     above[h] = flag::told(answer);
     answer
 }
 
-// Closes the entries strictly below the encryption at entry h, if no open place may have it above, up to the end of its term.
+// The entries that a marked bad pattern leaves open below the encryption at entry h.
+fn excepted_places(file: &[u8], sizes: &[u8; LISTED_SIZES], e: &[u8], h: usize) -> [u8; FLAGS]
+    requires { ⌜ Standing (now file) (now e) h × SizesIn (now file) (now sizes) ⌝ }
+    ensures { λ r. ⌜ Flags r (λ k. AnyListed (certificateOf (now (file .entry))) badKind (Lays (subAt (now (e .entry)) h) h k)) ⌝ }
+{
+    if listed::some_marked(sizes) {
+        marked_places(file, kinds::BAD, e, h)
+    } else {
+        [0u8; FLAGS]
+    }
+}
+
+// Closes the entries strictly below the encryption at entry h that may not have it above, up to the end of its term.
 fn close_under(
     file: &[u8],
     sizes: &[u8; LISTED_SIZES],
@@ -235,13 +358,14 @@ fn close_under(
     above: &mut [u8; FLAGS],
     opened: &mut [u8; FLAGS],
 )
-    requires { ⌜ Standing (now file) (now e) h × Remembered (NoHat (certificateOf (now file))) (now e) (now above) × (length (now opened) ≡ entryFlags) × (getD (now e) (4 * h) 0 ≡ 3) × (end ≡ h + size (subAt (now e) h))
+    requires { ⌜ Standing (now file) (now e) h × Remembered (NeverHat (certificateOf (now file))) (now e) (now above) × (length (now opened) ≡ entryFlags) × (getD (now e) (4 * h) 0 ≡ 3) × (end ≡ h + size (subAt (now e) h))
         × SizesIn (now file) (now sizes) × SizesOf (now e) (now z) ⌝ }
-    ensures memo { λ _. ⌜ Remembered (NoHat (certificateOf (now (file .entry)))) (now (e .entry)) (now (above .exit)) ⌝ }
+    ensures memo { λ _. ⌜ Remembered (NeverHat (certificateOf (now (file .entry)))) (now (e .entry)) (now (above .exit)) ⌝ }
     ensures flags { λ _. ⌜ ClosedBelow (certificateOf (now (file .entry))) (now (opened .entry)) (now (opened .exit)) (now (e .entry)) h ⌝ }
 {
-    if !no_hat_at(file, sizes, e, z, h, above) {
-        flag::paint(opened, h + 1, end, 0);
+    if !never_hat_at(file, sizes, e, z, h, above) {
+        let kept = excepted_places(file, sizes, e, h);
+        flag::narrow(opened, h + 1, end, &kept);
     }
 }
 
@@ -255,8 +379,8 @@ fn close_below(
     above: &mut [u8; FLAGS],
     opened: &mut [u8; FLAGS],
 )
-    requires { ⌜ Standing (now file) (now e) h × SizesOf (now e) (now z) × Remembered (NoHat (certificateOf (now file))) (now e) (now above) × (length (now opened) ≡ entryFlags) × SizesIn (now file) (now sizes) ⌝ }
-    ensures memo { λ _. ⌜ Remembered (NoHat (certificateOf (now (file .entry)))) (now (e .entry)) (now (above .exit)) ⌝ }
+    requires { ⌜ Standing (now file) (now e) h × SizesOf (now e) (now z) × Remembered (NeverHat (certificateOf (now file))) (now e) (now above) × (length (now opened) ≡ entryFlags) × SizesIn (now file) (now sizes) ⌝ }
+    ensures memo { λ _. ⌜ Remembered (NeverHat (certificateOf (now (file .entry)))) (now (e .entry)) (now (above .exit)) ⌝ }
     ensures flags { λ _. ⌜ ClosedBelow (certificateOf (now (file .entry))) (now (opened .entry)) (now (opened .exit)) (now (e .entry)) h ⌝ }
 {
     if e[4 * h] == ENCRYPTION {
@@ -275,8 +399,8 @@ fn close_places(
     above: &mut [u8; FLAGS],
     opened: &mut [u8; FLAGS],
 )
-    requires { ⌜ Concluded (now file) (now e) × Remembered (NoHat (certificateOf (now file))) (now e) (now above) × Flagged (now e) (now opened) × SizesIn (now file) (now sizes) ⌝ }
-    ensures memo { λ _. ⌜ Remembered (NoHat (certificateOf (now (file .entry)))) (now (e .entry)) (now (above .exit)) ⌝ }
+    requires { ⌜ Concluded (now file) (now e) × Remembered (NeverHat (certificateOf (now file))) (now e) (now above) × Flagged (now e) (now opened) × SizesIn (now file) (now sizes) ⌝ }
+    ensures memo { λ _. ⌜ Remembered (NeverHat (certificateOf (now (file .entry)))) (now (e .entry)) (now (above .exit)) ⌝ }
     ensures flags { λ _. ⌜ OpenAmong (certificateOf (now (file .entry))) (now (e .entry)) (now (opened .entry)) (size (termOf (now (e .entry)))) (now (opened .exit)) ⌝ }
 {
     let z = entry::sizes(e);
@@ -296,8 +420,8 @@ fn open_places(
     above: &mut [u8; FLAGS],
     wanted: [u8; FLAGS],
 ) -> [u8; FLAGS]
-    requires { ⌜ Laid (now file) × Flagged (now e) wanted × Remembered (NoHat (certificateOf (now file))) (now e) (now above) × SizesIn (now file) (now sizes) ⌝ }
-    ensures memo { λ _. ⌜ Remembered (NoHat (certificateOf (now (file .entry)))) (now (e .entry)) (now (above .exit)) ⌝ }
+    requires { ⌜ Laid (now file) × Flagged (now e) wanted × Remembered (NeverHat (certificateOf (now file))) (now e) (now above) × SizesIn (now file) (now sizes) ⌝ }
+    ensures memo { λ _. ⌜ Remembered (NeverHat (certificateOf (now (file .entry)))) (now (e .entry)) (now (above .exit)) ⌝ }
     ensures flags { λ r. ⌜ OpenFlags (certificateOf (now (file .entry))) (now (e .entry)) wanted r ⌝ }
 {
     let mut opened = wanted;
@@ -562,10 +686,10 @@ pub fn uncovered(
     block: &[u8],
 ) -> Found
     requires { ⌜ Laid (now file) × RuleBlock (now block) × RootsOf (now file) (now roots)
-        × Remembered (NoHat (certificateOf (now file))) (firstEntries (now block)) (now above)
-        × Remembered (SharesBad (certificateOf (now file))) (secondEntries (now block)) (now shared) × SizesIn (now file) (now sizes) ⌝ }
-    ensures premise { λ _. ⌜ Remembered (NoHat (certificateOf (now (file .entry)))) (firstEntries (now (block .entry))) (now (above .exit)) ⌝ }
-    ensures conclusion { λ _. ⌜ Remembered (SharesBad (certificateOf (now (file .entry)))) (secondEntries (now (block .entry))) (now (shared .exit)) ⌝ }
+        × Remembered (NeverHat (certificateOf (now file))) (firstEntries (now block)) (now above)
+        × Remembered (SharesUnmarked (certificateOf (now file))) (secondEntries (now block)) (now shared) × SizesIn (now file) (now sizes) ⌝ }
+    ensures premise { λ _. ⌜ Remembered (NeverHat (certificateOf (now (file .entry)))) (firstEntries (now (block .entry))) (now (above .exit)) ⌝ }
+    ensures conclusion { λ _. ⌜ Remembered (SharesUnmarked (certificateOf (now (file .entry)))) (secondEntries (now (block .entry))) (now (shared .exit)) ⌝ }
     ensures answer { λ r. ⌜ r ≡ verdicts.uncovered (certificateOf (now (file .entry))) (ruleOf (now (block .entry))) ⌝ }
 {
     let premise = blocks::first_entries(block);

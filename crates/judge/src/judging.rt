@@ -7,8 +7,7 @@ ghost use Rattle.terms.specs.Decisions.{Says};
 ghost use Rattle.judge.specs.File.{blockCount, certificateOf, ruleOf};
 ghost use Rattle.judge.specs.Laid.{Laid};
 ghost use Rattle.judge.specs.Judgement.{judgedOf, OnlyRulesFrom, Heads};
-ghost use Rattle.judge.specs.Cover.{NoHat};
-ghost use Rattle.judge.specs.Listed.{RootsOf, SharesBad, SizesIn};
+ghost use Rattle.judge.specs.Listed.{NeverHat, RootsOf, SharesUnmarked, SizesIn};
 ghost use Rattle.judge.specs.CoverEntries.{AfterRule, Carried, Repeats};
 ghost use Rattle.judge.specs.Verdict as verdicts;
 ghost use Rattle.judge.specs.Verdict.{onKind, uncoveredRule, ruleFault, certificateFault, faultOf, verdictOf};
@@ -109,12 +108,12 @@ fn uncovered_in(
     i: usize,
 ) -> Found
     requires { ⌜ Laid (now file) × (i < blockCount (now file)) × (kindOf (blockAt (now file) i) ≡ ruleKind) × Laid (now head) × RootsOf (now head) (now roots)
-        × Carried firstEntries (NoHat (certificateOf (now head))) (now file) i (now above)
-        × Carried secondEntries (SharesBad (certificateOf (now head))) (now file) i (now shared)
+        × Carried firstEntries (NeverHat (certificateOf (now head))) (now file) i (now above)
+        × Carried secondEntries (SharesUnmarked (certificateOf (now head))) (now file) i (now shared)
         × SizesIn (now head) (now sizes) ⌝ }
     ensures answer { λ r. ⌜ r ≡ verdicts.uncovered (certificateOf (now (head .entry))) (ruleOf (blockAt (now (file .entry)) i)) ⌝ }
-    ensures premise { λ _. ⌜ Carried firstEntries (NoHat (certificateOf (now (head .entry)))) (now (file .entry)) (i + 1) (now (above .exit)) ⌝ }
-    ensures conclusion { λ _. ⌜ Carried secondEntries (SharesBad (certificateOf (now (head .entry)))) (now (file .entry)) (i + 1) (now (shared .exit)) ⌝ }
+    ensures premise { λ _. ⌜ Carried firstEntries (NeverHat (certificateOf (now (head .entry)))) (now (file .entry)) (i + 1) (now (above .exit)) ⌝ }
+    ensures conclusion { λ _. ⌜ Carried secondEntries (SharesUnmarked (certificateOf (now (head .entry)))) (now (file .entry)) (i + 1) (now (shared .exit)) ⌝ }
 {
     flag::renew(above, repeats_premise(file, i));
     flag::renew(shared, repeats_conclusion(file, i));
@@ -132,12 +131,12 @@ fn uncovered_at(
     i: usize,
 ) -> Judged
     requires { ⌜ Laid (now file) × (i < blockCount (now file)) × Heads (now head) (now file) × RootsOf (now head) (now roots)
-        × Carried firstEntries (NoHat (certificateOf (now head))) (now file) i (now above)
-        × Carried secondEntries (SharesBad (certificateOf (now head))) (now file) i (now shared)
+        × Carried firstEntries (NeverHat (certificateOf (now head))) (now file) i (now above)
+        × Carried secondEntries (SharesUnmarked (certificateOf (now head))) (now file) i (now shared)
         × SizesIn (now head) (now sizes) ⌝ }
     ensures answer { λ r. ⌜ r ≡ judgedOf (onKind ruleKind (uncoveredRule (certificateOf (now (file .entry)))) (now (file .entry)) i) ⌝ }
-    ensures premise { λ _. ⌜ Carried firstEntries (NoHat (certificateOf (now (head .entry)))) (now (file .entry)) (i + 1) (now (above .exit)) ⌝ }
-    ensures conclusion { λ _. ⌜ Carried secondEntries (SharesBad (certificateOf (now (head .entry)))) (now (file .entry)) (i + 1) (now (shared .exit)) ⌝ }
+    ensures premise { λ _. ⌜ Carried firstEntries (NeverHat (certificateOf (now (head .entry)))) (now (file .entry)) (i + 1) (now (above .exit)) ⌝ }
+    ensures conclusion { λ _. ⌜ Carried secondEntries (SharesUnmarked (certificateOf (now (head .entry)))) (now (file .entry)) (i + 1) (now (shared .exit)) ⌝ }
 {
     let block = blocks::block(file, i);
     if blocks::kind(block) != kinds::RULE {

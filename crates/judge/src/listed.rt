@@ -2,13 +2,14 @@
 ghost use mathlib.Core.Path.{_≡_};
 ghost use mathlib.Core.Bool.{false};
 ghost use mathlib.Core.Logic.{_↔_};
-ghost use Prim.Native.Nat.{_+_, _*_, _<_, _≤_};
-ghost use lib.ListN.{length};
-ghost use Rattle.blocks.specs.Kinds.{secretKind, goodKind, ListsTerm};
+ghost use Prim.Native.Nat.{_+_, _*_, _/_, _<_, _≤_};
+ghost use lib.ListN.{length, getD};
+ghost use Rattle.blocks.specs.Kinds.{secretKind, goodKind, badKind, ListsTerm};
+ghost use Rattle.blocks.specs.Limits.{mostBlocks, mostTermBytes, mostTermEntries};
 ghost use Rattle.blocks.specs.Block.{blockAt, kindOf};
 ghost use Rattle.terms.specs.Term.{Message, atom, asTerm};
 ghost use Rattle.terms.specs.Instance.{Matches, Share};
-ghost use Rattle.terms.specs.Entry.{Begins, termOf};
+ghost use Rattle.terms.specs.Entry.{Begins, termOf, from};
 ghost use Rattle.terms.specs.OneTerm.{IsEncryption};
 ghost use Rattle.terms.specs.TermGraph.{SizesOf};
 ghost use Rattle.terms.specs.Decisions.{Says};
@@ -19,17 +20,20 @@ ghost use Rattle.judge.specs.Laid.{Laid, TermBlock};
 ghost use Rattle.judge.specs.Conditions.{KnownAtom, WeaklyClosed, KeptKey};
 ghost use Rattle.judge.specs.Judgement.{judgedOf};
 ghost use Rattle.judge.specs.Verdict.{onKind, kindAsked, Meets, faultOn, conditionAt, conditionFault};
-ghost use Rattle.judge.specs.Listed.{HoldsAt, Searching, TermPart, matches-listed?, shares-listed?, is-secret?};
-ghost use Rattle.judge.specs.Listed.{rootSlots, slotAt, FlaggedMore, RootsOf, NoRoot, SizesBelow, SizesIn, SizeOf};
+ghost use Rattle.judge.specs.Listed.{HoldsAt, HeldAmong, Searching, TermPart, Everywhere, matches-everywhere?, shares-listed?, shares-everywhere?, is-secret?};
+ghost use Rattle.judge.specs.Listed.{rootSlots, slotAt, FlaggedMore, RootsOf, NoRoot, SizesBelow, SizesIn, SizeOf, rowSize, listedRows, listedSizes, markSlot, MarkedBad, MarkTag, LastMark, Noted};
 use crate::atoms::atom_at;
+use crate::flag;
 use crate::form::Judged;
 use crate::verdict::Fault;
 use blocks::kinds;
 use blocks::limits;
+use blocks::wide;
 use terms::entry;
 use terms::matching;
 use terms::sharing;
 use terms::tag::ENCRYPTION;
+use terms::tag::MARKED;
 use terms::tag::PAIR;
 use terms::tag::SLOTS;
 use terms::tag::is_variable;
@@ -69,28 +73,57 @@ pub fn term_at(file: &[u8], i: usize) -> &[u8]
     blocks::first_entries(block)
 }
 
-// Does block i, if it is of this kind, hold a pattern that e's term is, with its variables replaced?
-fn matches_at(file: &[u8], i: usize, kind: u8, e: &[u8]) -> bool
-    requires { ⌜ Searching (now file) kind (now e) × (i < blockCount (now file)) ⌝ }
-    ensures { λ r. ⌜ Says r (HoldsAt (now (file .entry)) kind (λ p. Matches p (termOf (now (e .entry)))) i) ⌝ }
+// Where the last mark of block i stands, counted from 1, by the table; 0 if it is no marked bad pattern.
+pub fn last_mark_of(sizes: &[u8; LISTED_SIZES], i: usize) -> usize
+    requires { ⌜ (length (now sizes) ≡ listedSizes) × (i < mostBlocks) ⌝ }
+    ensures { λ r. ⌜ r ≡ getD (now (sizes .entry)) (markSlot i) 0 ⌝ }
+{
+    wide(sizes[ROW * i + MARK_SLOT])
+}
+
+// The table from the row of block i on.
+pub fn row(sizes: &[u8; LISTED_SIZES], i: usize) -> &[u8]
+    requires { ⌜ (length (now sizes) ≡ listedSizes) × (i < mostBlocks) ⌝ }
+    ensures { λ r. ⌜ now r ≡ from (rowSize * i) (now (sizes .entry)) ⌝ }
+{
+    let all = &sizes[..];
+    &all[ROW * i..]
+}
+
+// Is there a marked bad pattern, by the table?
+pub fn some_marked(sizes: &[u8; LISTED_SIZES]) -> bool
+    requires { ⌜ length (now sizes) ≡ listedSizes ⌝ }
+    ensures { λ r. ⌜ Says r (getD (now (sizes .entry)) listedRows 0 ≡ 1) ⌝ }
+{
+    sizes[ROWS] == 1
+}
+
+// Does block i, if it is of this kind and counts for every place, hold a pattern that e's term is, with its variables
+// replaced?
+fn matches_at(file: &[u8], sizes: &[u8; LISTED_SIZES], i: usize, kind: u8, e: &[u8]) -> bool
+    requires { ⌜ Searching (now file) kind (now e) × (i < blockCount (now file)) × SizesIn (now file) (now sizes) ⌝ }
+    ensures { λ r. ⌜ Says r (HoldsAt (now (file .entry)) kind (λ p. Everywhere kind p × Matches p (termOf (now (e .entry)))) i) ⌝ }
 {
     if is_kind(file, i, kind) {
+        if last_mark_of(sizes, i) != 0 {
+            return false;
+        }
         matching::matches(term_at(file, i), e)
     } else {
         false
     }
 }
 
-// Is the term that e begins with some listed pattern of this kind, with its variables replaced? Asked from the last block
-// back, as the patterns stand behind the secrets, to the first of a lower kind.
-pub fn is_listed_match(file: &[u8], kind: u8, e: &[u8]) -> bool
-    requires { ⌜ Searching (now file) kind (now e) ⌝ }
-    ensures { λ r. ⌜ r ≡ answer (matches-listed? (certificateOf (now (file .entry))) kind (termOf (now (e .entry)))) ⌝ }
+// Is the term that e begins with some listed pattern of this kind that counts for every place, with its variables replaced?
+// Asked from the last block back, as the patterns stand behind the secrets, to the first of a lower kind.
+pub fn is_listed_match(file: &[u8], sizes: &[u8; LISTED_SIZES], kind: u8, e: &[u8]) -> bool
+    requires { ⌜ Searching (now file) kind (now e) × SizesIn (now file) (now sizes) ⌝ }
+    ensures { λ r. ⌜ r ≡ answer (matches-everywhere? (certificateOf (now (file .entry))) kind (termOf (now (e .entry)))) ⌝ }
 {
     let count = file.len() / limits::BLOCK_SIZE;
     let mut left = count;
     while 0 < left {
-        if matches_at(file, left - 1, kind, e) {
+        if matches_at(file, sizes, left - 1, kind, e) {
             return true;
         }
         if kind_at(file, left - 1) < kind {
@@ -114,22 +147,28 @@ fn shares_at(
     ensures { λ r. ⌜ Says r (HoldsAt (now (file .entry)) kind (λ p. Share p (termOf (now (e .entry)))) i) ⌝ }
 {
     if is_kind(file, i, kind) {
-        let all = &sizes[..];
-        sharing::shares(term_at(file, i), e, &all[64 * i..], z)
+        sharing::shares(term_at(file, i), e, row(sizes, i), z)
     } else {
         false
     }
 }
 
-// Does some listed term of this kind share an instance with the term that e begins with? Asked from the last block back to
-// the first of a lower kind. `sizes` has the sizes of the listed terms, and z those of e's.
-pub fn shares_listed(file: &[u8], sizes: &[u8; LISTED_SIZES], kind: u8, e: &[u8], z: &[u8]) -> bool
-    requires { ⌜ Searching (now file) kind (now e) × SizesIn (now file) (now sizes) × SizesOf (now e) (now z) ⌝ }
-    ensures { λ r. ⌜ r ≡ answer (shares-listed? (certificateOf (now (file .entry))) kind (termOf (now (e .entry)))) ⌝ }
+// Does a listed term of this kind share an instance with the term that e begins with, in a block from `low` up to `high`?
+// Asked from the last one back to the first of a lower kind. `sizes` has the sizes of the listed terms, and z those of e's.
+pub fn shares_among(
+    file: &[u8],
+    sizes: &[u8; LISTED_SIZES],
+    kind: u8,
+    low: usize,
+    high: usize,
+    e: &[u8],
+    z: &[u8],
+) -> bool
+    requires { ⌜ Searching (now file) kind (now e) × SizesIn (now file) (now sizes) × SizesOf (now e) (now z) × (low ≤ high) × (high ≤ blockCount (now file)) ⌝ }
+    ensures { λ r. ⌜ Says r (HeldAmong (now (file .entry)) kind (λ p. Share p (termOf (now (e .entry)))) low high) ⌝ }
 {
-    let count = file.len() / limits::BLOCK_SIZE;
-    let mut left = count;
-    while 0 < left {
+    let mut left = high;
+    while low < left {
         if shares_at(file, sizes, left - 1, kind, e, z) {
             return true;
         }
@@ -139,6 +178,62 @@ pub fn shares_listed(file: &[u8], sizes: &[u8; LISTED_SIZES], kind: u8, e: &[u8]
         left -= 1;
     }
     false
+}
+
+// Does some listed term of this kind share an instance with the term that e begins with?
+pub fn shares_listed(file: &[u8], sizes: &[u8; LISTED_SIZES], kind: u8, e: &[u8], z: &[u8]) -> bool
+    requires { ⌜ Searching (now file) kind (now e) × SizesIn (now file) (now sizes) × SizesOf (now e) (now z) ⌝ }
+    ensures { λ r. ⌜ r ≡ answer (shares-listed? (certificateOf (now (file .entry))) kind (termOf (now (e .entry)))) ⌝ }
+{
+    let count = file.len() / limits::BLOCK_SIZE;
+    shares_among(file, sizes, kind, 0, count, e, z)
+}
+
+// Does block i, if it is a bad one without marks, share an instance with e's term?
+fn unmarked_shares(file: &[u8], sizes: &[u8; LISTED_SIZES], i: usize, e: &[u8], z: &[u8]) -> bool
+    requires { ⌜ Searching (now file) badKind (now e) × (i < blockCount (now file)) × SizesIn (now file) (now sizes) × SizesOf (now e) (now z) ⌝ }
+    ensures { λ r. ⌜ Says r (HoldsAt (now (file .entry)) badKind (λ p. Everywhere badKind p × Share p (termOf (now (e .entry)))) i) ⌝ }
+{
+    if is_kind(file, i, kinds::BAD) {
+        if 0 < last_mark_of(sizes, i) {
+            return false;
+        }
+        shares_among(file, sizes, kinds::BAD, i, i + 1, e, z)
+    } else {
+        false
+    }
+}
+
+// Does some bad pattern without marks share an instance with the term that e begins with? Asked one by one, as some are
+// marked.
+fn shares_unmarked(file: &[u8], sizes: &[u8; LISTED_SIZES], e: &[u8], z: &[u8]) -> bool
+    requires { ⌜ Searching (now file) badKind (now e) × SizesIn (now file) (now sizes) × SizesOf (now e) (now z) ⌝ }
+    ensures { λ r. ⌜ r ≡ answer (shares-everywhere? (certificateOf (now (file .entry))) badKind (termOf (now (e .entry)))) ⌝ }
+{
+    let count = file.len() / limits::BLOCK_SIZE;
+    let mut left = count;
+    while 0 < left {
+        if unmarked_shares(file, sizes, left - 1, e, z) {
+            return true;
+        }
+        if kind_at(file, left - 1) < kinds::BAD {
+            return false;
+        }
+        left -= 1;
+    }
+    false
+}
+
+// The same, all at once if none is marked.
+pub fn shares_bad(file: &[u8], sizes: &[u8; LISTED_SIZES], e: &[u8], z: &[u8]) -> bool
+    requires { ⌜ Searching (now file) badKind (now e) × SizesIn (now file) (now sizes) × SizesOf (now e) (now z) ⌝ }
+    ensures { λ r. ⌜ r ≡ answer (shares-everywhere? (certificateOf (now (file .entry))) badKind (termOf (now (e .entry)))) ⌝ }
+{
+    if some_marked(sizes) {
+        shares_unmarked(file, sizes, e, z)
+    } else {
+        shares_listed(file, sizes, kinds::BAD, e, z)
+    }
 }
 
 // Is block i a secret's, and its secret e's term, which has n entries, symbol for symbol?
@@ -224,33 +319,89 @@ fn lists_term(file: &[u8], i: usize) -> bool
     blocks::lists_term(kind_at(file, i))
 }
 
-// Fills in the sizes of block i's terms, if it lists one.
-fn size_block(file: &[u8], i: usize, sizes: &mut [u8; LISTED_SIZES])
-    requires { ⌜ Laid (now file) × (i < blockCount (now file)) × SizesBelow (now file) i (now sizes) ⌝ }
-    ensures { λ _. ⌜ SizesBelow (now (file .entry)) (i + 1) (now (sizes .exit)) ⌝ }
+// Has an entry from `low` up to `high` the tag of a marked variable?
+pub fn has_mark(e: &[u8], low: usize, high: usize) -> bool
+    requires { ⌜ (4 * high ≤ length (now e)) × (length (now e) ≤ mostTermBytes) ⌝ }
+    ensures { λ r. ⌜ Says r (MarkTag (now (e .entry)) low high) ⌝ }
 {
-    if lists_term(file, i) {
-        entry::fill_sizes(term_at(file, i), sizes, 64 * i);
+    let mut k = low;
+    while k < high {
+        if e[4 * k] == MARKED {
+            return true;
+        }
+        k += 1;
+    }
+    false
+}
+
+// Where the last marked variable stands, counted from 1; 0 if there is none.
+fn last_mark(e: &[u8]) -> usize
+    requires { ⌜ (length (now e) ≤ mostTermBytes) × (4 * (length (now e) / 4) ≡ length (now e)) ⌝ }
+    ensures { λ r. ⌜ LastMark (now (e .entry)) r × (r ≤ mostTermEntries) ⌝ }
+{
+    let mut left = e.len() / 4;
+    while 0 < left {
+        if e[4 * (left - 1)] == MARKED {
+            return left;
+        }
+        left -= 1;
+    }
+    0
+}
+
+// Where the last mark of block i stands, counted from 1; 0 if it has none or is no bad pattern.
+fn marks_of(file: &[u8], i: usize) -> u8
+    requires { ⌜ Laid (now file) × (i < blockCount (now file)) ⌝ }
+    ensures { λ r. ⌜ Noted (now (file .entry)) i r ⌝ }
+{
+    if is_kind(file, i, kinds::BAD) {
+        last_mark(term_at(file, i)) as u8
+    } else {
+        0
     }
 }
 
-// The sizes of all listed terms, those of block i from 64 * i on.
+// Fills in block i's row, if it lists a term, and tells whether it is a marked bad pattern.
+fn fill_row(file: &[u8], i: usize, sizes: &mut [u8; LISTED_SIZES]) -> bool
+    requires { ⌜ Laid (now file) × (i < blockCount (now file)) × SizesBelow (now file) i (now sizes) ⌝ }
+    ensures rows { λ _. ⌜ SizesBelow (now (file .entry)) (i + 1) (now (sizes .exit)) ⌝ }
+    ensures marked { λ r. ⌜ Says r (MarkedBad (now (file .entry)) i) ⌝ }
+{
+    let marks = marks_of(file, i);
+    let marked = marks != 0;
+    if lists_term(file, i) {
+        entry::fill_sizes(term_at(file, i), sizes, ROW * i);
+        sizes[ROW * i + MARK_SLOT] = marks;
+    }
+    marked
+}
+
+// What is noted of all listed terms: the sizes of block i's in its row, and which bad patterns are marked.
 pub fn listed_sizes(file: &[u8]) -> [u8; LISTED_SIZES]
     requires { ⌜ Laid (now file) ⌝ }
     ensures { λ r. ⌜ SizesIn (now (file .entry)) r ⌝ }
 {
     let mut sizes = [0u8; LISTED_SIZES];
+    let mut some = 0;
     let count = file.len() / limits::BLOCK_SIZE;
     let mut i = 0;
     while i < count {
-        size_block(file, i, &mut sizes);
+        some = flag::put_on(some, fill_row(file, i, &mut sizes));
         i += 1;
     }
+    sizes[ROWS] = some;
     sizes
 }
 
-// Room for the sizes of the terms of all blocks: 64 for each.
-pub const LISTED_SIZES: usize = 4096;
+// Room for what is noted of the listed terms: a row of 64 for each block, with the sizes of its subterms and, in the last slot,
+// where the last mark of a bad pattern stands; and behind the rows whether any is marked.
+const ROW: usize = 64;
+
+const MARK_SLOT: usize = limits::MOST_TERM_ENTRIES;
+
+const ROWS: usize = 4096;
+
+pub const LISTED_SIZES: usize = ROWS + 1;
 
 // The slots of roots: those of atoms from 0, then those of pairs, of encryptions and of variables.
 const PAIR_ROOTS: usize = 256;

@@ -10,7 +10,7 @@ use lib.Dec.{ltb}
 use lib.ListN.{length, getD, List·getD-eq-default}
 use borrow.Author.Tests.{ltb-true, lt-ltb, le-ltb, eq-eqb, ne-eqb}
 use borrow.Rule.Slice.PartAt.{part-to-end}
-use Rattle.blocks.specs.Kinds.{secretKind, goodKind}
+use Rattle.blocks.specs.Kinds.{secretKind, goodKind, badKind}
 use Rattle.terms.specs.declared.valid.Found.the-variants.{At, Nothing}
 use Rattle.terms.specs.Term.{Sort, plain, marked}
 use Rattle.terms.specs.declared.atom.Atom.{Atom}
@@ -52,9 +52,13 @@ module _ {kind : ℕ} where
   unfolding markedLimit
   marked-good e = rw (eq-eqb kind goodKind e)
 
-  pub marked-other : (kind ≡ goodKind → ⊥) → 0 ≡ markedLimit kind
+  pub marked-bad : (kind ≡ goodKind → ⊥) → kind ≡ badKind → variables ≡ markedLimit kind
   unfolding markedLimit
-  marked-other e = rw (ne-eqb kind goodKind e)
+  marked-bad e f = rw (ne-eqb kind goodKind e, eq-eqb kind badKind f)
+
+  pub marked-other : (kind ≡ goodKind → ⊥) → (kind ≡ badKind → ⊥) → 0 ≡ markedLimit kind
+  unfolding markedLimit
+  marked-other e f = rw (ne-eqb kind goodKind e, ne-eqb kind badKind f)
 
 -- What the tables ask of an entry is what number 7 asks, tag by tag.
 module _ (atoms : List Atom) (kind value : ℕ) where
@@ -81,8 +85,11 @@ module _ (atoms : List Atom) (kind value : ℕ) where
         | no off ↦ (omega (arith, plain-other off), off)
       ]
       sorted marked below = elim (ℕ-discrete kind goodKind) [
-        | yes e ↦ (omega (arith, marked-good e), e)
-        | no off ↦ absurd (omega (arith, marked-other off))
+        | yes e ↦ (omega (arith, marked-good e), inl e)
+        | no not-good ↦ elim (ℕ-discrete kind badKind) [
+          | yes e ↦ (omega (arith, marked-bad not-good e), inr e)
+          | no off ↦ absurd (omega (arith, marked-other not-good off))
+        ]
       ]
 
       past : {n : ℕ} (l : List ℕ) → length l ≡ 6 → 5 < n → getD l n 0 ≡ 0
@@ -110,7 +117,8 @@ module _ (atoms : List Atom) (kind value : ℕ) where
 
       sorted : (s : Sort) → value < variables → MayStand s kind → Within (sortTag s)
       sorted plain low off = (omega (arith, plain-other off), omega arith)
-      sorted marked low is = (omega (arith, marked-good is), omega arith)
+      sorted marked low (inl is) = (omega (arith, marked-good is), omega arith)
+      sorted marked low (inr is) = (omega (arith, marked-bad (λ e. omega arith) is), omega arith)
 
       go : (w : Tagged tag) → AskedBy atoms kind value w → Within tag
       go (anAtom e) a = rw e (a, omega arith)

@@ -3,13 +3,13 @@ use mathlib.Core.Path.{_≡_, refl, sym, ap, _∙_, ap₂}
 use mathlib.Core.List.{List, [], _∷_, _++_, append-assoc, append-nil}
 use mathlib.Core.Option.{some}
 use mathlib.Core.Bool.{Bool, true, false}
-use mathlib.Core.Logic.{_↔_, ⊎-elim}
+use mathlib.Core.Logic.{_⊎_, inl, inr, _↔_, ⊎-elim}
 use Prim.Native.Nat.{ℕ, _+_, _*_, _/_, _%_, _<_}
 use native.Mathlib.Omega.{arith}
 use lib.ListN.{getD, length, length-append}
 use lib.Dec.{ltb, eqb}
 use borrow.Author.Tests.{lt-ltb, ltb-true}
-use Rattle.blocks.specs.Kinds.{secretKind, goodKind}
+use Rattle.blocks.specs.Kinds.{secretKind, goodKind, badKind}
 use Rattle.terms.specs.declared.valid.Found.the-variants.{Nothing}
 use Rattle.terms.specs.Term.{Term, variable, atom, pair, encrypted, Message, Sort, plain, marked, Variable, named, replace, asTerm, wrapped, encryption}
 use Rattle.terms.specs.declared.atom.Atom.{Atom}
@@ -128,7 +128,8 @@ right-term {e = e} each o = right-terms each (termOf e ∷ []) (record { is = on
 pub secret-bare : (s : Sort) {kind : ℕ} → kind ≡ secretKind → ¬ MayStand s kind
 unfolding MayStand
 secret-bare plain secret may = may secret
-secret-bare marked secret may = omega arith
+secret-bare marked secret (inl good) = omega arith
+secret-bare marked secret (inr bad) = omega arith
 
 pub secret-message : {atoms : List Atom} {kind : ℕ} {t : Term Variable} → kind ≡ secretKind → TermRight atoms kind t → (m : Message) × (t ≡ asTerm m)
 unfolding asTerm replace
@@ -137,18 +138,18 @@ secret-message s (pairRight w v) = let a = secret-message s w in let b = secret-
 secret-message s (encryptedRight {k} i w) = let a = secret-message s w in (encrypted k (a .0), ap (encrypted k) (a .1))
 secret-message s (variableRight {s = sort} l k) = absurd (secret-bare sort s k)
 
--- Marked variables stand in good patterns only.
-mark-stands : (s : Sort) {kind x y : ℕ} → named marked x ≡ named s y → MayStand s kind → kind ≡ goodKind
+-- Marked variables stand in patterns only.
+mark-stands : (s : Sort) {kind x y : ℕ} → named marked x ≡ named s y → MayStand s kind → (kind ≡ goodKind) ⊎ (kind ≡ badKind)
 unfolding MayStand
 mark-stands plain same may = let z : _≡_ {A = ℕ} 0 1 = cc in absurd (omega arith)
 mark-stands marked same may = may
 
-pub no-mark : {atoms : List Atom} {kind : ℕ} {t : Term Variable} → (kind ≡ goodKind → ⊥) → TermRight atoms kind t → (x : ℕ) → ¬ Occurs (named marked x) t
+pub no-mark : {atoms : List Atom} {kind : ℕ} {t : Term Variable} → ((kind ≡ goodKind) ⊎ (kind ≡ badKind) → ⊥) → TermRight atoms kind t → (x : ℕ) → ¬ Occurs (named marked x) t
 unfolding Occurs
-no-mark not-good (atomRight l) x o = o
-no-mark not-good (pairRight w v) x o = ⊎-elim (no-mark not-good w x) (no-mark not-good v x) o
-no-mark not-good (encryptedRight i w) x o = no-mark not-good w x o
-no-mark not-good (variableRight {s = sort} l k) x o = not-good (mark-stands sort o k)
+no-mark no-pattern (atomRight l) x o = o
+no-mark no-pattern (pairRight w v) x o = ⊎-elim (no-mark no-pattern w x) (no-mark no-pattern v x) o
+no-mark no-pattern (encryptedRight i w) x o = no-mark no-pattern w x o
+no-mark no-pattern (variableRight {s = sort} l k) x o = no-pattern (mark-stands sort o k)
 
 -- Entries that are exactly one term have its size.
 entries-length : (t : Term Variable) → length (termEntries t) ≡ 4 * size t

@@ -34,7 +34,7 @@ itself : wrongAtom (atomsOf (entry 5 0 0 ++ entry 5 0 0)) ≡ At 1
 unfolding wrongAtom atomsOf entry
 itself = refl
 
--- {(T, x)}2, and what is wrong with it elsewhere: variables in a secret, marks in a bad pattern, numbers.
+-- {(T, x)}2, and what is wrong with it elsewhere: variables in a secret, marks in a rule but not in a bad pattern, numbers.
 good : List ℕ
 good = entry 3 0 2 ++ (entry 2 0 0 ++ (entry 1 0 7 ++ entry 4 0 0))
 
@@ -45,6 +45,10 @@ good-is-right = refl
 in-a-secret : wrongEntry (atomsOf atoms) 2 good ≡ At 3
 unfolding wrongEntry atomsOf atoms good entry
 in-a-secret = refl
+
+marked-bad : wrongEntry (atomsOf atoms) 4 (entry 5 0 0) ≡ Nothing
+unfolding wrongEntry atomsOf atoms entry
+marked-bad = refl
 
 marked-rule : wrongEntry (atomsOf atoms) 5 (entry 5 0 0) ≡ At 0
 unfolding wrongEntry atomsOf atoms entry

@@ -5,7 +5,7 @@ use mathlib.Core.List.{List, [], _∷_}
 use Prim.Native.Nat.{ℕ, _<_, _≤_}
 use lib.Dec.{eqb, ltb}
 use lib.ListN.{getD}
-use Rattle.blocks.specs.Kinds.{secretKind, goodKind}
+use Rattle.blocks.specs.Kinds.{secretKind, goodKind, badKind}
 use Rattle.terms.specs.declared.atom.Atom.{Atom}
 use Rattle.terms.specs.Atom.{publicKind, atomKind}
 use Rattle.terms.specs.Tag.{variables}
@@ -21,7 +21,7 @@ unfoldable pub plainLimit : ℕ → ℕ
 plainLimit kind = pick (eqb kind secretKind) 0 variables
 
 unfoldable pub markedLimit : ℕ → ℕ
-markedLimit kind = pick (eqb kind goodKind) variables 0
+markedLimit kind = pick (eqb kind goodKind) variables (pick (eqb kind badKind) variables 0)
 
 -- The limits of the tags, with so many atoms, and their least kinds.
 unfoldable pub limitsOf : ℕ → ℕ → List ℕ

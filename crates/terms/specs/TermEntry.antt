@@ -1,10 +1,11 @@
 -- Term entries, and what number 7 asks of them (document 01, "Term entry").
 use mathlib.Core.Path.{_≡_}
 use mathlib.Core.List.{List}
+use mathlib.Core.Logic.{_⊎_}
 use Prim.Native.Nat.{ℕ, _*_, _/_, _<_}
 use native.Mathlib.Decide.{ℕ-discrete, decLt}
 use lib.ListN.{length, getD, drop}
-use Rattle.blocks.specs.Kinds.{secretKind, goodKind}
+use Rattle.blocks.specs.Kinds.{secretKind, goodKind, badKind}
 use Rattle.terms.specs.declared.valid.Found.{Found}
 use Rattle.terms.specs.Term.{Sort, plain, marked}
 use Rattle.terms.specs.Tag.{atomTag, pairTag, encryptionTag, sortTag, variables, Tagged, anAtom, aPair, aWrapping, aVariable, noTag, tagged, wrapping-tag}
@@ -12,17 +13,18 @@ use Rattle.terms.specs.Tag.{sort-tagged}
 use Rattle.terms.specs.Entry.{tagAt, valueAt}
 use Rattle.terms.specs.declared.atom.Atom.{Atom}
 use Rattle.terms.specs.Atom.{IsKey, isKey?}
-use Rattle.terms.specs.Decisions.{dec-map, dec-not, dec-and}
+use Rattle.terms.specs.Decisions.{dec-map, dec-not, dec-and, dec-or}
 use Rattle.terms.specs.First.{firstNot}
 use Rattle.terms.specs.Each.{EntryIs}
 
--- Where a variable of this sort may stand. "Secrets have no variables"; 5, a marked variable, is for "good only".
+-- Where a variable of this sort may stand. "Secrets have no variables"; 5, a marked variable, is for good patterns, and for
+-- bad ones (02, No. 2).
 unfoldable pub MayStand : Sort → ℕ → Type 0
 MayStand plain kind = kind ≡ secretKind → ⊥
-MayStand marked kind = kind ≡ goodKind
+MayStand marked kind = (kind ≡ goodKind) ⊎ (kind ≡ badKind)
 
 -- Tags: 1 atom (its number); 2 pair (0); 3 encryption (a key's number); 4 plain variable (0 to 7); 5 marked variable
--- (0 to 7, good only). Secrets have no variables. Kinds: 2 secret, 3 good, 4 bad, 5 rule.
+-- (0 to 7, good and bad only). Secrets have no variables. Kinds: 2 secret, 3 good, 4 bad, 5 rule.
 pub data TagRight (atoms : List Atom) (kind tag value : ℕ) : Type 0 where
   atomEntry : tag ≡ atomTag → value < length atoms → TagRight atoms kind tag value
   pairEntry : tag ≡ pairTag → value ≡ 0 → TagRight atoms kind tag value
@@ -36,9 +38,9 @@ pub record EntryRight (atoms : List Atom) (kind tag zeroByte value : ℕ) : Type
 
 -- The same, decided by the tag.
 unfoldable pub mayStand? : (s : Sort) (kind : ℕ) → Dec (MayStand s kind)
-unfolding MayStand ℕ-discrete dec-not
+unfolding MayStand ℕ-discrete dec-not dec-or
 mayStand? plain kind = dec-not (ℕ-discrete kind secretKind)
-mayStand? marked kind = ℕ-discrete kind goodKind
+mayStand? marked kind = dec-or (ℕ-discrete kind goodKind) (λ n. ℕ-discrete kind badKind)
 
 module _ (atoms : List Atom) (kind value : ℕ) where
   -- What an entry of this tag has to have.

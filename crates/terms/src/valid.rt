@@ -24,6 +24,7 @@ use crate::entry::value;
 use crate::tag::ENCRYPTION;
 use crate::tag::LAST;
 use crate::tag::VARIABLES;
+use blocks::kinds::BAD;
 use blocks::kinds::GOOD;
 use blocks::kinds::SECRET;
 use blocks::wide;
@@ -102,11 +103,17 @@ fn plain_limit(kind: u8) -> usize
     if kind == SECRET { 0 } else { VARIABLES }
 }
 
-// How many marked variables a block of this kind may have: any but a good pattern none.
+// How many marked variables a block of this kind may have: any but a pattern none.
 fn marked_limit(kind: u8) -> usize
     ensures { λ r. ⌜ r ≡ markedLimit kind ⌝ }
 {
-    if kind == GOOD { VARIABLES } else { 0 }
+    if kind == GOOD {
+        VARIABLES
+    } else if kind == BAD {
+        VARIABLES
+    } else {
+        0
+    }
 }
 
 // For each tag, the limit that the values of its entries stay below.

@@ -15,14 +15,14 @@ const SYMBOLS: usize = TAGS * VALUES;
 
 // Marks of a symbol, by bits: where it is allowed, and what it is.
 pub const IN_SECRET: u32 = 0;
-pub const IN_GOOD: u32 = 1;
-pub const IN_OTHERS: u32 = 2;
+pub const IN_PATTERN: u32 = 1;
+pub const IN_RULE: u32 = 2;
 pub const LEAF: u32 = 3;
 pub const IS_PAIR: u32 = 4;
 pub const VARIABLE: u32 = 5;
 pub const ENCRYPTION: u32 = 6;
 pub const SECRET_ATOM: u32 = 7;
-const EVERYWHERE: u8 = 1 << IN_SECRET | 1 << IN_GOOD | 1 << IN_OTHERS;
+const EVERYWHERE: u8 = 1 << IN_SECRET | 1 << IN_PATTERN | 1 << IN_RULE;
 
 /// Bits of an entry that are set in no right one.
 pub const NEVER: u32 = !((VALUES as u32 - 1) << 16 | (TAGS as u32 - 1));
@@ -124,8 +124,8 @@ const fn marks_without_atoms() -> [u8; SYMBOLS] {
     marks[PAIR as usize] = EVERYWHERE | 1 << IS_PAIR;
     let mut i = 0;
     while i < VARIABLES {
-        let variable = 1 << IN_GOOD | 1 << LEAF | 1 << VARIABLE;
-        marks[index(tag::PLAIN, i)] = variable | 1 << IN_OTHERS;
+        let variable = 1 << IN_PATTERN | 1 << LEAF | 1 << VARIABLE;
+        marks[index(tag::PLAIN, i)] = variable | 1 << IN_RULE;
         marks[index(tag::MARKED, i)] = variable;
         i += 1;
     }

@@ -33,9 +33,18 @@ impl Family {
 
     /// The terms of these blocks, two slots a block, that are no atoms.
     pub fn of(terms: &[Term; SLOTS], blocks: std::ops::Range<usize>) -> Family {
+        Family::only(terms, blocks, |term| term.length > 1)
+    }
+
+    /// The terms of these blocks that are wanted; none is an atom.
+    pub fn only(
+        terms: &[Term; SLOTS],
+        blocks: std::ops::Range<usize>,
+        is_wanted: impl Fn(&Term) -> bool,
+    ) -> Family {
         let mut family = Family::EMPTY;
         for block in blocks {
-            if terms[2 * block].length > 1 {
+            if is_wanted(&terms[2 * block]) {
                 family.insert(terms, 2 * block);
             }
         }

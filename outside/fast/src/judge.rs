@@ -8,6 +8,8 @@ use crate::read::Certificate;
 use crate::rule::Judge;
 use crate::term::Term;
 
+/// Not inlined, so that its large frame is set up only where it is needed.
+#[inline(never)]
 pub fn judged(file: &[u8]) -> Result<(), u32> {
     let mut certificate = Certificate::EMPTY;
     certificate.read(file)?;

@@ -1,6 +1,6 @@
 //! Numbers 2 to 8, block by block, and what the blocks say.
 
-use crate::alphabet::{value_of, Alphabet, AtomBlocks, IN_GOOD, IN_OTHERS, IN_SECRET, NEVER};
+use crate::alphabet::{value_of, Alphabet, AtomBlocks, IN_PATTERN, IN_RULE, IN_SECRET, NEVER};
 use crate::block::{self, Block};
 use crate::fault;
 use crate::numbers::{kind, ATOM_BLOCKS, BLOCK, ENTRIES, PLACES, SLOTS};
@@ -153,7 +153,7 @@ fn room(entries: &[u32; 2 * PLACES], first: usize) -> &[u32; PLACES] {
 fn place_of(kind: u8) -> u32 {
     match kind {
         kind::SECRET => IN_SECRET,
-        kind::GOOD => IN_GOOD,
-        _ => IN_OTHERS,
+        kind::GOOD | kind::BAD => IN_PATTERN,
+        _ => IN_RULE,
     }
 }

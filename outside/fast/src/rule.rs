@@ -5,17 +5,19 @@
 use crate::family::Family;
 use crate::numbers::{kind, SLOTS};
 use crate::read::Certificate;
-use crate::term::{variable_bit, Bits, Term};
+use crate::term::{variable_bit, Bits, Occurrences, Term};
 use crate::unify::{have_solution, Room};
 use crate::walk::{instance, instance_without_variables, same_term};
-use crate::walk::{side_by_side, Meetings, Parts, Shared};
+use crate::walk::{side_by_side, Meetings, Parts, Shared, Watched};
 
 pub struct Judge<'a> {
     terms: &'a [Term; SLOTS],
     /// Secrets that are no atoms.
     secrets: &'a Family,
     goods: Family,
+    /// Bad patterns without marks.
     bads: Family,
+    marked_bads: Family,
     work: Work,
 }
 
@@ -29,11 +31,13 @@ struct Work {
 impl<'a> Judge<'a> {
     pub fn new(certificate: &'a Certificate, secrets: &'a Family) -> Judge<'a> {
         let terms = &certificate.terms;
+        let bads = certificate.blocks_of(kind::BAD);
         Judge {
             terms,
             secrets,
             goods: Family::of(terms, certificate.blocks_of(kind::GOOD)),
-            bads: Family::of(terms, certificate.blocks_of(kind::BAD)),
+            bads: Family::only(terms, bads.clone(), |bad| !bad.has_mark()),
+            marked_bads: Family::only(terms, bads, Term::has_mark),
             work: Work {
                 parts: Parts::NONE,
                 meetings: Meetings::NONE,
@@ -102,13 +106,17 @@ impl<'a> Judge<'a> {
             encryptions &= encryptions - 1;
             let below = premise.below(i);
             if places & below != 0 && self.closes(premise, i) {
-                places &= !below;
-                encryptions &= !below;
+                let exposed = marked(self.terms, &self.marked_bads, premise, i);
+                places &= !below | exposed;
+                if exposed == 0 {
+                    encryptions &= !below;
+                }
             }
         }
         places
     }
 
+    /// All but what a marked bad pattern exposes.
     fn closes(&mut self, premise: &Term, i: usize) -> bool {
         let Judge {
             terms,
@@ -133,28 +141,32 @@ impl<'a> Judge<'a> {
             if places & conclusion.below(i) == 0 {
                 continue;
             }
-            let marked = self.marked_by_goods(conclusion, i);
+            let covered = places & marked(self.terms, &self.goods, conclusion, i);
             let Judge {
-                terms, bads, work, ..
+                terms,
+                bads,
+                marked_bads,
+                work,
+                ..
             } = self;
-            if places & marked != 0 && !work.shares(terms, bads, conclusion, i) {
-                places &= !marked;
+            if covered != 0 && !work.shares(terms, bads, conclusion, i) {
+                places &= !work.not_exposed(terms, marked_bads, conclusion, i, covered);
             }
         }
         places
     }
+}
 
-    /// The places at or below a mark of a good pattern that matches.
-    fn marked_by_goods(&self, conclusion: &Term, i: usize) -> u64 {
-        let mut all = 0;
-        self.goods.any(conclusion.symbol(i), |member| {
-            let pattern = &self.terms[self.goods.slot(member)];
-            let marked = instance(pattern, self.goods.watched(member), conclusion, i)?;
-            all |= marked;
-            Err(usize::MAX)
-        });
-        all
-    }
+/// The places at or below a mark of a pattern that the subterm at `i` is, with
+/// its variables replaced.
+fn marked(terms: &[Term; SLOTS], family: &Family, term: &Term, i: usize) -> u64 {
+    let mut all = 0;
+    family.any(term.symbol(i), |member| {
+        let pattern = &terms[family.slot(member)];
+        all |= instance(pattern, family.watched(member), term, i)?;
+        Err(usize::MAX)
+    });
+    all
 }
 
 impl Work {
@@ -163,18 +175,61 @@ impl Work {
         let mut known = None;
         family.any(term.symbol(i), |member| {
             let pattern = &terms[family.slot(member)];
+            self.parts.find(term, i, pattern)?;
+            self.share(term, i, &mut known, pattern, family.watched(member))
+        })
+    }
+
+    /// Of these places below `i`, those that no member which shares an instance
+    /// with the subterm at `i` has a mark at, above or below.
+    #[inline(never)]
+    fn not_exposed(
+        &mut self,
+        terms: &[Term; SLOTS],
+        family: &Family,
+        term: &Term,
+        i: usize,
+        mut places: u64,
+    ) -> u64 {
+        let (mut known, mut near) = (None, None);
+        family.any(term.symbol(i), |member| {
+            let pattern = &terms[family.slot(member)];
             let watched = family.watched(member);
             self.parts.find(term, i, pattern)?;
-            if watched.repeated == 0 && !self.parts.term_is_replaced(term, pattern) {
-                return Ok(());
+            let near = near.get_or_insert_with(|| term.on_one_way(term.below(i), places));
+            let marks = self.parts.beside_marks(watched.marked) & *near;
+            if marks != 0 {
+                self.share(term, i, &mut known, pattern, watched)?;
+                places &= !term.on_one_way(places, marks);
             }
-            let occurrences = known.get_or_insert_with(|| term.occurrences(i));
-            match self.parts.share(term, occurrences, pattern, watched) {
-                Shared::Some => Ok(()),
-                Shared::Never(last) => Err(last),
-                Shared::Open => self.shares_by_classes(term, i, pattern),
+            match places {
+                0 => Ok(()),
+                _ => Err(usize::MAX),
             }
-        })
+        });
+        places
+    }
+
+    /// With the parts found: an instance is shared, or the last entry of the
+    /// pattern that was needed to see that none is.
+    #[inline(always)]
+    fn share(
+        &mut self,
+        term: &Term,
+        i: usize,
+        known: &mut Option<Occurrences>,
+        pattern: &Term,
+        watched: Watched,
+    ) -> Result<(), usize> {
+        if watched.repeated == 0 && !self.parts.term_is_replaced(term, pattern) {
+            return Ok(());
+        }
+        let occurrences = known.get_or_insert_with(|| term.occurrences(i));
+        match self.parts.share(term, occurrences, pattern, watched) {
+            Shared::Some => Ok(()),
+            Shared::Never(last) => Err(last),
+            Shared::Open => self.shares_by_classes(term, i, pattern),
+        }
     }
 
     fn shares_by_classes(&mut self, term: &Term, i: usize, pattern: &Term) -> Result<(), usize> {

@@ -175,6 +175,19 @@ impl Term {
             && (self.size(one) == 1 || self.subterm(one) == self.subterm(other))
     }
 
+    /// A pattern with a marked variable.
+    pub fn has_mark(&self) -> bool {
+        Bits(self.variables).any(|i| is_marked(self.symbol(i)))
+    }
+
+    /// Of these places, those at, above or below one of the entries.
+    pub fn on_one_way(&self, places: u64, entries: u64) -> u64 {
+        let below = Bits(entries).fold(0, |below, i| below | span(i, self.end(i)));
+        Bits(places & !below)
+            .filter(|i| entries & span(*i, self.end(*i)) != 0)
+            .fold(places & below, |found, i| found | 1 << i)
+    }
+
     /// Where the variables of the subterm at `i` stand.
     pub fn occurrences(&self, i: usize) -> Occurrences {
         let mut occurrences = Occurrences {

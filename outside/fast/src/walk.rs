@@ -174,6 +174,21 @@ impl Parts {
         })
     }
 
+    /// With the parts found: the term's entries at these marks of the pattern,
+    /// or the variable above a mark.
+    #[inline(always)]
+    pub fn beside_marks(&self, marked: u64) -> u64 {
+        let (mut beside, mut reached, mut last) = (0, 0, 0);
+        for (i, j, end) in &self.list[..self.count] {
+            let (i, j, end) = (*i as usize, *j as usize, *end as usize);
+            let is_below = marked & span(reached, j) != 0;
+            beside |= (is_below as u64) << last | (marked & span(j, end)) >> j << i;
+            (reached, last) = (end, i + end - 1 - j);
+        }
+        let is_below = marked >> reached != 0;
+        beside | (is_below as u64) << last
+    }
+
     /// With the parts found: some instance is shared; none is, with the last
     /// entry of the pattern that was needed to see it; or it took too many steps.
     pub fn share(

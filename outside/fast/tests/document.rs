@@ -1,4 +1,5 @@
-//! The document's certificates to try, its lengths, and two atom blocks.
+//! The document's certificates to try, its lengths, marks in bad patterns, and two
+//! atom blocks.
 
 use fast::check;
 use text::document::{joined_atoms, ATOMS, GOOD, SECRETS};
@@ -59,6 +60,51 @@ fn case_l() {
     assert_eq!(answer(&l), 0);
     let shared = format!("{SECRETS}good {{(?y, (T, ?z))}}KA\n{rule}");
     assert_eq!(answer(&shared), refused(12, 4, 4));
+}
+
+/// With these bad patterns after the usual lines.
+fn with_bads(bads: &[&str], rule: &str) -> u32 {
+    let lines: String = bads.iter().map(|bad| format!("bad {bad}\n")).collect();
+    usual(&format!("{lines}rule {rule}"))
+}
+
+#[test]
+fn marks_of_bad_patterns_for_sure_hats() {
+    let sent = "-> {(I, (N, T))}KA";
+    let refused_at_n = refused(12, 5, 4);
+    assert_eq!(with_bads(&["{(I, (?x, ?y))}KA"], sent), refused_at_n);
+    assert_eq!(with_bads(&["{(I, (?x, *y))}KA"], sent), 0);
+    assert_eq!(with_bads(&["{(I, (*x, ?y))}KA"], sent), refused_at_n);
+    assert_eq!(with_bads(&["{(I, *m)}KA"], sent), refused_at_n);
+    for bad in ["{(I, *m)}KA", "{(I, (?x, *y))}KA", "{((*x, ?y), I)}KA"] {
+        let below = with_bads(&[bad], "{(T, ?x)}KA -> {?x}KA");
+        assert_eq!(below, refused(12, 5, 5), "{bad}");
+    }
+    let [one, other] = ["{(I, (?x, *y))}KA", "{(T, (*x, ?y))}KA"];
+    assert_eq!(with_bads(&[one, other], sent), 0);
+    assert_eq!(with_bads(&[other, one], sent), 0);
+    let twice = "-> {(I, (N, N))}KA";
+    assert_eq!(with_bads(&[one], twice), refused(12, 5, 5));
+}
+
+#[test]
+fn marks_of_bad_patterns_for_open_places() {
+    let shown = "{(I, (?x, ?y))}KA -> {?x}KI";
+    for bad in ["{(I, *m)}KA", "{(I, (*x, ?y))}KA", "{(I, (?x, ?y))}KA"] {
+        assert_eq!(with_bads(&[bad], shown), 0, "{bad}");
+    }
+    let [one, other] = ["{(I, (?x, *y))}KA", "{(T, (*x, ?y))}KA"];
+    assert_eq!(with_bads(&[one], shown), refused(12, 5, 7));
+    assert_eq!(with_bads(&[one, other], shown), refused(12, 6, 7));
+    assert_eq!(with_bads(&[other, one], shown), refused(12, 6, 7));
+    let pair = |bad: &str| {
+        let rule = "rule {(I, (N, T))}KA -> N";
+        answer(&format!("{SECRETS}secret (N, T)\n{GOOD}bad {bad}\n{rule}"))
+    };
+    assert_eq!(pair("{(I, *m)}KA"), 0);
+    assert_eq!(pair("{(I, (?x, *m))}KA"), refused(12, 6, 6));
+    assert_eq!(usual("bad *m\nrule -> T"), refused(8, 4, 0));
+    assert_eq!(usual("rule *m -> T"), refused(7, 4, 0));
 }
 
 #[test]

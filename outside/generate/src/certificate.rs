@@ -8,6 +8,8 @@ use literal::numbers::{ENTRIES, MOST_BLOCKS, MOST_ENTRIES, VARIABLES};
 use literal::read::Atom;
 use literal::{matches, Term};
 
+mod exceptions;
+
 /// A certificate of the generator, not yet bytes.
 pub fn sketch(random: &mut Random) -> Sketch {
     let mut maker = Maker::new(random);
@@ -232,6 +234,9 @@ impl<'r> Maker<'r> {
                 self.sketch.bads.push(bad);
             }
         }
+        if self.random.chance(35) {
+            self.mark_bads();
+        }
     }
 
     fn bad_pattern(&mut self) -> Term {
@@ -278,9 +283,7 @@ impl<'r> Maker<'r> {
 
     fn make_rule(&mut self) {
         loop {
-            let mut premise = self.next_premise();
-            let open = self.seemingly_open(premise.as_ref());
-            let mut conclusion = self.next_conclusion(&open);
+            let (mut premise, mut conclusion) = self.next_rule();
             if self.random.chance(6) {
                 conclusion = self.mutated(&conclusion);
             }
@@ -299,6 +302,16 @@ impl<'r> Maker<'r> {
                 return;
             }
         }
+    }
+
+    fn next_rule(&mut self) -> (Option<Term>, Term) {
+        if self.wants_exception() {
+            return self.exception_rule();
+        }
+        let premise = self.next_premise();
+        let open = self.seemingly_open(premise.as_ref());
+        let conclusion = self.next_conclusion(&open);
+        (premise, conclusion)
     }
 
     /// A premise or none; at times that of the rule before, with its variables.

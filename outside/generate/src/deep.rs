@@ -95,7 +95,11 @@ fn add_pair(random: &mut Random, sketch: &mut Sketch) {
         sketch.goods.push(pattern.clone());
     }
     if random.chance(50) {
-        sketch.bads.push(without_marks(&pattern));
+        let bad = match random.chance(50) {
+            true => pattern.clone(),
+            false => without_marks(&pattern),
+        };
+        sketch.bads.push(bad);
     }
     for _ in 0..random.between(1, 2) {
         let rule = rule(random, &term, &without_marks(&pattern), &sketch.secrets);

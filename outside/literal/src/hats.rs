@@ -18,18 +18,59 @@ pub fn shares_with_some(term: &Term, list: &[Listed]) -> bool {
 
 /// Whether the term is one of the listed patterns with its variables replaced
 /// by terms.
-pub fn matches_some(term: &Term, list: &[Listed]) -> bool {
+#[cfg(test)]
+fn matches_some(term: &Term, list: &[Listed]) -> bool {
     list.iter().any(|listed| matches(&listed.term, term))
 }
 
+/// What a bad pattern that meets a subterm takes from its hat: all of it, or
+/// what stands at the pattern's marks.
+#[derive(Clone, Debug)]
+pub struct Exception {
+    /// Where the marks then stand; none if the pattern has none.
+    pub marks: Vec<Path>,
+}
+
+impl Exception {
+    /// Of the pattern with its root at `path`.
+    pub(crate) fn of(path: &Path, bad: &Listed) -> Exception {
+        Exception {
+            marks: marks_below(path, &bad.term),
+        }
+    }
+
+    /// No mark, or one at or above the place.
+    pub fn exposes(&self, place: &Place) -> bool {
+        #[cfg(test)]
+        if let Some(answer) = slip::exposes_otherwise(self, place) {
+            return answer;
+        }
+        self.marks.is_empty() || has_mark_on(&self.marks, &place.path)
+    }
+
+    /// No mark, or one at, above or below the place.
+    pub fn may_expose(&self, place: &Place) -> bool {
+        #[cfg(test)]
+        if let Some(answer) = slip::may_expose_otherwise(self, place) {
+            return answer;
+        }
+        let below = |mark: &Path| at_or_above(&place.path, mark);
+        self.marks.is_empty()
+            || has_mark_on(&self.marks, &place.path)
+            || self.marks.iter().any(below)
+    }
+}
+
 /// A subterm of a conclusion that is a good pattern with its variables
-/// replaced by terms, and that shares an instance with no bad pattern.
+/// replaced by terms.
 #[derive(Clone, Debug)]
 pub struct SureHat {
     /// Where the subterm stands in the conclusion.
     pub path: Path,
     /// Where that good pattern's marked variables then stand.
     pub marks: Vec<Path>,
+    /// By the bad patterns that share an instance with the subterm.
+    pub exceptions: Vec<Exception>,
 }
 
 /// The sure hats of a conclusion, one for each subterm and good pattern.
@@ -37,13 +78,14 @@ pub fn sure_hats(certificate: &Certificate, conclusion: &Term) -> Vec<SureHat> {
     let mut hats = Vec::new();
     for place in places(conclusion) {
         for good in &certificate.goods {
-            if matches(&good.term, place.subterm) && !is_cancelled(certificate, place.subterm) {
+            if matches(&good.term, place.subterm) {
                 hats.push(SureHat {
                     path: place.path.clone(),
                     marks: marks_below(&place.path, &good.term),
+                    exceptions: exceptions_by_sharing(certificate, &place),
                 });
                 #[cfg(test)]
-                slip::give_all_marks(certificate, hats.last_mut());
+                slip::give_more_marks(certificate, hats.last_mut());
             }
         }
     }
@@ -56,26 +98,38 @@ pub(crate) fn marks_below(path: &Path, pattern: &Term) -> Vec<Path> {
     marks.iter().map(|mark| joined(path, mark)).collect()
 }
 
-/// Whether a bad pattern takes the sure hat away.
-fn is_cancelled(certificate: &Certificate, subterm: &Term) -> bool {
+/// What the bad patterns take from a sure hat at this place.
+fn exceptions_by_sharing(certificate: &Certificate, place: &Place) -> Vec<Exception> {
     #[cfg(test)]
-    let certificate = &slip::bads_read(certificate);
-    #[cfg(test)]
-    if slip::is(Slip::BadAsInstanceForHat) {
-        return matches_some(subterm, &certificate.bads);
+    if let Some(other) = slip::bads::of_hat(certificate, place) {
+        return other;
     }
-    shares_with_some(subterm, &certificate.bads)
+    exceptions(&certificate.bads, place, shares)
+}
+
+/// By those of the bad patterns that meet the subterm at this place.
+fn exceptions(
+    bads: &[Listed],
+    place: &Place,
+    meets: impl Fn(&Term, &Term) -> bool,
+) -> Vec<Exception> {
+    bads.iter()
+        .filter(|bad| meets(&bad.term, place.subterm))
+        .map(|bad| Exception::of(&place.path, bad))
+        .collect()
 }
 
 /// Sure hat for a place: one strictly above the place, a mark of it at or
-/// above the place.
+/// above the place, and no bad pattern that may expose the place.
 pub fn has_sure_hat(hats: &[SureHat], place: &Place) -> bool {
-    hats.iter()
-        .any(|hat| strictly_above(&hat.path, &place.path) && has_mark_on(hat, &place.path))
+    hats.iter().any(|hat| {
+        strictly_above(&hat.path, &place.path)
+            && is_covered_by_mark(hat, &place.path)
+            && !hat.exceptions.iter().any(|bad| bad.may_expose(place))
+    })
 }
 
-/// Whether a mark of the hat stands at or above the place at `path`.
-fn has_mark_on(hat: &SureHat, path: &Path) -> bool {
+fn is_covered_by_mark(hat: &SureHat, path: &Path) -> bool {
     #[cfg(test)]
     if slip::is(Slip::MarkNotAsked) {
         return true;
@@ -88,57 +142,80 @@ fn has_mark_on(hat: &SureHat, path: &Path) -> bool {
     if slip::is(Slip::MarkAtThePlaceOnly) {
         return hat.marks.contains(path);
     }
-    hat.marks.iter().any(|mark| at_or_above(mark, path))
+    has_mark_on(&hat.marks, path)
+}
+
+/// Whether one of the marks stands at or above the place at `path`.
+fn has_mark_on(marks: &[Path], path: &Path) -> bool {
+    marks.iter().any(|mark| at_or_above(mark, path))
+}
+
+/// An encryption of a premise that shares an instance with a good pattern.
+#[derive(Clone, Debug)]
+pub struct Closing {
+    pub path: Path,
+    /// By the bad patterns that it is, their variables replaced by terms.
+    pub exceptions: Vec<Exception>,
+}
+
+impl Closing {
+    /// It stands strictly above the place, and no bad pattern exposes that.
+    pub(crate) fn closes(&self, place: &Place) -> bool {
+        strictly_above(&self.path, &place.path)
+            && !self.exceptions.iter().any(|bad| bad.exposes(place))
+    }
+}
+
+/// The encryptions of a premise that close what no bad pattern exposes.
+pub fn closings(certificate: &Certificate, premise: &Term) -> Vec<Closing> {
+    let closes = |place: &Place| place.subterm.is_encryption() && is_closing(certificate, place);
+    let places = places(premise).into_iter().filter(closes);
+    places
+        .map(|place| Closing {
+            exceptions: exceptions_by_matching(certificate, &place),
+            path: place.path,
+        })
+        .collect()
+}
+
+fn is_closing(certificate: &Certificate, place: &Place) -> bool {
+    #[cfg(test)]
+    if slip::is(Slip::GoodAsInstanceForOpen) {
+        return matches_some(place.subterm, &certificate.goods);
+    }
+    shares_with_some(place.subterm, &certificate.goods)
+}
+
+/// What the bad patterns let through at this place.
+fn exceptions_by_matching(certificate: &Certificate, place: &Place) -> Vec<Exception> {
+    #[cfg(test)]
+    if let Some(other) = slip::bads::of_open(certificate, place) {
+        return other;
+    }
+    exceptions(&certificate.bads, place, matches)
 }
 
 /// Open place of a premise: every encryption strictly above it either shares
 /// an instance with no good pattern, or is a bad pattern with its variables
-/// replaced by terms. The answer is the subterms at those places, in order.
+/// replaced by terms, without marks or with one at or above the place. The
+/// answer is the subterms at those places, in order.
 pub fn open_subterms<'a>(certificate: &Certificate, rule: &'a Rule) -> Vec<&'a Term> {
     let Some(premise) = &rule.premise else {
         return Vec::new();
     };
     let places = places(premise);
-    let closing: Vec<&Place> = places
-        .iter()
-        .filter(|place| place.subterm.is_encryption() && !lets_through(certificate, place.subterm))
-        .collect();
+    let closings = closings(certificate, premise);
     places
         .iter()
         .filter(|place| {
             #[cfg(test)]
-            if let Some(open) = slip::open_otherwise(&places, &closing, place) {
+            if let Some(open) = slip::open_otherwise(&places, &closings, place) {
                 return open;
             }
-            is_open(&closing, place)
+            !closings.iter().any(|upper| upper.closes(place))
         })
         .map(|place| place.subterm)
         .collect()
-}
-
-/// No closing encryption stands strictly above the place.
-fn is_open(closing: &[&Place], place: &Place) -> bool {
-    !closing
-        .iter()
-        .any(|upper| strictly_above(&upper.path, &place.path))
-}
-
-fn lets_through(certificate: &Certificate, encryption: &Term) -> bool {
-    #[cfg(test)]
-    let certificate = &slip::bads_read(certificate);
-    #[cfg(test)]
-    if slip::is(Slip::GoodAsInstanceForOpen) && !matches_some(encryption, &certificate.goods) {
-        return true;
-    }
-    #[cfg(test)]
-    if slip::is(Slip::BadAsSharingForOpen) && shares_with_some(encryption, &certificate.bads) {
-        return true;
-    }
-    #[cfg(test)]
-    if slip::is(Slip::BadNotReadForOpen) {
-        return !shares_with_some(encryption, &certificate.goods);
-    }
-    !shares_with_some(encryption, &certificate.goods) || matches_some(encryption, &certificate.bads)
 }
 
 /// Risky place of a conclusion: a variable, or a subterm that shares an

@@ -72,7 +72,10 @@ fn secret_not_weakly_closed(certificate: &Certificate) -> Result<(), Refusal> {
 
 /// 11: the inverse of a good pattern's root key is not a listed secret.
 fn root_key_not_kept(certificate: &Certificate) -> Result<(), Refusal> {
-    for good in &certificate.goods {
+    let patterns = certificate.goods.iter();
+    #[cfg(test)]
+    let patterns = patterns.chain(slip::bads::asked_for_their_root_key(certificate));
+    for good in patterns {
         if let Term::Encryption(_, key) = good.term {
             let inverse = certificate.atoms[key as usize].partner;
             #[cfg(test)]

@@ -317,13 +317,11 @@ fn entry_right(atoms: &[Atom], kind: u8, entry: &Entry) -> bool {
         #[cfg(test)]
         tag::ENCRYPTION if slip::is(Slip::AnyAtomAsKey) => atom.is_some(),
         #[cfg(test)]
-        tag::MARKED if slip::is(Slip::MarkAllowedInBad) => {
-            is_variable && (kind == kind::GOOD || kind == kind::BAD)
-        }
+        tag::MARKED if slip::is(Slip::MarkRefusedInBad) => is_variable && kind == kind::GOOD,
         tag::PAIR => entry.value == 0,
         tag::ENCRYPTION => atom.is_some_and(Atom::is_key),
         tag::PLAIN => is_variable && kind != kind::SECRET,
-        tag::MARKED => is_variable && kind == kind::GOOD,
+        tag::MARKED => is_variable && matches!(kind, kind::GOOD | kind::BAD),
         _ => false,
     };
     entry.second == 0 && tag_and_value_right

@@ -2,13 +2,14 @@
 //! time, to see that the generated files tell each from the right reading.
 
 use crate::block;
-use crate::hats::{marks_below, SureHat};
+use crate::hats::{marks_below, Closing, Exception, SureHat};
 use crate::numbers::{atom_kind, kind, ENTRIES, MODULUS, MOST_ATOM_BLOCKS};
 use crate::read::{check_right, read_atoms, refuse, Atom, Certificate, Rule};
-use crate::term::{joined, strictly_above, Path, Place, Term};
+use crate::term::{at_or_above, joined, strictly_above, Path, Place, Term};
 use crate::verdict::Refusal;
-use std::borrow::Cow;
 use std::cell::Cell;
+
+pub mod bads;
 
 #[derive(Clone, Copy, Debug, PartialEq, Eq)]
 pub enum Slip {
@@ -26,9 +27,29 @@ pub enum Slip {
     BadAsSharingForOpen,
     BadNotReadForOpen,
     // Lists.
-    LastBadOnly,
-    FirstBadOnly,
+    LastBadOnlyForHat,
+    LastBadOnlyForOpen,
+    FirstBadOnlyForHat,
+    FirstBadOnlyForOpen,
     FirstRuleOnly,
+    // Marks of bad patterns.
+    MarkRefusedInBad,
+    MarkedBadTakesAllForHat,
+    MarkedBadTakesAllForOpen,
+    MarkedBadTakesNothingForHat,
+    MarkedBadTakesNothingForOpen,
+    MarkOfAnotherBadForHat,
+    MarkOfAnotherBadForOpen,
+    PlainAsMarkForHat,
+    PlainAsMarkForOpen,
+    BadMarkAboveNotCountedForHat,
+    BadMarkAtThePlaceOnlyForOpen,
+    MarkBelowNotCountedForHat,
+    MarkBelowCountedForVariablesOnly,
+    MarkBelowCountedIfItIsThere,
+    MarkBelowCountedForOpen,
+    BadMarkCovers,
+    RootKeyOfBadAsked,
     // Places and rules.
     KeysAsPlaces,
     VariableAtFirstOccurrenceOnly,
@@ -49,7 +70,6 @@ pub enum Slip {
     UnusedNotRead,
     PartnerNotNamedBack,
     AnyAtomAsKey,
-    MarkAllowedInBad,
     EightBeforeSeven,
     PlaceWithinConclusion,
     TenBeforeNine,
@@ -104,42 +124,64 @@ pub fn variable_read(variable: &Term) -> Term {
     }
 }
 
-/// Only one bad block kept.
-pub fn bads_read(certificate: &Certificate) -> Cow<'_, Certificate> {
-    let kept = match certificate.bads.len() {
-        0 => return Cow::Borrowed(certificate),
-        _ if is(Slip::FirstBadOnly) => 0,
-        many if is(Slip::LastBadOnly) => many - 1,
-        _ => return Cow::Borrowed(certificate),
-    };
-    let mut fewer = certificate.clone();
-    fewer.bads = vec![certificate.bads[kept].clone()];
-    Cow::Owned(fewer)
-}
-
 /// One good pattern matches, the mark may be another's.
-pub fn give_all_marks(certificate: &Certificate, hat: Option<&mut SureHat>) {
-    if let (true, Some(hat)) = (is(Slip::MarkOfAnotherGood), hat) {
-        let goods = certificate.goods.iter();
-        hat.marks = goods
-            .flat_map(|good| marks_below(&hat.path, &good.term))
-            .collect();
+pub fn give_more_marks(certificate: &Certificate, hat: Option<&mut SureHat>) {
+    let others = match is(Slip::BadMarkCovers) {
+        true => &certificate.bads,
+        false => &certificate.goods,
+    };
+    if !is(Slip::MarkOfAnotherGood) && !is(Slip::BadMarkCovers) {
+        return;
+    }
+    if let Some(hat) = hat {
+        let more = others.iter().flat_map(|p| marks_below(&hat.path, &p.term));
+        hat.marks.extend(more.collect::<Vec<_>>());
     }
 }
 
 /// Wrong ways to call a place open.
-pub fn open_otherwise(all: &[Place], closing: &[&Place], place: &Place) -> Option<bool> {
-    let is_above = |upper: &&Place| strictly_above(&upper.path, &place.path);
+pub fn open_otherwise(all: &[Place], closings: &[Closing], place: &Place) -> Option<bool> {
     if is(Slip::EveryPlaceOpen) {
         return Some(true);
     }
     if is(Slip::OneEncryptionEnough) {
         let encryptions = all.iter().filter(|upper| upper.subterm.is_encryption());
+        let is_above = |upper: &&Place| strictly_above(&upper.path, &place.path);
         let above = encryptions.filter(is_above).count();
-        let closing_above = closing.iter().filter(|upper| is_above(upper)).count();
-        return Some(above == 0 || closing_above < above);
+        let closing = closings.iter().filter(|upper| upper.closes(place)).count();
+        return Some(above == 0 || closing < above);
     }
     None
+}
+
+/// Wrong ways to ask a bad pattern's marks about a place of a premise.
+pub fn exposes_otherwise(bad: &Exception, place: &Place) -> Option<bool> {
+    let path = &place.path;
+    if is(Slip::BadMarkAtThePlaceOnlyForOpen) {
+        return some_mark(bad, |mark| mark == path);
+    }
+    if is(Slip::MarkBelowCountedForOpen) {
+        return some_mark(bad, |m| at_or_above(m, path) || at_or_above(path, m));
+    }
+    None
+}
+
+/// Wrong ways to ask a bad pattern's marks about a place of a conclusion.
+pub fn may_expose_otherwise(bad: &Exception, place: &Place) -> Option<bool> {
+    let path = &place.path;
+    if is(Slip::BadMarkAboveNotCountedForHat) {
+        return some_mark(bad, |mark| at_or_above(path, mark));
+    }
+    let for_variables_only = is(Slip::MarkBelowCountedForVariablesOnly);
+    if is(Slip::MarkBelowNotCountedForHat) || for_variables_only && !place.subterm.is_variable() {
+        return some_mark(bad, |mark| at_or_above(mark, path));
+    }
+    None
+}
+
+/// Whether a mark is wanted; none for a bad pattern without marks.
+fn some_mark(bad: &Exception, wanted: impl Fn(&Path) -> bool) -> Option<bool> {
+    (!bad.marks.is_empty()).then(|| bad.marks.iter().any(wanted))
 }
 
 /// Places left out of the judging of a conclusion.
@@ -257,7 +299,7 @@ pub fn atom_reached(atom: Option<&Atom>, number: u16) -> Option<&Atom> {
     atom.filter(|_| kept)
 }
 
-const ALL: [Slip; 48] = [
+const ALL: [Slip; 66] = [
     Slip::BadAsInstanceForHat,
     Slip::MarkNotAsked,
     Slip::MarkStrictlyAbove,
@@ -269,9 +311,28 @@ const ALL: [Slip; 48] = [
     Slip::GoodAsInstanceForOpen,
     Slip::BadAsSharingForOpen,
     Slip::BadNotReadForOpen,
-    Slip::LastBadOnly,
-    Slip::FirstBadOnly,
+    Slip::LastBadOnlyForHat,
+    Slip::LastBadOnlyForOpen,
+    Slip::FirstBadOnlyForHat,
+    Slip::FirstBadOnlyForOpen,
     Slip::FirstRuleOnly,
+    Slip::MarkRefusedInBad,
+    Slip::MarkedBadTakesAllForHat,
+    Slip::MarkedBadTakesAllForOpen,
+    Slip::MarkedBadTakesNothingForHat,
+    Slip::MarkedBadTakesNothingForOpen,
+    Slip::MarkOfAnotherBadForHat,
+    Slip::MarkOfAnotherBadForOpen,
+    Slip::PlainAsMarkForHat,
+    Slip::PlainAsMarkForOpen,
+    Slip::BadMarkAboveNotCountedForHat,
+    Slip::BadMarkAtThePlaceOnlyForOpen,
+    Slip::MarkBelowNotCountedForHat,
+    Slip::MarkBelowCountedForVariablesOnly,
+    Slip::MarkBelowCountedIfItIsThere,
+    Slip::MarkBelowCountedForOpen,
+    Slip::BadMarkCovers,
+    Slip::RootKeyOfBadAsked,
     Slip::KeysAsPlaces,
     Slip::VariableAtFirstOccurrenceOnly,
     Slip::VariableNotRisky,
@@ -289,7 +350,6 @@ const ALL: [Slip; 48] = [
     Slip::UnusedNotRead,
     Slip::PartnerNotNamedBack,
     Slip::AnyAtomAsKey,
-    Slip::MarkAllowedInBad,
     Slip::EightBeforeSeven,
     Slip::PlaceWithinConclusion,
     Slip::TenBeforeNine,

@@ -152,7 +152,7 @@ fn add_places<'a>(subterm: &'a Term, path: Path, entry: usize, found: &mut Vec<P
     }
 }
 
-/// The places of the marked variables of a good pattern.
+/// The places of the marked variables of a pattern.
 pub fn marks(pattern: &Term) -> Vec<Path> {
     places(pattern)
         .into_iter()

@@ -136,7 +136,7 @@ fn number_7() {
     assert_eq!(with_rule(block(5, &[], &[2, 0, 1, 0])), (7, 4, 0));
     let mut blocks = case_a();
     blocks.insert(4, block(4, &encode(&enc(S, 2)), &[]));
-    assert_eq!(spot(&blocks.concat()), (7, 4, 1));
+    assert_eq!(spot(&blocks.concat()), (12, 5, 1), "a mark in a bad one");
 }
 
 #[test]

@@ -333,7 +333,7 @@ impl Printer {
             let words = match entry.first {
                 tag::ENCRYPTION if !self.is_key(entry.value) => "is no key",
                 tag::PLAIN | tag::MARKED if kind == kind::SECRET => "a variable in a secret",
-                tag::MARKED if kind != kind::GOOD => "a marked variable outside a good pattern",
+                tag::MARKED if kind == kind::RULE => "a marked variable in a rule",
                 _ => continue,
             };
             self.note(number, &format!("entry {i}: {words}"));

@@ -56,6 +56,36 @@ fn numbers_of_variables() {
     assert_eq!(digits, [(4, 1), (2, 0), (4, 0), (2, 0), (4, 7), (4, 2)]);
 }
 
+/// Marks in a bad pattern are written and printed as in a good one.
+#[test]
+fn marks_in_bad_patterns() {
+    let lines = "bad {(?x, (*x, (*y, *x)))}KA\nrule -> {N}KA";
+    let file = assemble(&format!("{ATOMS}{SECRETS}{GOOD}{lines}")).unwrap();
+    let entries = file[4 * 512 + 4..].chunks(4).map(|e| (e[0], e[2]));
+    let expected = [
+        (3, 2),
+        (2, 0),
+        (4, 0),
+        (2, 0),
+        (5, 0),
+        (2, 0),
+        (5, 1),
+        (5, 0),
+    ];
+    assert_eq!(entries.take(8).collect::<Vec<_>>(), expected);
+    let printed = print(&file);
+    assert!(printed.contains("\nbad {(?0, (*0, (*1, *0)))}k2\n"));
+    assert!(!printed.contains('#'));
+    assert_eq!(assemble(&printed), Ok(file));
+    let accepted = "accepted blocks=6 secrets=2 good=1 bad=1 rules=1";
+    assert_eq!(
+        usual("bad {(I, (?x, *y))}KA\nrule -> {(I, (N, T))}KA"),
+        accepted
+    );
+    let in_rule = print(&assemble(&format!("{ATOMS}rule -> {{*x}}KA")).unwrap());
+    assert!(in_rule.contains("# block 1: entry 1: a marked variable in a rule\n"));
+}
+
 fn error_of(text: &str) -> String {
     assemble(text).unwrap_err().to_string()
 }

@@ -14,7 +14,7 @@ const FIVE: &str = "accepted blocks=5 secrets=2 good=1 bad=0 rules=1";
 const SIX: &str = "accepted blocks=6 secrets=2 good=1 bad=1 rules=1";
 
 /// Name, what follows the atoms, line, answer of the C call.
-type Row = (&'static str, &'static [&'static str], &'static str, u32);
+pub(crate) type Row = (&'static str, &'static [&'static str], &'static str, u32);
 
 const ROWS: [Row; 13] = [
     ("a", &[SECRETS, GOOD, RULE_OF_A], FIVE, 0),
@@ -90,10 +90,7 @@ pub fn sealed() -> [([u8; 508], [u8; 4]); 2] {
 }
 
 pub fn all() -> Result<Vec<Known>, String> {
-    let rows = ROWS
-        .iter()
-        .map(|(name, rest, line, packed)| of_text(name, &rest.concat(), line, *packed));
-    let mut known = rows.collect::<Result<Vec<Known>, String>>()?;
+    let mut known = of_rows("case", &ROWS)?;
     known.extend(LENGTHS.iter().map(|(length, line, packed)| Known {
         name: format!("{length} zero bytes"),
         file: vec![0; *length],
@@ -104,10 +101,18 @@ pub fn all() -> Result<Vec<Known>, String> {
     Ok(known)
 }
 
+/// The rows as files, with this word before their names.
+pub(crate) fn of_rows(word: &str, rows: &[Row]) -> Result<Vec<Known>, String> {
+    let of = |(name, rest, line, packed): &Row| {
+        of_text(&format!("{word} {name}"), &rest.concat(), line, *packed)
+    };
+    rows.iter().map(of).collect()
+}
+
 fn of_text(name: &str, rest: &str, line: &str, packed: u32) -> Result<Known, String> {
     let file = text::assemble(&format!("{ATOMS}{rest}")).map_err(|e| format!("{name}: {e}"))?;
     Ok(Known {
-        name: format!("case {name}"),
+        name: name.to_string(),
         file,
         line: line.to_string(),
         packed,
@@ -118,7 +123,7 @@ fn of_text(name: &str, rest: &str, line: &str, packed: u32) -> Result<Known, Str
 fn full_size() -> Result<[Known; 2], String> {
     let rest = [SECRETS, GOOD, &RULE_OF_A.repeat(60)].concat();
     let line = "accepted blocks=64 secrets=2 good=1 bad=0 rules=60";
-    let full = of_text("a with 60 rules", &rest, line, 0)?;
+    let full = of_text("case a with 60 rules", &rest, line, 0)?;
     let last = full.file[63 * 512..].to_vec();
     let over = Known {
         name: "case a with 61 rules".to_string(),

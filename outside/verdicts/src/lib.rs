@@ -5,6 +5,7 @@ pub mod cases;
 pub mod compare;
 pub mod known;
 pub mod lent;
+pub mod marked_bad;
 pub mod more_atoms;
 pub mod proved;
 

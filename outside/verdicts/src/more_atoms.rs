@@ -10,7 +10,7 @@ const ACCEPTED: &str = "accepted blocks=6 secrets=2 good=1 bad=0 rules=1";
 
 /// Block, byte and its new value. A change below byte 508 is sealed again; one
 /// of the check is left wrong.
-type Change = (usize, usize, u8);
+pub(crate) type Change = (usize, usize, u8);
 
 /// Name, changes, line, answer of the C call.
 type Row = (&'static str, &'static [Change], &'static str, u32);
@@ -122,7 +122,7 @@ fn assembled(text: &str) -> Result<Vec<u8>, String> {
     text::assemble(text).map_err(|error| error.to_string())
 }
 
-fn changed(file: &[u8], changes: &[Change]) -> Vec<u8> {
+pub(crate) fn changed(file: &[u8], changes: &[Change]) -> Vec<u8> {
     let mut file = file.to_vec();
     for (number, byte, value) in changes {
         let block = &mut file[BLOCK * number..][..BLOCK];

@@ -4,7 +4,7 @@ use generate::random::Random;
 use literal::{Refusal, Verdict};
 use verdicts::compare::differences;
 use verdicts::known::{self, Known};
-use verdicts::{cases, more_atoms, proved, Checker, Spot};
+use verdicts::{cases, marked_bad, more_atoms, proved, Checker, Spot};
 
 const FILES: u64 = 300;
 
@@ -147,13 +147,27 @@ fn bytes_around_are_noticed() {
     assert_eq!(with(|c| c.line = beside), ["line"]);
 }
 
+/// The answers that are written down by hand.
+fn by_hand() -> Vec<Known> {
+    let lists = [cases::all(), more_atoms::all(), marked_bad::all()];
+    lists.into_iter().flat_map(Result::unwrap).collect()
+}
+
 #[test]
 fn answers_written_down_are_the_lines_own_numbers() {
-    let more = more_atoms::all().unwrap();
-    for known in cases::all().unwrap().into_iter().chain(more) {
+    for known in by_hand() {
         let again = Known::by_line(&known.name, known.file.clone(), &known.line).unwrap();
         assert_eq!(again.packed, known.packed, "{}", known.name);
     }
     assert!(known::spot_in("refused twelve block=1 place=0").is_none());
     assert!(known::spot_in("").is_none());
+}
+
+#[test]
+fn literal_answers_as_written_down() {
+    for known in by_hand() {
+        let line = literal::line(&literal::verdict(&known.file));
+        let expected = format!("{}\n", known.line);
+        assert_eq!(String::from_utf8_lossy(&line), expected, "{}", known.name);
+    }
 }

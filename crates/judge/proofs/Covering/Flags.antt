@@ -1,6 +1,6 @@
--- Laws of flags: what painting and raising them leaves. Assumes nothing.
+-- Laws of flags: what painting, raising, clearing and narrowing them leaves. Assumes nothing.
 use mathlib.Core.Path.{_≡_, refl, sym, _∙_}
-use mathlib.Core.Bool.{Bool, true, false}
+use mathlib.Core.Bool.{Bool, true, false, not}
 use mathlib.Core.List.{List}
 use mathlib.Core.Logic.{_⊎_, inl, inr, _↔_}
 use Prim.Native.Nat.{ℕ, _+_, _<_, _≤_}
@@ -10,8 +10,9 @@ use lib.Dec.{eqb}
 use borrow.Author.Tests.{eqb-true, eqb-false}
 use lib.ListN.{length, getD, set, length-set, replicate, length-replicate, getD-replicate, List·getD-eq-default}
 use lib.Seq.{getD-set-same, getD-set-other}
-use Rattle.terms.specs.Decisions.{Says}
-use Rattle.judge.specs.CoverEntries.{On, Bits, flagOf, putOff, Painted, Raised, Cleared, SomeOn}
+use Rattle.terms.specs.Decisions.{Says, says-same}
+use Rattle.terms.proofs.AnswerLaws.{says-eq}
+use Rattle.judge.specs.CoverEntries.{On, Bits, either, flagOf, putOff, Painted, Raised, Cleared, Narrowed, SomeOn, SomeBoth}
 
 -- Nothing is painted yet; one more flag is.
 pub painted-none : {flags : List ℕ} (low value : ℕ) → length flags ≡ 64 → Painted flags flags low low value
@@ -258,3 +259,79 @@ raised-more {flags} {P} {n} {v} w small b is says = record {
 -- No flag is on so far.
 pub none-on : {flags : List ℕ} {low high k : ℕ} → high ≤ k → ((j : ℕ) → j < k → ¬ ((low ≤ j) × On flags j)) → ¬ SomeOn flags low high
 none-on past empty w = empty (w .number) (let l = w .below in omega arith) (w .above, w .on)
+
+-- Flags from `low` on, put off one after the other where another one is not on.
+pub narrowed-none : {flags kept : List ℕ} (low : ℕ) → length flags ≡ 64 → Narrowed flags flags low low kept
+narrowed-none low long = record { long = long; bits = λ b. b; on = λ k. (λ o. (o, λ l g. absurd (omega arith)), λ w. w .0) }
+
+pub narrowed-more : {old flags kept : List ℕ} {low k v : ℕ} → Narrowed old flags low k kept → low ≤ k → k < 64
+    → v ≡ putOff (getD flags k 0) (not (eqb (getD kept k 0) 1)) → Narrowed old (set flags k v) low (k + 1) kept
+unfolding putOff
+narrowed-more {old} {flags} {kept} {low} {k} {v} n l small is = go (eqb (getD kept k 0) 1) refl
+  where
+    here : getD (set flags k v) k 0 ≡ v
+    here = getD-set-same flags k v 0 (let long = n .long in omega arith)
+
+    build : ((Bits flags) → v ≤ 1) → (v ≡ 1 ↔ (On flags k × On kept k)) → Narrowed old (set flags k v) low (k + 1) kept
+    build low-value value = record {
+      long = length-set flags k v ∙ n .long;
+      bits = λ b j. bits b j (ℕ-discrete j k);
+      on = λ j. (λ o. to j o (ℕ-discrete j k), λ w. back j w (ℕ-discrete j k));
+    }
+      where
+        bits : Bits old → (j : ℕ) → Dec (j ≡ k) → getD (set flags k v) j 0 ≤ 1
+        bits b j (yes e) = let small-value = low-value (n .bits b) in rw (e, here) small-value
+        bits b j (no m) = rw (getD-set-other flags k j v 0 m) (n .bits b j)
+
+        to : (j : ℕ) → On (set flags k v) j → Dec (j ≡ k) → On old j × (low ≤ j → j < k + 1 → On kept j)
+        to j o (yes e) = let w = value .0 (sym here ∙ rw e at o) in rw e (n .on k .0 (w .0) .0, λ a b. w .1)
+        to j o (no m) = let w = n .on j .0 (sym (getD-set-other flags k j v 0 m) ∙ o) in (w .0, λ a b. w .1 a (omega arith))
+
+        back : (j : ℕ) → On old j × (low ≤ j → j < k + 1 → On kept j) → Dec (j ≡ k) → On (set flags k v) j
+        back j w (yes e) =
+            let on : On old k = rw e at (w .0) in
+            let other : On kept k = rw e at (w .1 (omega arith) (omega arith)) in
+            rw (e, here) (value .1 (n .on k .1 (on, λ a b. other), other))
+        back j w (no m) = getD-set-other flags k j v 0 m ∙ n .on j .1 (w .0, λ a b. w .1 a (omega arith))
+
+    go : (b : Bool) → eqb (getD kept k 0) 1 ≡ b → Narrowed old (set flags k v) low (k + 1) kept
+    go true q =
+        let same : v ≡ getD flags k 0 = rw q at is in
+        build (λ b. omega (arith, b k)) (λ one. (sym same ∙ one, eqb-true (getD kept k 0) 1 q), λ w. same ∙ w .0)
+    go false q =
+        let zero : v ≡ 0 = rw q at is in
+        build (λ b. omega arith) (λ one. absurd (omega arith), λ w. absurd (eqb-false (getD kept k 0) 1 q (w .1)))
+
+pub narrowed-all : {old flags kept : List ℕ} {low k high : ℕ} → Narrowed old flags low k kept → k ≡ high → Narrowed old flags low high kept
+narrowed-all n is = rw is at n
+
+-- The first flag is on, and a test tells whether the other one is.
+pub both-told : {flag : ℕ} → flag ≡ 1 → (other : ℕ) → Says (eqb other 1) ((flag ≡ 1) × (other ≡ 1))
+both-told {flag} on other = says-same {Q = (flag ≡ 1) × (other ≡ 1)} (eqb other 1) (λ e. (on, e)) (λ w. w .1) (says-eq other 1)
+
+-- One of the first n flags is on in both, as it is found flag by flag.
+pub record BothBelow (flags others : List ℕ) (n : ℕ) : Type 0 where
+  pub number : ℕ
+  pub below : number < n
+  pub on : On flags number
+  pub other : On others number
+
+pub both-none : {flags others : List ℕ} → ¬ BothBelow flags others 0
+both-none w = let l = w .below in omega arith
+
+pub both-more : (flags others : List ℕ) (n : ℕ) (a b : Bool) {r : Bool} → Says a (BothBelow flags others n) → Says b (On flags n × On others n)
+    → r ≡ either a b → Says r (BothBelow flags others (n + 1))
+unfolding either
+both-more flags others n true b found this is = rw is (record { number = found .number; below = let l = found .below in omega arith; on = found .on; other = found .other })
+both-more flags others n false b none this is =
+    rw is (says-same {Q = BothBelow flags others (n + 1)} b (λ w. record { number = n; below = omega arith; on = w .0; other = w .1 })
+    (λ w. back w (ℕ-discrete (w .number) n)) this)
+  where
+    back : (w : BothBelow flags others (n + 1)) → Dec (w .number ≡ n) → On flags n × On others n
+    back w (yes e) = (rw e at (w .on), rw e at (w .other))
+    back w (no off) = absurd (none (record { number = w .number; below = let l = w .below in omega arith; on = w .on; other = w .other }))
+
+pub both-all : (flags others : List ℕ) {n : ℕ} → length flags ≡ 64 → 64 ≤ n → (r : Bool) → Says r (BothBelow flags others n) → Says r (SomeBoth flags others)
+both-all flags others long all r says =
+    says-same r (λ w. record { number = w .number; on = w .on; other = w .other })
+    (λ w. record { number = w .number; below = omega (arith, on-small flags long (w .number) (w .on)); on = w .on; other = w .other }) says

@@ -1,6 +1,7 @@
--- Laws of sure hats on the entries: what laying a good pattern, all of them, and those of every entry covers. Assumes nothing.
+-- Laws of sure hats on the entries: what laying the patterns of one kind covers, what the marked bad ones take away, and what
+-- is then left at every entry. Assumes nothing.
 use mathlib.Core.Path.{_≡_, refl, sym, ap, subst, _∙_}
-use mathlib.Core.List.{List}
+use mathlib.Core.List.{List, _∷_}
 use mathlib.Core.Logic.{_⊎_, inl, inr, _↔_}
 use Prim.Native.Nat.{ℕ, _+_, _*_, _-_, _<_, _≤_}
 use native.Mathlib.Omega.{arith}
@@ -8,26 +9,30 @@ use native.Mathlib.Decide.{ℕ-discrete, decLe}
 use borrow.Rule.Slice.PartAt.{part-to-end}
 use lib.ListN.{length, getD, replicate}
 use Rattle.blocks.specs.Kinds.{goodKind, badKind, ListsTerm}
-use Rattle.blocks.specs.Block.{blockAt, kindOf, firstEntries}
-use Rattle.blocks.proofs.KindLaws.{good-lists}
+use Rattle.blocks.specs.Block.{blockAt, kindOf}
+use Rattle.blocks.proofs.KindLaws.{bad-lists}
 use Rattle.terms.specs.Term.{Term, Variable, replace, encryption}
-use Rattle.terms.specs.Place.{Place}
-use Rattle.terms.specs.Instance.{Matches}
+use Rattle.terms.specs.Place.{Place, StrictlyAbove, AtOrAbove}
+use Rattle.terms.specs.Tag.{markedTag}
+use Rattle.terms.specs.Instance.{Matches, Share}
 use Rattle.terms.specs.Entry.{size, termOf, tagAt, Begins, from, entryAt, Placed}
-use Rattle.terms.proofs.EntryLaws.{reads-encrypted, termOf-reads, size-positive, fits, encryption-first, from-length, term-reads}
+use Rattle.terms.proofs.EntryLaws.{reads-encrypted, termOf-reads, size-positive, fits, encryption-first, from-length, from-start, term-reads}
+use Rattle.terms.specs.TermGraph.{SizesOf}
 use Rattle.terms.specs.OneTerm.{IsEncryption, encryption?}
 use Rattle.terms.proofs.TermGraphLaws.{tag-in}
 use Rattle.terms.proofs.PlacedLaws.{placed, within, spotted, subterm-at, strictly-above-entry}
-use Rattle.judge.specs.Certificate.{Certificate, Good}
+use Rattle.judge.specs.Certificate.{Certificate, Good, Bad}
 use Rattle.judge.specs.File.{blockCount, patternOf, certificateOf}
 use Rattle.judge.specs.Laid.{Laid}
+use Rattle.judge.specs.Hat.{Marked}
 use Rattle.judge.specs.Cover.{SureHat}
-use Rattle.judge.specs.Listed.{listedOf, AnyListed, HoldsAt, Searching, SharesListed, TermPart}
-use Rattle.judge.specs.CoverEntries.{subAt, On, Raised, Cleared, SomeOn, Flags, MarkOver, Lays, Laying, Standing, HatOver, HatBelow}
+use Rattle.judge.specs.Listed.{listedOf, AnyListed, HoldsAt, HeldAmong, Searching, SharesUnmarked, TermPart, listedRows, markSlot, SizesIn}
+use Rattle.judge.specs.CoverEntries.{subAt, On, Raised, Cleared, SomeOn, SomeBoth, Flags, MarkAround, Lays, LaysAround, MayCancelOver, Laying, LayingAround, Standing, HatOver, HatBelow}
 use Rattle.judge.proofs.Covering.Flags.{raised-none, raised-as, raised-twice, zero-off, zero-bits, cleared-none, cleared-as, cleared-twice}
-use Rattle.judge.proofs.Covering.Marks.{mark-inside, mark-place}
-use Rattle.judge.proofs.Stages.Listing.{one-found, none-found, held-at}
-use Rattle.judge.proofs.Stages.ListedLaws.{not-bad-is}
+use Rattle.judge.proofs.Covering.Around.{around-marked}
+use Rattle.judge.proofs.Covering.Marks.{mark-inside, mark-place, may-cancel-place}
+use Rattle.judge.proofs.Stages.Listing.{one-found, none-found, held-at, one-among}
+use Rattle.judge.proofs.Stages.Tables.{none-marked}
 
 -- What a search at entry h asks for.
 pub searching-at : {file e : List ℕ} {h kind : ℕ} → Standing file e h → ListsTerm kind → Searching file kind (from (4 * h) e)
@@ -66,36 +71,95 @@ module _ {file : List ℕ} {kind i : ℕ} where
       → Raised old old (λ k. HoldsAt file kind (P k) i)
   other-raised long off = raised-none long (λ k w. off (w .of-kind))
 
--- Block after block, from the last one back: a block from number n on holds one.
-pub record HeldFrom (file : List ℕ) (kind : ℕ) (P : Term Variable → Type 0) (n : ℕ) : Type 0 where
-  pub number : ℕ
-  pub low : n ≤ number
-  pub inside : number < blockCount file
-  pub holds : HoldsAt file kind P number
+-- A marked bad pattern laid around the term at entry h; one that shares no instance with it, and one without marks.
+pub exception-laying : {file e y z t : List ℕ} {h i : ℕ} → Standing file e h → TermPart file i t → SizesOf t y → SizesOf e z
+    → {last : ℕ} → ((k : ℕ) → last ≤ k → ¬ (getD t (4 * k) 0 ≡ markedTag)) → LayingAround t y last 0 e z h
+exception-laying {t = t} s part pattern-sizes sizes behind = record {
+  pattern = rw (from-start t) (part .term);
+  term = s .term;
+  pattern-inside = let room = part .term .room in omega arith;
+  inside = s .inside;
+  pattern-short = part .short;
+  short = s .short;
+  pattern-sizes = pattern-sizes;
+  behind = behind;
+  sizes = sizes;
+}
 
--- The blocks before are of lower kinds, or there are none: all are asked.
-held-listed : {file : List ℕ} {kind n : ℕ} (P : Term Variable → Type 0) → Laid file → ListsTerm kind
-    → ((i : ℕ) → i < blockCount file → kindOf (blockAt file i) ≡ kind → n ≤ i) → HeldFrom file kind P n ↔ AnyListed (certificateOf file) kind P
-held-listed {kind = kind} P laid lists from-here = (
-  λ w. one-found laid kind P lists (w .inside) (w .holds),
-  λ a. (let w = held-at laid kind P a in record { number = w .0; low = from-here (w .0) (w .1) (w .2 .of-kind); inside = w .1; holds = w .2 }),
-)
+module _ {file : List ℕ} {i : ℕ} {u : Term Variable} {h : ℕ} where
+  -- Its flags are put off if it shares an instance with the term.
+  pub exception-dropped : kindOf (blockAt file i) ≡ badKind → {t : List ℕ} → TermPart file i t → {old new around : List ℕ}
+      → Flags around (MarkAround (subAt t 0) u h) → HeldAmong file badKind (λ p. Share p u) i (i + 1) → Cleared old new (On around)
+      → Cleared old new (λ k. HoldsAt file badKind (LaysAround u h k) i)
+  unfolding patternOf
+  exception-dropped is {t} part f held r =
+      let term : subAt t 0 ≡ patternOf (blockAt file i) = ap termOf (from-start t ∙ part .part) in
+      let share = one-among (λ p. Share p u) .0 held .holds in
+      cleared-as r (λ k. (
+        λ o. record { of-kind = is; holds = (share, rw term at (f .on k .0 o)) },
+        λ w. f .on k .1 (rw term (w .holds .1)),
+      ))
+
+  -- Nothing has to be put off: it shares none, has its marks elsewhere, has no marks, or is of another kind.
+  module _ {old : List ℕ} (long : length old ≡ 64) where
+    pub exception-apart : ¬ HeldAmong file badKind (λ p. Share p u) i (i + 1) → Cleared old old (λ k. HoldsAt file badKind (LaysAround u h k) i)
+    exception-apart off =
+        cleared-none long (λ k o w. off (one-among (λ p. Share p u) .1 (record { of-kind = w .of-kind; holds = w .holds .0 })))
+
+    pub exception-beside : {t : List ℕ} → TermPart file i t → {around : List ℕ} → Flags around (MarkAround (subAt t 0) u h) → ¬ SomeBoth old around
+        → Cleared old old (λ k. HoldsAt file badKind (LaysAround u h k) i)
+    unfolding patternOf
+    exception-beside {t} part f off =
+        let term : subAt t 0 ≡ patternOf (blockAt file i) = ap termOf (from-start t ∙ part .part) in
+        cleared-none long (λ k o w. off (record { number = k; on = o; other = f .on k .1 (rw term (w .holds .1)) }))
+
+    pub exception-unmarked : {sizes : List ℕ} → SizesIn file sizes → i < blockCount file → kindOf (blockAt file i) ≡ badKind
+        → getD sizes (markSlot i) 0 ≡ 0 → Cleared old old (λ k. HoldsAt file badKind (LaysAround u h k) i)
+    exception-unmarked all inside is none =
+        cleared-none long (λ k o w. all .rows .marks i inside (bad-lists is) .marked .1 (is, around-marked (w .holds .1)) none)
+
+    pub exception-other : ¬ (kindOf (blockAt file i) ≡ badKind) → Cleared old old (λ k. HoldsAt file badKind (LaysAround u h k) i)
+    exception-other off = cleared-none long (λ k o w. off (w .of-kind))
+
+-- Block after block, from the last one back: a block from number n on holds one.
+abbrev pub HeldFrom : List ℕ → ℕ → (Term Variable → Type 0) → ℕ → Type 0
+HeldFrom file kind P n = HeldAmong file kind P n (blockCount file)
+
+module _ {file : List ℕ} {kind : ℕ} (P : Term Variable → Type 0) where
+  held-step : {n : ℕ} → 0 < n → n ≤ blockCount file → (HeldFrom file kind P n ⊎ HoldsAt file kind P (n - 1)) ↔ HeldFrom file kind P (n - 1)
+  held-step {n} some-left within = (to, λ w. back w (ℕ-discrete (w .number) (n - 1)))
+    where
+      to : HeldFrom file kind P n ⊎ HoldsAt file kind P (n - 1) → HeldFrom file kind P (n - 1)
+      to (inl w) = record { number = w .number; above = let l = w .above in omega arith; below = w .below; holds = w .holds }
+      to (inr w) = record { number = n - 1; above = omega arith; below = omega arith; holds = w }
+
+      back : (w : HeldFrom file kind P (n - 1)) → Dec (w .number ≡ n - 1) → HeldFrom file kind P n ⊎ HoldsAt file kind P (n - 1)
+      back w (yes e) = inr (subst (HoldsAt file kind P) e (w .holds))
+      back w (no off) = inl (record { number = w .number; above = let l = w .above in omega arith; below = w .below; holds = w .holds })
+
+  -- The blocks before are of lower kinds, or there are none: all are asked.
+  held-listed : {n : ℕ} → Laid file → ListsTerm kind → ((i : ℕ) → i < blockCount file → kindOf (blockAt file i) ≡ kind → n ≤ i)
+      → HeldFrom file kind P n ↔ AnyListed (certificateOf file) kind P
+  held-listed laid lists from-here = (
+    λ w. one-found laid kind P lists (w .below) (w .holds),
+    λ a. (let w = held-at laid kind P a in record { number = w .0; above = from-here (w .0) (w .1) (w .2 .of-kind); below = w .1; holds = w .2 }),
+  )
+
+  held-below : {n m : ℕ} → Laid file → ListsTerm kind → n < blockCount file → m ≡ kindOf (blockAt file n) → m < kind
+      → HeldFrom file kind P n ↔ AnyListed (certificateOf file) kind P
+  held-below {n} laid lists here of-kind lower = held-listed laid lists (λ i inside is. elim (decLe n i) [
+    | yes l ↦ l
+    | no off ↦ absurd (omega (arith, laid .ordered i n (omega arith) here))
+  ])
 
 module _ {file : List ℕ} {kind : ℕ} {P : ℕ → Term Variable → Type 0} where
+  -- Flags raised so.
   pub held-none : {n : ℕ} {old : List ℕ} → length old ≡ 64 → n ≡ blockCount file → Raised old old (λ k. HeldFrom file kind (P k) n)
-  held-none long all = raised-none long (λ k w. (let l = w .low in let g = w .inside in omega arith))
+  held-none long all = raised-none long (λ k w. (let l = w .above in let g = w .below in omega arith))
 
   pub held-more : {n : ℕ} {a b c : List ℕ} → 0 < n → n ≤ blockCount file → Raised a b (λ k. HeldFrom file kind (P k) n)
       → Raised b c (λ k. HoldsAt file kind (P k) (n - 1)) → Raised a c (λ k. HeldFrom file kind (P k) (n - 1))
-  held-more {n} some-left within r s = raised-as (raised-twice r s) (λ k. (to k, λ w. back k w (ℕ-discrete (w .number) (n - 1))))
-    where
-      to : (k : ℕ) → HeldFrom file kind (P k) n ⊎ HoldsAt file kind (P k) (n - 1) → HeldFrom file kind (P k) (n - 1)
-      to k (inl w) = record { number = w .number; low = let l = w .low in omega arith; inside = w .inside; holds = w .holds }
-      to k (inr w) = record { number = n - 1; low = omega arith; inside = omega arith; holds = w }
-
-      back : (k : ℕ) (w : HeldFrom file kind (P k) (n - 1)) → Dec (w .number ≡ n - 1) → HeldFrom file kind (P k) n ⊎ HoldsAt file kind (P k) (n - 1)
-      back k w (yes e) = inr (rw e at (w .holds))
-      back k w (no off) = inl (record { number = w .number; low = let l = w .low in omega arith; inside = w .inside; holds = w .holds })
+  held-more some-left within r s = raised-as (raised-twice r s) (λ k. held-step (P k) some-left within)
 
   pub held-all : {n : ℕ} → Laid file → ListsTerm kind → n ≡ 0 → {old new : List ℕ} → Raised old new (λ k. HeldFrom file kind (P k) n)
       → Raised old new (λ k. AnyListed (certificateOf file) kind (P k))
@@ -103,29 +167,58 @@ module _ {file : List ℕ} {kind : ℕ} {P : ℕ → Term Variable → Type 0} w
 
   pub held-lower : {n m : ℕ} → Laid file → ListsTerm kind → n < blockCount file → m ≡ kindOf (blockAt file n) → m < kind
       → {old new : List ℕ} → Raised old new (λ k. HeldFrom file kind (P k) n) → Raised old new (λ k. AnyListed (certificateOf file) kind (P k))
-  held-lower {n} laid lists here of-kind lower r = raised-as r (λ k. held-listed (P k) laid lists low)
-    where
-      low : (i : ℕ) → i < blockCount file → kindOf (blockAt file i) ≡ kind → n ≤ i
-      low i inside is = elim (decLe n i) [
-        | yes l ↦ l
-        | no off ↦ absurd (omega (arith, laid .ordered i n (omega arith) here))
-      ]
+  held-lower laid lists here of-kind lower r = raised-as r (λ k. held-below (P k) laid lists here of-kind lower)
 
--- The term at entry h as a hat: what the good patterns lay is put off, if no bad one shares an instance with it.
+  -- And put off so.
+  pub dropped-none : {n : ℕ} {old : List ℕ} → length old ≡ 64 → n ≡ blockCount file → Cleared old old (λ k. HeldFrom file kind (P k) n)
+  dropped-none long all = cleared-none long (λ k o w. (let l = w .above in let g = w .below in omega arith))
+
+  pub dropped-more : {n : ℕ} {a b c : List ℕ} → 0 < n → n ≤ blockCount file → Cleared a b (λ k. HeldFrom file kind (P k) n)
+      → Cleared b c (λ k. HoldsAt file kind (P k) (n - 1)) → Cleared a c (λ k. HeldFrom file kind (P k) (n - 1))
+  dropped-more some-left within r s = cleared-as (cleared-twice r s) (λ k. held-step (P k) some-left within)
+
+  pub dropped-all : {n : ℕ} → Laid file → ListsTerm kind → n ≡ 0 → {old new : List ℕ} → Cleared old new (λ k. HeldFrom file kind (P k) n)
+      → Cleared old new (λ k. AnyListed (certificateOf file) kind (P k))
+  dropped-all laid lists none-left r = cleared-as r (λ k. held-listed (P k) laid lists (λ i inside is. omega arith))
+
+  pub dropped-lower : {n m : ℕ} → Laid file → ListsTerm kind → n < blockCount file → m ≡ kindOf (blockAt file n) → m < kind
+      → {old new : List ℕ} → Cleared old new (λ k. HeldFrom file kind (P k) n) → Cleared old new (λ k. AnyListed (certificateOf file) kind (P k))
+  dropped-lower laid lists here of-kind lower r = cleared-as r (λ k. held-below (P k) laid lists here of-kind lower)
+
+-- The term at entry h as a hat: what the good patterns lay and no marked bad one lies around is put off, if no bad pattern
+-- without marks shares an instance with it.
 module _ {c : Certificate} {u : Term Variable} {h : ℕ} where
-  hat-is : ¬ SharesListed c badKind u → (k : ℕ) → AnyListed c goodKind (Lays u h k) ↔ HatOver c u h k
+  hat-is : ¬ SharesUnmarked c u → (k : ℕ) → (AnyListed c goodKind (Lays u h k) × ¬ AnyListed c badKind (LaysAround u h k)) ↔ HatOver c u h k
   unfolding listedOf
   hat-is fine k = (
-    λ a. record { good = a .term; listed = a .listed; match = a .holds .0; mark = a .holds .1; notBad = not-bad-is c u .1 fine },
-    λ w. record { term = w .good; listed = w .listed; holds = (w .match, w .mark) },
+    to,
+    λ w. (
+      record { term = w .good; listed = w .listed; holds = (w .match, w .mark) },
+      λ a. w .notBad (a .term) (a .listed) (a .holds .0) (inr (a .holds .1)),
+    ),
   )
+    where
+      to : AnyListed c goodKind (Lays u h k) × ¬ AnyListed c badKind (LaysAround u h k) → HatOver c u h k
+      to w = record { good = w .0 .term; listed = w .0 .listed; match = w .0 .holds .0; mark = w .0 .holds .1; notBad = not-bad }
+        where
+          not-bad : (bad : Term Variable) → Bad c bad → Share bad u → MayCancelOver bad u h k → ⊥
+          not-bad bad listed share (inl off) = fine (record { term = bad; listed = listed; holds = (λ m. off (m .1), share) })
+          not-bad bad listed share (inr m) = w .1 (record { term = bad; listed = listed; holds = (share, m) })
 
-  pub hat-taken : {old new marked : List ℕ} → Flags marked (λ k. AnyListed c goodKind (Lays u h k)) → ¬ SharesListed c badKind u → Cleared old new (On marked)
-      → Cleared old new (HatOver c u h)
-  hat-taken f fine r = cleared-as r (λ k. (λ o. hat-is fine k .0 (f .on k .0 o), λ w. f .on k .1 (hat-is fine k .1 w)))
+  pub hat-taken : {old new marked hats : List ℕ} → Flags marked (λ k. AnyListed c goodKind (Lays u h k))
+      → Cleared marked hats (λ k. AnyListed c badKind (LaysAround u h k)) → ¬ SharesUnmarked c u → Cleared old new (On hats) → Cleared old new (HatOver c u h)
+  hat-taken {marked = marked} {hats = hats} f d fine r = cleared-as r (λ k. (λ o. to k (d .kept k o), λ w. back k (hat-is fine k .1 w) (ℕ-discrete (getD hats k 0) 1)))
+    where
+      to : (k : ℕ) → On marked k × ¬ AnyListed c badKind (LaysAround u h k) → HatOver c u h k
+      to k w = hat-is fine k .0 (f .on k .0 (w .0), w .1)
 
-  pub hat-shares : {old : List ℕ} → length old ≡ 64 → SharesListed c badKind u → Cleared old old (HatOver c u h)
-  hat-shares long shares = cleared-none long (λ k o w. not-bad-is c u .0 (w .notBad) shares)
+      back : (k : ℕ) → AnyListed c goodKind (Lays u h k) × ¬ AnyListed c badKind (LaysAround u h k) → Dec (On hats k) → On hats k
+      back k w (yes on) = on
+      back k w (no off) = absurd (w .1 (d .gone k (f .on k .1 (w .0)) off))
+
+  pub hat-shares : {old : List ℕ} → length old ≡ 64 → SharesUnmarked c u → Cleared old old (HatOver c u h)
+  unfolding listedOf
+  hat-shares long shares = cleared-none long (λ k o w. w .notBad (shares .term) (shares .listed) (shares .holds .1) (inl (λ m. shares .holds .0 (refl, m))))
 
 pub marked-flags : {P : ℕ → Type 0} {new : List ℕ} → Raised (replicate 64 0) new P → Flags new P
 marked-flags {P} {new} r = record { long = r .long; bits = r .bits zero-bits; on = λ k. (λ o. to k (r .on k .0 o), λ h. r .on k .1 (inr h)) }
@@ -133,6 +226,17 @@ marked-flags {P} {new} r = record { long = r .long; bits = r .bits zero-bits; on
     to : (k : ℕ) → On (replicate 64 0) k ⊎ P k → P k
     to k (inl o) = absurd (zero-off k o)
     to k (inr h) = h
+
+-- Where no bad pattern is marked, there is no exception.
+module _ {file sizes : List ℕ} (laid : Laid file) (all : SizesIn file sizes) (off : ¬ (getD sizes listedRows 0 ≡ 1)) where
+  marked-only : (P : Term Variable → Type 0) → ((p : Term Variable) → P p → Marked p) → ¬ AnyListed (certificateOf file) badKind P
+  marked-only P marked a = none-marked laid all off (record { term = a .term; listed = a .listed; holds = marked (a .term) (a .holds) })
+
+  pub no-exceptions : {u : Term Variable} {h : ℕ} {old : List ℕ} → length old ≡ 64 → Cleared old old (λ k. AnyListed (certificateOf file) badKind (LaysAround u h k))
+  no-exceptions {u} {h} long = cleared-none long (λ k o. marked-only (LaysAround u h k) (λ p w. around-marked (w .1)))
+
+  pub none-excepted : {u : Term Variable} {h : ℕ} → Flags (replicate 64 0) (λ k. AnyListed (certificateOf file) badKind (Lays u h k))
+  none-excepted {u} {h} = marked-flags (raised-none refl (λ k. marked-only (Lays u h k) (λ p w. around-marked (inl (w .1)))))
 
 -- A good pattern is an encryption, and so is what it matches.
 good-encryption : {file : List ℕ} → Laid file → {good : Term Variable} → Good (certificateOf file) good → IsEncryption good
@@ -187,6 +291,10 @@ hats-more {c} {e} {h} r s = cleared-as (cleared-twice r s) (λ k. (to k, λ w. b
 pub hats-all : {c : Certificate} {e first new : List ℕ} {h n : ℕ} → Cleared first new (HatBelow c e h) → h ≡ n → Cleared first new (HatBelow c e n)
 hats-all f is = rw is at f
 
+-- What stands strictly above a place stands at or above it.
+above-at : {q p : Place} → StrictlyAbove q p → AtOrAbove q p
+above-at x = record { rest = x .turn ∷ x .rest; split = x .split }
+
 -- On the places this is document 01's sure hat.
 module _ {file : List ℕ} (laid : Laid file) {e : List ℕ} (b : Begins e) {k : ℕ} {p : Place} {s : Term Variable} (low : Placed (termOf e) k p s) where
   over-place : (w : HatBelow (certificateOf file) e (size (termOf e)) k) → SureHat (certificateOf file) (termOf e) p
@@ -195,16 +303,17 @@ module _ {file : List ℕ} (laid : Laid file) {e : List ℕ} (b : Begins e) {k :
       let u : subAt e (w .over) ≡ q .subterm = subterm-at (q .is) (term-reads b refl) in
       let hat : HatOver (certificateOf file) (q .subterm) (w .over) k = rw u at (w .hat) in
       let inside = mark-inside (good-encryption laid (hat .listed)) (hat .match) (hat .mark) in
+      let above = strictly-above-entry (q .is) low .1 inside in
       record {
         place = q .place;
-        above = strictly-above-entry (q .is) low .1 inside;
+        above = above;
         subterm = q .subterm;
         stands = q .is .stands;
         good = hat .good;
         listed = hat .listed;
         match = hat .match;
-        mark = mark-place (q .is) low (hat .match) .1 (hat .mark);
-        notBad = hat .notBad;
+        mark = mark-place (q .is) low .1 (hat .mark);
+        notBad = λ bad listed share over. hat .notBad bad listed share (may-cancel-place (q .is) low (above-at above) .0 over);
       }
 
   place-over : SureHat (certificateOf file) (termOf e) p → HatBelow (certificateOf file) e (size (termOf e)) k
@@ -214,7 +323,13 @@ module _ {file : List ℕ} (laid : Laid file) {e : List ℕ} (b : Begins e) {k :
       record {
         over = entryAt (h .place) (termOf e);
         before = omega (arith, within q, size-positive (h .subterm));
-        hat = rw u (record { good = h .good; listed = h .listed; match = h .match; mark = mark-place q low (h .match) .0 (h .mark); notBad = h .notBad });
+        hat = rw u (record {
+          good = h .good;
+          listed = h .listed;
+          match = h .match;
+          mark = mark-place q low .0 (h .mark);
+          notBad = λ bad listed share over. h .notBad bad listed share (may-cancel-place q low (above-at (h .above)) .1 over);
+        });
       }
 
   pub hat-place : HatBelow (certificateOf file) e (size (termOf e)) k ↔ SureHat (certificateOf file) (termOf e) p

@@ -1,6 +1,7 @@
--- Laws of marks: what a pattern laid on a term covers, by the pattern's symbol. Assumes nothing.
+-- Laws of marks: what a pattern laid on a term covers, by the pattern's symbol, and the same by places, with what a bad pattern
+-- cancels. Assumes nothing.
 use mathlib.Core.Path.{_≡_, refl, sym, ap, _∙_}
-use mathlib.Core.List.{List, [], _∷_}
+use mathlib.Core.List.{List, [], _∷_, _++_, append-assoc}
 use mathlib.Core.Logic.{_⊎_, inl, inr, _↔_}
 use mathlib.Core.Option.{some, Option·none-ne-some}
 use Prim.Native.Nat.{ℕ, _+_, _*_, _<_, _≤_}
@@ -9,7 +10,7 @@ use borrow.Rule.Slice.PartAt.{part-to-end}
 use lib.ListN.{length, drop, length-drop}
 use Rattle.terms.specs.Term.{Term, Variable, variable, atom, pair, encrypted, Sort, plain, marked, named, replace}
 use Rattle.terms.specs.Tag.{pairTag, encryptionTag, markedTag, sortTag}
-use Rattle.terms.specs.Place.{Turn, Place, left, right, inside, subtermAt}
+use Rattle.terms.specs.Place.{Turn, Place, left, right, inside, subtermAt, AtOrAbove}
 use Rattle.terms.specs.Instance.{Matches}
 use Rattle.terms.specs.Entry.{size, termOf, tagAt, valueAt, Reads, Begins, from, entryAt, Placed}
 use Rattle.terms.specs.Reading.{First, first-atom, first-pair, first-wrapped, first-variable, first}
@@ -17,10 +18,11 @@ use Rattle.terms.proofs.EntryLaws.{termOf-reads, term-reads, begins, fits, Pair
 use Rattle.terms.specs.OneTerm.{IsEncryption}
 use Rattle.terms.specs.TermGraph.{rightIn}
 use Rattle.terms.proofs.TermGraphLaws.{pair-in, wrapped-in}
-use Rattle.terms.proofs.PlaceLaws.{subtermAt-replace}
-use Rattle.terms.proofs.PlacedLaws.{placed, within, placed-below, at-or-above-entry}
-use Rattle.judge.specs.Hat.{Mark}
-use Rattle.judge.specs.CoverEntries.{subAt, Painted, Raised, MarkOver, Laying}
+use Rattle.terms.proofs.PlaceLaws.{append-cancel, subtermAt-append, on-the-way}
+use Rattle.terms.proofs.PlacedLaws.{placed, within, placed-below, one-place, at-or-above-entry}
+use Rattle.judge.specs.Hat.{Mark, Cancels, everywhere, atMark}
+use Rattle.judge.specs.Cover.{MarkBelow, MayCancel, cancels, belowPlace}
+use Rattle.judge.specs.CoverEntries.{subAt, Painted, Raised, MarkOver, MarkUnder, CancelsOver, MayCancelOver, Laying}
 use Rattle.judge.proofs.Covering.Flags.{painted-raised, raised-none, raised-as, raised-twice}
 
 -- What stands at a place is a marked variable: not at the root of another term.
@@ -111,23 +113,81 @@ module _ {h k : ℕ} where
       back (inr m) = turned right (λ p. refl) (λ p. refl) (λ p. omega arith) m
 
 -- On the entries this is document 01's mark at or above the place.
-pub mark-place : {t u s good : Term Variable} {h k : ℕ} {q p : Place} → Placed t h q u → Placed t k p s → Matches good u → Mark good q p ↔ MarkOver good u h k
-mark-place {t} {u} {s} {good} {h} {k} {q} {p} high low match = (to, back)
-  where
-    to : Mark good q p → MarkOver good u h k
-    to m =
-        let v = replace (match .by) (variable (named marked (m .number))) in
-        let under : subtermAt (m .place) u ≡ some v = rw (match .same) at (subtermAt-replace (match .by) (m .place) good (m .stands)) in
-        let b = at-or-above-entry (placed-below high (placed (m .place) u under)) low .0 (m .above) in
-        record { number = m .number; place = m .place; subterm = v; stands = m .stands; under = under; low = b .0; high = b .1 }
+module _ {t u s : Term Variable} {h k : ℕ} {q p : Place} (high : Placed t h q u) (low : Placed t k p s) where
+  pub mark-place : {pattern : Term Variable} → Mark pattern q p ↔ MarkOver pattern u h k
+  mark-place {pattern} = (to, back)
+    where
+      to : Mark pattern q p → MarkOver pattern u h k
+      to m =
+          let way = on-the-way (q ++ m .place) (m .above .rest) t (rw (m .above .split) at (low .stands)) in
+          let under : subtermAt (m .place) u ≡ some (way .subterm) = sym (subtermAt-append q (m .place) t (high .stands)) ∙ way .stands in
+          let b = at-or-above-entry (placed-below high (placed (m .place) u under)) low .0 (m .above) in
+          record { number = m .number; place = m .place; subterm = way .subterm; stands = m .stands; under = under; low = b .0; high = b .1 }
 
-    back : MarkOver good u h k → Mark good q p
-    back m = record {
-      number = m .number;
-      place = m .place;
-      stands = m .stands;
-      above = at-or-above-entry (placed-below high (placed (m .place) u (m .under))) low .1 (m .low, m .high);
-    }
+      back : MarkOver pattern u h k → Mark pattern q p
+      back m = record {
+        number = m .number;
+        place = m .place;
+        stands = m .stands;
+        above = at-or-above-entry (placed-below high (placed (m .place) u (m .under))) low .1 (m .low, m .high);
+      }
+
+  -- And a mark at or below the place, which lies at or below place q.
+  mark-below-place : {pattern : Term Variable} → AtOrAbove q p → MarkBelow pattern q p ↔ MarkUnder pattern u h k
+  mark-below-place {pattern} above = (to, back)
+    where
+      to : MarkBelow pattern q p → MarkUnder pattern u h k
+      to m =
+          let down = above .rest in
+          let further : q ++ m .place ≡ q ++ (down ++ m .below .rest) =
+          m .below .split ∙ ap (λ (x : Place). x ++ m .below .rest) (above .split) ∙ append-assoc q down (m .below .rest) in
+          let under : subtermAt down u ≡ some s = sym (subtermAt-append q down t (high .stands)) ∙ ap (λ (x : Place). subtermAt x t) (sym (above .split)) ∙ low .stands in
+          let there = placed-below high (placed down u under) in
+          record {
+            number = m .number;
+            place = down;
+            rest = m .below .rest;
+            subterm = s;
+            stands = ap (λ (x : Place). subtermAt x pattern) (sym (append-cancel q further)) ∙ m .stands;
+            under = under;
+            entry = sym (there .number) ∙ ap (λ (x : Place). entryAt x t) (sym (above .split)) ∙ low .number;
+          }
+
+      back : MarkUnder pattern u h k → MarkBelow pattern q p
+      back m =
+          let there : Placed t k (q ++ m .place) (m .subterm) = rw (m .entry) at (placed-below high (placed (m .place) u (m .under))) in
+          let same : q ++ m .place ≡ p = one-place there low in
+          record {
+            number = m .number;
+            place = m .place ++ m .rest;
+            stands = m .stands;
+            below = record { rest = m .rest; split = sym (append-assoc q (m .place) (m .rest)) ∙ ap (λ (x : Place). x ++ m .rest) same };
+          }
+
+  -- So is what a bad pattern cancels, and may cancel.
+  pub cancels-place : {bad : Term Variable} → Cancels bad q p ↔ CancelsOver bad u h k
+  cancels-place {bad} = (to, back)
+    where
+      to : Cancels bad q p → CancelsOver bad u h k
+      to (everywhere off) = inl off
+      to (atMark m) = inr (mark-place .0 m)
+
+      back : CancelsOver bad u h k → Cancels bad q p
+      back (inl off) = everywhere off
+      back (inr m) = atMark (mark-place .1 m)
+
+  pub may-cancel-place : {bad : Term Variable} → AtOrAbove q p → MayCancel bad q p ↔ MayCancelOver bad u h k
+  may-cancel-place {bad} above = (to, back)
+    where
+      to : MayCancel bad q p → MayCancelOver bad u h k
+      to (cancels (everywhere off)) = inl off
+      to (cancels (atMark m)) = inr (inl (mark-place .0 m))
+      to (belowPlace m) = inr (inr (mark-below-place above .0 m))
+
+      back : MayCancelOver bad u h k → MayCancel bad q p
+      back (inl off) = cancels (everywhere off)
+      back (inr (inl m)) = cancels (atMark (mark-place .1 m))
+      back (inr (inr m)) = belowPlace (mark-below-place above .1 m)
 
 -- What an encryption's marks cover lies strictly below it.
 pub mark-inside : {good u : Term Variable} {h k : ℕ} → IsEncryption good → Matches good u → MarkOver good u h k → (h < k) × (k < h + size u)
@@ -140,7 +200,7 @@ mark-inside {good} {u} {h} {k} is match m =
     let l = inner .low in let g = inner .high in let whole : size u ≡ 1 + size content = ap size term in
     (omega arith, omega arith)
 
-from-reads : (e : List ℕ) (n : ℕ) {l : List (Term Variable)} → Reads (drop n e) l → Reads (from n e) l
+pub from-reads : (e : List ℕ) (n : ℕ) {l : List (Term Variable)} → Reads (drop n e) l → Reads (from n e) l
 from-reads e n r = rw part-to-end r
 
 -- The steps of the walk that lays a pattern on the term at entry h.

@@ -2,17 +2,20 @@
 use mathlib.Core.Path.{_≡_, sym, subst}
 use mathlib.Core.Logic.{_↔_}
 use mathlib.Core.List.{List, Memᴰ·map}
+use mathlib.Core.Option.{some}
 use Prim.Native.Nat.{ℕ, _<_}
 use native.Mathlib.Omega.{arith}
 use Rattle.blocks.specs.Kinds.{secretKind, goodKind, ruleKind}
 use Rattle.terms.specs.Term.{Message, atom}
 use Rattle.terms.specs.Built.{Built}
+use Rattle.terms.specs.Place.{Place, subtermAt}
 use Rattle.judge.specs.declared.verdict.Counts.{Counts}
 use Rattle.judge.specs.declared.verdict.Verdict.the-variants.{Accepted}
 use Rattle.judge.specs.Answer.{packedOf}
 use Rattle.judge.specs.Certificate.{Secret}
 use Rattle.judge.specs.File.{patternOf, secretOf, ruleOf, certificateOf}
 use Rattle.judge.specs.Run.{Derives, Step, after}
+use Rattle.judge.specs.Hat.{Protected}
 use Rattle.judge.specs.Cover.{Passes}
 use Rattle.judge.specs.Conditions.{KnownAtom, WeaklyClosed, KeptKey, MeetsAll}
 use Rattle.judge.specs.Verdict.{verdictOf}
@@ -21,7 +24,7 @@ use Rattle.judge.proofs.Files.Members.{listed, block-listed}
 use Rattle.judge.proofs.Files.ForeignLaws.{no-foreign}
 use Rattle.judge.proofs.Files.Verdicts.{accepted-iff}
 use Rattle.judge.proofs.Answering.Packed.{zero-accepted}
-use Rattle.judge.proofs.Runs.Secrecy.{secrecy}
+use Rattle.judge.proofs.Runs.Secrecy.{protection, secrecy}
 
 pub accepts-meets : (file : List ℕ) → Accepts file → MeetsAll (certificateOf file)
 unfolding certificateOf Built
@@ -61,7 +64,13 @@ pub secrecy-of-accepted : (file : List ℕ) (counts : Counts) → verdictOf file
     → Derives (certificateOf file) (after (certificateOf file) steps) s → ⊥
 secrecy-of-accepted file counts e = secrecy (certificateOf file) (accepted-meets file counts e)
 
--- The same, as the loader sees it: for every file that the C call answers with 0.
+-- The hats hold in every run (02, No. 2): of every message that the intruder derives, each listed secret in it is protected.
+pub protection-of-accepted : (file : List ℕ) (counts : Counts) → verdictOf file ≡ Accepted counts
+    → (steps : List (Step (certificateOf file))) (m : Message) → Derives (certificateOf file) (after (certificateOf file) steps) m
+    → (p : Place) (s : Message) → Secret (certificateOf file) s → subtermAt p m ≡ some s → Protected (certificateOf file) m p
+protection-of-accepted file counts e = protection (certificateOf file) (accepted-meets file counts e)
+
+-- Secrecy again, as the loader sees it: for every file that the C call answers with 0.
 pub secrecy-of-zero : (file : List ℕ) → packedOf (verdictOf file) ≡ 0
     → (steps : List (Step (certificateOf file))) (s : Message) → Secret (certificateOf file) s
     → Derives (certificateOf file) (after (certificateOf file) steps) s → ⊥

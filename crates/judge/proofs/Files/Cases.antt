@@ -210,6 +210,31 @@ table =
     ∷ judged (joined (full ∷ more 0 ∷ more 0 ∷ [])) (refused 3 2 0)
     -- 252 atoms: a pair of 251 and 252
     ∷ judged (joined (full ∷ more 125 ∷ secret (pair (atom 251) (atom 252)) ∷ [])) (refused 7 2 2)
+    -- bad {(I, (x, y))}2, conclusion {(I, (N, T))}2; the same exception with a mark, {(I, (x, *s))}2, and a secret at the mark
+    ∷ judged (usual (bad (encrypted 2 (pair I (pair x y))) ∷ start (encrypted 2 (pair I (pair N T))) ∷ [])) (refused 12 5 4)
+    ∷ judged (usual (bad (encrypted 2 (pair I (pair x s))) ∷ start (encrypted 2 (pair I (pair N T))) ∷ [])) (accepted 6 2 1 1 1)
+    ∷ judged (usual (bad (encrypted 2 (pair I (pair x s))) ∷ start (encrypted 2 (pair I (pair T N))) ∷ [])) (refused 12 5 5)
+    -- bad {(I, *s)}2, {(T, x)}2 to {x}2: the mark lies below the place
+    ∷ judged (usual (bad (encrypted 2 (pair I s)) ∷ from (encrypted 2 (pair T x)) (encrypted 2 x) ∷ [])) (refused 12 5 5)
+    -- the same bad, {(I, (x, y))}2 to {x}4: the open place has the mark above it; with bad {(I, (x, *s))}2 the mark is beside it
+    ∷ judged (usual (bad (encrypted 2 (pair I s)) ∷ from (encrypted 2 (pair I (pair x y))) (encrypted 4 x) ∷ [])) (accepted 6 2 1 1 1)
+    ∷ judged (usual (bad (encrypted 2 (pair I (pair x s))) ∷ from (encrypted 2 (pair I (pair x y))) (encrypted 4 x) ∷ [])) (refused 12 5 7)
+    -- secret (N, T) too, {(I, (N, T))}2 to N: the mark lies below the place of (N, T), which is not open, so the rule is not dead
+    ∷ judged
+    (joined (atoms ∷ secret N ∷ secret K ∷ secret (pair N T) ∷ good (encrypted 2 s) ∷ bad (encrypted 2 (pair I (pair x s)))
+    ∷ from (encrypted 2 (pair I (pair N T))) N ∷ []))
+    (refused 12 6 6)
+    -- two exceptions, {(I, (x, y))}2 to {x}4: the premise is an instance of one, the other has its mark above x
+    ∷ judged
+    (usual (bad (encrypted 2 (pair I (pair x s))) ∷ bad (encrypted 2 (pair T s)) ∷ from (encrypted 2 (pair I (pair x y))) (encrypted 4 x) ∷ []))
+    (refused 12 6 7)
+    -- two exceptions, conclusion {(I, (T, N))}2: one shares an instance, the other has its mark above N; then one does both
+    ∷ judged
+    (usual (bad (encrypted 2 (pair I (pair s y))) ∷ bad (encrypted 2 (pair T s)) ∷ start (encrypted 2 (pair I (pair T N))) ∷ []))
+    (accepted 7 2 1 2 1)
+    ∷ judged
+    (usual (bad (encrypted 2 (pair I (pair x s))) ∷ bad (encrypted 2 (pair T s)) ∷ start (encrypted 2 (pair I (pair T N))) ∷ []))
+    (refused 12 6 5)
     ∷ []
 
 -- ---- the theorem
@@ -236,6 +261,7 @@ rows =
     also yes-of (dead? (certificateOf k) (ruleOf (blockAt k 4))) refl
     also no-of (share? variable? variable? (pair x x) (pair y (pair T y))) refl
     also refl also refl also refl also refl also refl also refl also refl also refl
+    also refl also refl also refl also refl also refl also refl also refl also refl also refl also refl
     also none
 
 -- "The starred ones, gathered in one table under one theorem", with those of the requests: every row of the table holds.

@@ -142,7 +142,7 @@ module _ (c : Certificate) (all : Holding (MessageAtom (c .atoms)) (IsKey (c .at
         listed = h .listed;
         match = matched (all .goods (h .good) (h .listed)) (subterm (h .place) t (h .stands) b) (h .match);
         mark = h .mark;
-        notBad = λ bad l s. h .notBad bad l (s .share);
+        notBad = λ bad l s over. h .notBad bad l (s .share) over;
       }
 
       back : ProperSureHat c t p → SureHat c t p
@@ -155,24 +155,24 @@ module _ (c : Certificate) (all : Holding (MessageAtom (c .atoms)) (IsKey (c .at
         listed = h .listed;
         match = h .match .match;
         mark = h .mark;
-        notBad = λ bad l s. h .notBad bad l (shared (all .bads bad l) (subterm (h .place) t (h .stands) b) s);
+        notBad = λ bad l s over. h .notBad bad l (shared (all .bads bad l) (subterm (h .place) t (h .stands) b) s) over;
       }
 
-  no-hat-same : {t : Term Variable} → Proper t → NoHat c t ↔ ProperNoHat c t
-  no-hat-same {t} b = (to, back)
+  no-hat-same : {t : Term Variable} → Proper t → (q p : Place) → NoHat c t q p ↔ ProperNoHat c t q p
+  no-hat-same {t} b q p = (to, back)
     where
-      to : NoHat c t → ProperNoHat c t
+      to : NoHat c t q p → ProperNoHat c t q p
       to (sharesNoGood n) = proper.sharesNoGood (λ good l s. n good l (s .share))
-      to (isBad {bad = bad} l m) = proper.isBad l (matched (all .bads bad l) b m)
+      to (isBad {bad = bad} l m over) = proper.isBad l (matched (all .bads bad l) b m) over
 
-      back : ProperNoHat c t → NoHat c t
+      back : ProperNoHat c t q p → NoHat c t q p
       back (proper.sharesNoGood n) = sharesNoGood (λ good l s. n good l (shared (all .goods good l) b s))
-      back (proper.isBad l m) = isBad l (m .match)
+      back (proper.isBad l m over) = isBad l (m .match) over
 
   open-same : {t : Term Variable} → Proper t → (p : Place) → Open c t p ↔ ProperOpen c t p
   open-same {t} b p = (
-    λ o. record { every = λ q above k u e. no-hat-same (subterm q t e b) .0 (o .every q above k u e) },
-    λ o. record { every = λ q above k u e. no-hat-same (subterm q t e b) .1 (o .every q above k u e) },
+    λ o. record { every = λ q above k u e. no-hat-same (subterm q t e b) q p .0 (o .every q above k u e) },
+    λ o. record { every = λ q above k u e. no-hat-same (subterm q t e b) q p .1 (o .every q above k u e) },
   )
 
 -- Of every rule of a file that has passed numbers 1 to 8.

@@ -22,7 +22,7 @@ pub record HatRoot (certificate : Certificate) (m : Message) : Type 0 where
   pub kept : Secret certificate (atom (inverse certificate key))
 
 module _ {certificate : Certificate} (meets : MeetsAll certificate) where
-  pub hat-root : {good : Term Variable} {m : Message} → Hat certificate good m → HatRoot certificate m
+  pub hat-root : {good : Term Variable} {m : Message} {q p : Place} → Hat certificate good m q p → HatRoot certificate m
   unfolding replace
   hat-root {good} hat =
       let root = meets .keptKeys good (hat .listed) in

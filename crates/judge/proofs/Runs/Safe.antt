@@ -8,21 +8,47 @@ use Rattle.terms.specs.Place.{Place, subtermAt, StrictlyAbove, AtOrAbove}
 use Rattle.terms.specs.Turns.{nothing-above-root}
 use Rattle.terms.proofs.PlaceLaws.{subtermAt-append, beginnings, strictly-above-under, at-or-above-under, strictly-above-from, at-or-above-from}
 use Rattle.judge.specs.Certificate.{Certificate, Secret}
-use Rattle.judge.specs.Hat.{Hat, Protected}
+use Rattle.judge.specs.Hat.{Mark, Cancels, everywhere, atMark, Hat, Protected}
 
 pub record Safe (certificate : Certificate) (m : Message) : Type 0 where
   pub safe : (p : Place) (s : Message) → Secret certificate s → subtermAt p m ≡ some s → Protected certificate m p
 
--- A hat stands strictly above a place.
+-- A hat for some place at or below p stands strictly above p.
 pub record HatAbove (certificate : Certificate) (m : Message) (p : Place) : Type 0 where
   pub place : Place
   pub above : StrictlyAbove place p
   pub message : Message
   pub stands : subtermAt place m ≡ some message
   pub good : Term Variable
-  pub hat : Hat certificate good message
+  pub rest : Place
+  pub hat : Hat certificate good message place (p ++ rest)
+
+-- Marks, and what is cancelled, seen from above and from below.
+mark-under : (o : Place) {pattern : Term Variable} {q p : Place} → Mark pattern q p → Mark pattern (o ++ q) (o ++ p)
+mark-under o m =
+    record { number = m .number; place = m .place; stands = m .stands; above = rw append-assoc (at-or-above-under o (m .above)) }
+
+mark-from : (o : Place) {pattern : Term Variable} {q p : Place} → Mark pattern (o ++ q) (o ++ p) → Mark pattern q p
+mark-from o m =
+    record { number = m .number; place = m .place; stands = m .stands; above = at-or-above-from o (rw append-assoc at (m .above)) }
+
+cancels-under : (o : Place) {bad : Term Variable} {q p : Place} → Cancels bad q p → Cancels bad (o ++ q) (o ++ p)
+cancels-under o (everywhere off) = everywhere off
+cancels-under o (atMark m) = atMark (mark-under o m)
+
+cancels-from : (o : Place) {bad : Term Variable} {q p : Place} → Cancels bad (o ++ q) (o ++ p) → Cancels bad q p
+cancels-from o (everywhere off) = everywhere off
+cancels-from o (atMark m) = atMark (mark-from o m)
 
 module _ {certificate : Certificate} where
+  hat-under : (o : Place) {good : Term Variable} {m : Message} {q p : Place} → Hat certificate good m q p → Hat certificate good m (o ++ q) (o ++ p)
+  hat-under o h =
+      record { listed = h .listed; match = h .match; notBad = λ bad listed match over. h .notBad bad listed match (cancels-from o over) }
+
+  hat-from : (o : Place) {good : Term Variable} {m : Message} {q p : Place} → Hat certificate good m (o ++ q) (o ++ p) → Hat certificate good m q p
+  hat-from o h =
+      record { listed = h .listed; match = h .match; notBad = λ bad listed match over. h .notBad bad listed match (cancels-under o over) }
+
   -- A safe message is no secret itself: nothing stands above its root.
   pub safe-no-secret : {m : Message} → Safe certificate m → Secret certificate m → ⊥
   unfolding subtermAt
@@ -37,13 +63,8 @@ module _ {certificate : Certificate} where
     message = x .message;
     stands = subtermAt-append q (x .place) n stands ∙ x .stands;
     good = x .good;
-    hat = x .hat;
-    mark = record {
-      number = x .mark .number;
-      place = x .mark .place;
-      stands = x .mark .stands;
-      above = rw append-assoc (at-or-above-under q (x .mark .above));
-    };
+    hat = hat-under q (x .hat);
+    mark = mark-under q (x .mark);
   }
 
   -- What is protected in the whole is protected in a part that has no hat above it.
@@ -59,6 +80,7 @@ module _ {certificate : Certificate} where
         message = x .message;
         stands = x .stands;
         good = x .good;
+        rest = p;
         hat = x .hat;
       }))
       go (inr w) = record {
@@ -67,13 +89,8 @@ module _ {certificate : Certificate} where
         message = x .message;
         stands = sym (subtermAt-append q (w .rest) n stands) ∙ (rw (w .split) at (x .stands));
         good = x .good;
-        hat = x .hat;
-        mark = record {
-          number = x .mark .number;
-          place = x .mark .place;
-          stands = x .mark .stands;
-          above = at-or-above-from q (rw (w .split, append-assoc) at (x .mark .above));
-        };
+        hat = hat-from q (rw (w .split) at (x .hat));
+        mark = mark-from q (rw (w .split) at (x .mark));
       }
 
   -- So a part of a safe message is safe, if no hat stands above it.

@@ -50,7 +50,14 @@ module _ {certificate : Certificate} (meets : MeetsAll certificate) where
   safe-after [] base = base
   safe-after (step ∷ steps) base = safe-after steps (safe-step step base)
 
--- For every certificate that meets the conditions and every list of steps, the intruder derives no listed secret.
+-- For every certificate that meets the conditions and every list of steps, every listed secret in what the intruder derives
+-- is protected.
+pub protection : (certificate : Certificate) → MeetsAll certificate → (steps : List (Step certificate)) (m : Message) →
+    Derives certificate (after certificate steps) m → (p : Place) (s : Message) → Secret certificate s →
+    subtermAt p m ≡ some s → Protected certificate m p
+protection certificate meets steps m derived = safe-derived meets (safe-after meets steps (safe-start meets)) derived .safe
+
+-- And the intruder derives none.
 pub secrecy : (certificate : Certificate) → MeetsAll certificate → (steps : List (Step certificate)) (s : Message) →
     Secret certificate s → Derives certificate (after certificate steps) s → ⊥
 secrecy certificate meets steps s secret derived =

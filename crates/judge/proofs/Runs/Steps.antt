@@ -1,18 +1,19 @@
 -- A step whose premise is safe adds a safe message.
 use mathlib.Core.Path.{_≡_, refl, ap, _∙_}
 use mathlib.Core.List.{[], _∷_, _++_}
+use mathlib.Core.Logic.{_⊎_, inl, inr}
 use mathlib.Core.Option.{some}
 use Prim.Native.Nat.{ℕ}
 use native.Mathlib.Omega.{arith}
 use Rattle.terms.specs.Term.{Term, Message, Variable, replace, instance, encryption}
-use Rattle.terms.specs.Place.{Place, subtermAt}
+use Rattle.terms.specs.Place.{Place, subtermAt, StrictlyAbove, AtOrAbove}
 use Rattle.terms.specs.Instance.{Matches, Share}
 use Rattle.terms.proofs.InstanceLaws.{replace-message, replace-asTerm, matches-replace}
-use Rattle.terms.proofs.PlaceLaws.{subtermAt-replace, strictly-above-below, at-or-above-below, OnTheWay, on-the-way, Composite, composite, isPair, isWrapped}
+use Rattle.terms.proofs.PlaceLaws.{subtermAt-replace, beginnings, strictly-above-below, at-or-above-below, OnTheWay, on-the-way, Composite, composite, isPair, isWrapped}
 use Rattle.terms.proofs.PlaceLaws.{Edge, exact, below, Origin, origin}
 use Rattle.judge.specs.Certificate.{Rule, Certificate, Secret}
-use Rattle.judge.specs.Hat.{Hat, Protected}
-use Rattle.judge.specs.Cover.{SureHat, NoHat, sharesNoGood, isBad, Open, AtOpenPlace, Risky, isVariable}
+use Rattle.judge.specs.Hat.{Cancels, everywhere, atMark, Hat, Protected}
+use Rattle.judge.specs.Cover.{MayCancel, cancels, belowPlace, SureHat, NoHat, sharesNoGood, isBad, Open, AtOpenPlace, Risky, isVariable}
 use Rattle.judge.specs.Cover.{sharesSecret, Covered, sureHat, inPremise, Passes, dead, covered}
 use Rattle.judge.specs.Conditions.{MeetsAll}
 use Rattle.judge.proofs.Runs.Safe.{Safe, HatAbove, safe-no-secret, protected-under, safe-part}
@@ -23,10 +24,29 @@ module _ {certificate : Certificate} (meets : MeetsAll certificate) (by : Variab
   shared : {pattern t : Term Variable} → Matches pattern (instance by t) → Share pattern t
   shared {t} match = record { message = instance by t; left = match; right = record { by = by; same = refl } }
 
-  -- What may stand above an open place becomes no hat.
-  no-hat : {t good : Term Variable} → NoHat certificate t → Hat certificate good (instance by t) → ⊥
-  no-hat {good} (sharesNoGood noGood) hat = noGood good (hat .listed) (shared (hat .match))
-  no-hat (isBad {bad = bad} listed match) hat = hat .notBad bad listed (matches-replace by match)
+  -- What is cancelled for a place is cancelled below it; and what is cancelled below it may be cancelled for the place.
+  cancels-below : (r : Place) {bad : Term Variable} {q p : Place} → Cancels bad q p → Cancels bad q (p ++ r)
+  cancels-below r (everywhere off) = everywhere off
+  cancels-below r (atMark m) =
+      atMark (record { number = m .number; place = m .place; stands = m .stands; above = at-or-above-below r (m .above) })
+
+  cancelled-below : (r : Place) {bad : Term Variable} {q p : Place} → Cancels bad q (p ++ r) → MayCancel bad q p
+  cancelled-below r (everywhere off) = cancels (everywhere off)
+  cancelled-below r {bad} {q} {p} (atMark m) = go (beginnings p (q ++ m .place) r (m .above .rest) (m .above .split))
+    where
+      go : StrictlyAbove (q ++ m .place) p ⊎ AtOrAbove p (q ++ m .place) → MayCancel bad q p
+      go (inl above) = cancels (atMark (record {
+        number = m .number;
+        place = m .place;
+        stands = m .stands;
+        above = record { rest = above .turn ∷ above .rest; split = above .split };
+      }))
+      go (inr under) = belowPlace (record { number = m .number; place = m .place; stands = m .stands; below = under })
+
+  -- What may stand above an open place becomes no hat, for the place and all below it.
+  no-hat : {t good : Term Variable} {q p : Place} (r : Place) → NoHat certificate t q p → Hat certificate good (instance by t) q (p ++ r) → ⊥
+  no-hat {good = good} r (sharesNoGood noGood) hat = noGood good (hat .listed) (shared (hat .match))
+  no-hat r (isBad {bad = bad} listed match over) hat = hat .notBad bad listed (matches-replace by match) (cancels-below r over)
 
   -- So no hat stands strictly above an open place of an instance.
   open-no-hat : {premise t : Term Variable} {p : Place} → Open certificate premise p → subtermAt p premise ≡ some t →
@@ -49,7 +69,7 @@ module _ {certificate : Certificate} (meets : MeetsAll certificate) (by : Variab
           let f = root .same in let g = same in let h = ap (instance by) e in
           let z : _≡_ {A = ℕ} 0 1 = cc in omega arith
       go (isWrapped {w = encryption} {k = k} {u = u} e) =
-          no-hat (isOpen .every (x .place) (x .above) k u (way .stands ∙ ap some e)) (rw (same, e) at (x .hat))
+          no-hat (x .rest) (isOpen .every (x .place) (x .above) k u (way .stands ∙ ap some e)) (rw (same, e) at (x .hat))
 
   -- What stands at an open place of a safe premise is safe itself.
   open-safe : {rule : Rule} {t : Term Variable} (x : AtOpenPlace certificate rule t) →
@@ -69,7 +89,7 @@ module _ {certificate : Certificate} (meets : MeetsAll certificate) (by : Variab
     hat = record {
       listed = x .listed;
       match = matches-replace by (x .match);
-      notBad = λ bad listed match. x .notBad bad listed (shared match);
+      notBad = λ bad listed match over. x .notBad bad listed (shared match) (cancelled-below r over);
     };
     mark = record {
       number = x .mark .number;

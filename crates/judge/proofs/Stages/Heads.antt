@@ -40,9 +40,9 @@ record Sublists (c d : Certificate) : Type 0 where
   bad : (t : Term Variable) → Bad c t → Bad d t
 
 module _ {c d : Certificate} (out : Sublists c d) (back : Sublists d c) where
-  no-hat : {t : Term Variable} → NoHat c t → NoHat d t
+  no-hat : {t : Term Variable} {q p : Place} → NoHat c t q p → NoHat d t q p
   no-hat (sharesNoGood none) = sharesNoGood (λ g l. none g (back .good g l))
-  no-hat (isBad {bad} l m) = isBad (out .bad bad l) m
+  no-hat (isBad {bad} l m over) = isBad (out .bad bad l) m over
 
   at-open : {rule : Rule} {t : Term Variable} → AtOpenPlace c rule t → AtOpenPlace d rule t
   at-open o = record {

@@ -1,20 +1,14 @@
 -- Laws of specs/Listed.antt: what a listed term says of hats and cover, for any certificate. Assumes nothing.
 use mathlib.Core.Path.{_≡_, refl, sym, ap, subst, _∙_}
-use mathlib.Core.Bool.{Bool, true, false}
 use mathlib.Core.Logic.{_⊎_, inl, inr, _↔_}
 use mathlib.Core.List.{Memᴰ·cast, Memᴰ·map, Memᴰ·of-map}
-use Prim.Native.Nat.{ℕ}
-use native.Mathlib.Omega.{arith}
-use Rattle.blocks.specs.Kinds.{secretKind, goodKind, badKind}
+use Rattle.blocks.specs.Kinds.{secretKind}
 use Rattle.terms.specs.Term.{Term, Message, Variable, variable, atom, replace, asTerm}
 use Rattle.terms.specs.Instance.{Matches, Share}
 use Rattle.terms.proofs.InstanceLaws.{replace-message, replace-asTerm}
-use Rattle.terms.specs.Decisions.{Says}
-use Rattle.terms.specs.Decide.{answer}
 use Rattle.judge.specs.Certificate.{Certificate, Rule, Secret}
-use Rattle.judge.specs.Cover.{NoHat, sharesNoGood, isBad, Risky, isVariable, sharesSecret, Dead, AtOpenPlace}
-use Rattle.judge.specs.Decisions.{NotBad}
-use Rattle.judge.specs.Listed.{listedOf, MatchesListed, SharesListed, IsSecret}
+use Rattle.judge.specs.Cover.{Risky, isVariable, sharesSecret, Dead, AtOpenPlace}
+use Rattle.judge.specs.Listed.{listedOf, SharesListed, IsSecret}
 
 -- Sharing is symmetric.
 pub share-sym : {X Y : Type 0} {s : Term X} {t : Term Y} → Share s t → Share t s
@@ -61,24 +55,6 @@ module _ (c : Certificate) where
   )
 
   module _ (t : Term Variable) where
-    -- No bad pattern shares an instance with the term.
-    pub not-bad-is : NotBad c t ↔ (SharesListed c badKind t → ⊥)
-    unfolding listedOf
-    not-bad-is = (λ n h. n (h .term) (h .listed) (h .holds), λ n bad l s. n (record { term = bad; listed = l; holds = s }))
-
-    -- No good pattern does, or the term is a bad one with its variables replaced.
-    pub no-hat-is : NoHat c t ↔ ((SharesListed c goodKind t → ⊥) ⊎ MatchesListed c badKind t)
-    unfolding listedOf
-    no-hat-is = (to, back)
-      where
-        to : NoHat c t → (SharesListed c goodKind t → ⊥) ⊎ MatchesListed c badKind t
-        to (sharesNoGood n) = inl (λ h. n (h .term) (h .listed) (h .holds))
-        to (isBad {bad} l m) = inr (record { term = bad; listed = l; holds = m })
-
-        back : (SharesListed c goodKind t → ⊥) ⊎ MatchesListed c badKind t → NoHat c t
-        back (inl n) = sharesNoGood (λ good l s. n (record { term = good; listed = l; holds = s }))
-        back (inr h) = isBad (h .listed) (h .holds)
-
     -- A variable, or a term that shares an instance with a listed secret.
     pub risky-is : Risky c t ↔ (((x : Variable) × (t ≡ variable x)) ⊎ SharesListed c secretKind t)
     unfolding listedOf

@@ -1,9 +1,9 @@
 -- Laws of specs/Listed.antt: a search over the blocks of a file finds what the certificate lists. Assumes nothing.
 use mathlib.Core.Path.{_≡_, sym, ap, subst, _∙_}
 use mathlib.Core.Bool.{Bool, true, false}
-use mathlib.Core.Logic.{_⊎_, inl, inr}
+use mathlib.Core.Logic.{_⊎_, inl, inr, _↔_}
 use mathlib.Core.List.{List, map, List·Memᴰ, List·Memᴰ·not-nil, Memᴰ·cast, Memᴰ·map, Memᴰ·of-map}
-use Prim.Native.Nat.{ℕ, _-_, _*_, _<_}
+use Prim.Native.Nat.{ℕ, _+_, _-_, _*_, _<_, _≤_}
 use lib.ListN.{length}
 use borrow.Author.Tests.{ne-eqb}
 use native.Mathlib.Omega.{arith}
@@ -16,12 +16,12 @@ use Rattle.terms.proofs.InstanceLaws.{replace-asTerm}
 use Rattle.terms.specs.Entry.{Begins, termOf, from}
 use Rattle.terms.proofs.EntryLaws.{from-length}
 use Rattle.terms.specs.Decisions.{Says, says-same}
-use Rattle.terms.proofs.AnswerLaws.{says-yes, answer-yes, answer-no, answer-says}
+use Rattle.terms.proofs.AnswerLaws.{says-yes, answer-yes, answer-no, answer-says, says-answer}
 use Rattle.terms.specs.Decide.{answer}
 use Rattle.judge.specs.File.{blockCount, blocksOf, ofKind, patternOf, secretOf, certificateOf}
 use Rattle.judge.specs.Laid.{Laid, TermBlock, SecretBlock}
 use Rattle.judge.proofs.Files.Members.{BlockOf, block-listed, listed-block}
-use Rattle.judge.specs.Listed.{listedOf, AnyListed, HoldsAt, Searching, TermPart}
+use Rattle.judge.specs.Listed.{listedOf, AnyListed, Everywhere, HoldsAt, HeldAmong, Searching, TermPart}
 
 -- A secret block's term is its secret.
 pub secret-term : {b : List ℕ} → SecretBlock b → patternOf b ≡ asTerm (secretOf b)
@@ -54,6 +54,13 @@ unfolding patternOf
 block-answer P kind part b d is =
     let same = ap termOf (part .part) in
     says-same b (λ h. record { of-kind = kind; holds = subst P same h }) (λ h. subst P (sym same) (h .holds)) (answer-says b d is)
+
+-- The same where the block's pattern counts for every place.
+pub counted-answer : {file : List ℕ} {kind i : ℕ} (P : Term Variable → Type 0) → kindOf (blockAt file i) ≡ kind → Everywhere kind (patternOf (blockAt file i))
+    → {e : List ℕ} → TermPart file i e → (b : Bool) (d : Dec (P (termOf e))) → b ≡ answer d → Says b (HoldsAt file kind (λ p. Everywhere kind p × P p) i)
+counted-answer P kind counts part b d is =
+    says-same b (λ w. record { of-kind = w .of-kind; holds = (counts, w .holds) }) (λ w. record { of-kind = w .of-kind; holds = w .holds .1 })
+    (block-answer P kind part b d is)
 
 pub other-kind : {file : List ℕ} {kind i : ℕ} {P : Term Variable → Type 0} → ¬ (kindOf (blockAt file i) ≡ kind) → ¬ HoldsAt file kind P i
 other-kind off h = off (h .of-kind)
@@ -121,6 +128,38 @@ module _ {file : List ℕ} (laid : Laid file) where
 
     pub none-found : ((i : ℕ) → i < blockCount file → ¬ HoldsAt file kind P i) → ¬ AnyListed (certificateOf file) kind P
     none-found none s = let w = held-at s in none (w .0) (w .1) (w .2)
+
+-- A search among some blocks, from the last one back: found at one, ended at a lower kind, or through.
+module _ {file : List ℕ} {kind : ℕ} (P : Term Variable → Type 0) {low high : ℕ} where
+  pub among-found : {i : ℕ} → low ≤ i → i < high → (b : Bool) → Says b (HoldsAt file kind P i) → b ≡ true → HeldAmong file kind P low high
+  among-found above below b says t = record { number = _; above = above; below = below; holds = says-yes b says t }
+
+  pub among-lower : {i n : ℕ} → Laid file → i < blockCount file → n ≡ kindOf (blockAt file i) → n < kind
+      → ((k : ℕ) → i < k → k < high → ¬ HoldsAt file kind P k) → ¬ HeldAmong file kind P low high
+  among-lower {i} laid inside is lower none w = elim (decLt i (w .number)) [
+    | yes past ↦ none (w .number) past (w .below) (w .holds)
+    | no before ↦ omega (arith, laid .ordered (w .number) i (omega arith) inside, w .holds .of-kind)
+  ]
+
+  pub among-none : ((k : ℕ) → low ≤ k → k < high → ¬ HoldsAt file kind P k) → ¬ HeldAmong file kind P low high
+  among-none none w = none (w .number) (w .above) (w .below) (w .holds)
+
+-- Among one block, and among all.
+pub one-among : {file : List ℕ} {kind i : ℕ} (P : Term Variable → Type 0) → HeldAmong file kind P i (i + 1) ↔ HoldsAt file kind P i
+one-among {file} {kind} {i} P = (
+  λ w. (let same : w .number ≡ i = (let l = w .above in let g = w .below in omega arith) in subst (HoldsAt file kind P) same (w .holds)),
+  λ h. record { number = i; above = omega arith; below = omega arith; holds = h },
+)
+
+pub all-among : {file : List ℕ} {kind n : ℕ} {e : List ℕ} → Searching file kind e → (P : Term Variable → Type 0) → n ≡ blockCount file
+    → (b : Bool) → Says b (HeldAmong file kind P 0 n) → (d : Dec (AnyListed (certificateOf file) kind P)) → b ≡ answer d
+all-among {file} {kind} {n} s P all b says d = says-answer b (says-same b to back says) d
+  where
+    to : HeldAmong file kind P 0 n → AnyListed (certificateOf file) kind P
+    to w = one-found (s .laid) kind P (s .lists) (let l = w .below in omega arith) (w .holds)
+
+    back : AnyListed (certificateOf file) kind P → HeldAmong file kind P 0 n
+    back a = let w = held-at (s .laid) kind P a in record { number = w .0; above = omega arith; below = omega (arith, w .1); holds = w .2 }
 
 -- The answer of a search, early and at its end.
 module _ {file : List ℕ} {kind : ℕ} {e : List ℕ} (asked : Searching file kind e) (P : Term Variable → Type 0) where

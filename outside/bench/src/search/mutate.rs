@@ -60,7 +60,7 @@ fn fitting(list: List, term: Term) -> Option<Term> {
     let by: Vec<(Term, Term)> = variables_of(&term)
         .into_iter()
         .filter_map(|variable| match (list, &variable) {
-            (List::Goods, _) => None,
+            (List::Goods | List::Bads, _) => None,
             (List::Secrets, _) => Some((variable, Term::Atom(0))),
             (_, Term::Marked(number)) => Some((variable.clone(), Term::Plain(*number))),
             _ => None,

@@ -5,7 +5,7 @@ use generate::random::Random;
 use std::process::ExitCode;
 use verdicts::known::Known;
 use verdicts::lent::Lent;
-use verdicts::{cases, failed, known, more_atoms, proved, Checker, Difference};
+use verdicts::{cases, failed, known, marked_bad, more_atoms, proved, Checker, Difference};
 
 fn main() -> ExitCode {
     command::run(|_| Ok(run()? == 0))
@@ -16,6 +16,7 @@ fn run() -> Result<usize, String> {
     let lists = [
         ("document 01", cases::all()?),
         ("document 02, No. 1", more_atoms::all()?),
+        ("document 02, No. 2", marked_bad::all()?),
         ("corpus", known::corpus()?),
         ("examples", known::texts("../../examples")?),
         ("loader", known::texts("../../loader/certificates")?),

@@ -2,7 +2,7 @@
 use borrow.Author.Needs.{needs}
 use Prim.Native.Nat.{_≤_, _-_}
 use Rattle.terms.specs.Entry.{termOf, size}
-use Rattle.judge.specs.Cover.{NoHat}
+use Rattle.judge.specs.Listed.{NeverHat}
 use Rattle.judge.specs.File.{certificateOf}
 use Rattle.judge.specs.CoverEntries.{OpenAmong, Remembered}
 use Rattle.judge.proofs.Covering.Opens.{open-none, open-more, open-all}
@@ -12,7 +12,7 @@ use Rattle.judge.proofs.cover.close_places.Tie as tie
 
 abbrev Inv-loop : tie.InvT-loop
 Inv-loop file sizes e above₀ opened₀ z count h₀ above opened h =
-    (h ≤ size (termOf e)) × OpenAmong (certificateOf file) e opened₀ h opened × Remembered (NoHat (certificateOf file)) e above
+    (h ≤ size (termOf e)) × OpenAmong (certificateOf file) e opened₀ h opened × Remembered (NeverHat (certificateOf file)) e above
 
 abbrev μ-loop : tie.MeasureT-loop
 μ-loop file sizes e above₀ opened₀ z count h₀ above opened h = size (termOf e) - h

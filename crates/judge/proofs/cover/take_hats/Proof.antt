@@ -3,7 +3,7 @@ use borrow.Author.Needs.{needs}
 use Prim.Native.Nat.{_≤_, _-_}
 use Rattle.terms.specs.Entry.{termOf, size}
 use Rattle.judge.specs.File.{certificateOf}
-use Rattle.judge.specs.Listed.{SharesBad}
+use Rattle.judge.specs.Listed.{SharesUnmarked}
 use Rattle.judge.specs.CoverEntries.{Cleared, HatBelow, Remembered}
 use Rattle.judge.proofs.Covering.Hats.{hats-none, hats-more, hats-all}
 use Rattle.judge.proofs.Covering.Covers.{standing-concluded}
@@ -12,7 +12,7 @@ use Rattle.judge.proofs.cover.take_hats.Tie as tie
 
 abbrev Inv-loop : tie.InvT-loop
 Inv-loop file sizes e shared₀ bare₀ z count h₀ shared bare h =
-    (h ≤ size (termOf e)) × Cleared bare₀ bare (HatBelow (certificateOf file) e h) × Remembered (SharesBad (certificateOf file)) e shared
+    (h ≤ size (termOf e)) × Cleared bare₀ bare (HatBelow (certificateOf file) e h) × Remembered (SharesUnmarked (certificateOf file)) e shared
 
 abbrev μ-loop : tie.MeasureT-loop
 μ-loop file sizes e shared₀ bare₀ z count h₀ shared bare h = size (termOf e) - h

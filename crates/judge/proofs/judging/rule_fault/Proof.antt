@@ -4,8 +4,8 @@ use mathlib.Core.Path.{_≡_, sym, _∙_}
 use Prim.Native.Nat.{_-_, _≤_}
 use Rattle.blocks.specs.Kinds.{ruleKind}
 use Rattle.blocks.specs.Block.{firstEntries, secondEntries}
-use Rattle.judge.specs.Cover.{NoHat}
-use Rattle.judge.specs.Listed.{SharesBad}
+use Rattle.judge.specs.Listed.{NeverHat}
+use Rattle.judge.specs.Listed.{SharesUnmarked}
 use Rattle.judge.specs.CoverEntries.{Carried}
 use Rattle.judge.specs.File.{blockCount, certificateOf}
 use Rattle.judge.specs.Verdict.{firstFault, onKind, uncoveredRule, ruleFault}
@@ -19,7 +19,7 @@ use Rattle.judge.proofs.judging.rule_fault.Tie as tie
 abbrev Inv-loop : tie.InvT-loop
 Inv-loop file n head roots sizes count above₀ shared₀ i₀ above shared i =
     (i ≤ blockCount file) × (firstFault (onKind ruleKind (uncoveredRule (certificateOf file)) file) i (blockCount file - i) ≡ ruleFault (certificateOf file) file)
-    × Carried firstEntries (NoHat (certificateOf head)) file i above × Carried secondEntries (SharesBad (certificateOf head)) file i shared
+    × Carried firstEntries (NeverHat (certificateOf head)) file i above × Carried secondEntries (SharesUnmarked (certificateOf head)) file i shared
 
 abbrev μ-loop : tie.MeasureT-loop
 μ-loop file n head roots sizes count above₀ shared₀ i₀ above shared i = blockCount file - i

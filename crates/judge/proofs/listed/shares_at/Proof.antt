@@ -12,19 +12,15 @@ use Rattle.judge.proofs.listed.shares_at.Tie as tie
 pub shares-at-spec : {M : Type 1} → statement M
 shares-at-spec = tie.close (tie.spec
     (λ c κs. search needs)  -- is-kind-requires
-    (λ c κs. let pre = c .before .before .before .before .before .before .pre in let k = c .before .before .is-kind in
-    block-there (pre .0 .laid) (pre .0 .lists) (pre .1) (k .result) (k .ensures) (c .before .if1 .taken))  -- term-at-requires
-    (λ c. let pre = c .before .before .before .before .before .before .before .pre in let few = pre .0 .laid .few in let inside = pre .1 in let long = pre .2 .long in search needs)  -- mul-shares
-    (λ c. let pre = c .before .before .before .before .before .before .before .pre in let few = pre .0 .laid .few in let inside = pre .1 in let long = pre .2 .long in search needs)  -- sub-shares
-    (λ c. let pre = c .before .before .before .before .before .before .before .pre in let few = pre .0 .laid .few in let inside = pre .1 in let long = pre .2 .long in search needs)  -- part-shares-start
-    (λ c. let pre = c .before .before .before .before .before .before .before .pre in let few = pre .0 .laid .few in let inside = pre .1 in let long = pre .2 .long in search needs)  -- part-shares-end
-    (λ c κs. let start = c .before .before .before .before .before .before .before .before in let pre = start .pre in let k = c .before .before .before .before .is-kind in let part = c .before .term-at .ensures in (
+    (λ c κs. let pre = c .before .before .before .before .before .pre in let k = c .before .is-kind in block-there (pre .0 .laid) (pre .0 .lists) (pre .1) (k .result) (k .ensures) (c .if1 .taken))  -- term-at-requires
+    (λ c κs. let pre = c .before .before .before .before .before .before .pre in let few = pre .0 .laid .few in (pre .2 .rows .long, search needs))  -- row-requires
+    (λ c κs. let pre = c .before .before .before .before .before .before .before .pre in let k = c .before .before .before .is-kind in let part = c .before .term-at .ensures in (
       record { left = part .term; right = pre .0 .term; left-short = part .short; right-short = pre .0 .short },
-      term-sizes (pre .2) (pre .0) (pre .1) (says-yes (k .result) (k .ensures) (c .before .before .before .if1 .taken)) (part .part),
+      rw (c .row .ensures) (term-sizes (pre .2) (pre .0) (pre .1) (says-yes (k .result) (k .ensures) (c .before .before .if1 .taken)) (part .part)),
       pre .3,
     ))  -- shares-requires
-    (λ c. let a = c .before .before .before .before .before .before .before .before .before .args in let k = c .before .before .before .before .before .is-kind in
-    block-answer (λ p. Share p (termOf (a .e .now))) (says-yes (k .result) (k .ensures) (c .before .before .before .before .if1 .taken)) (c .before .before .term-at .ensures)
+    (λ c. let a = c .before .before .before .before .before .before .before .before .args in let k = c .before .before .before .before .is-kind in
+    block-answer (λ p. Share p (termOf (a .e .now))) (says-yes (k .result) (k .ensures) (c .before .before .before .if1 .taken)) (c .before .before .term-at .ensures)
     (c .shares .result) (share? variable? variable? _ _) (c .shares .ensures))  -- returns
     (λ c. let k = c .before .is-kind in other-kind (says-no (k .result) (k .ensures) (c .if1 .left)))  -- returns-2
     )

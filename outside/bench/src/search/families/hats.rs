@@ -9,24 +9,24 @@ use literal::Term;
 const LEVELS: usize = 20;
 
 /// Covers the item of its level and nothing deeper.
-fn own_item() -> Term {
+pub fn own_item() -> Term {
     under(KEY, Term::pair(Term::Marked(0), Term::Plain(0)))
 }
 
 /// Covers the bottom.
-fn bottom() -> Term {
+pub fn bottom() -> Term {
     under(OTHER_KEY, Term::Marked(0))
 }
 
 /// The base with the second key as a secret.
-fn two_keys() -> Sketch {
+pub fn two_keys() -> Sketch {
     let mut sketch = base();
     sketch.secrets.push(Term::Atom(OTHER_KEY));
     sketch
 }
 
 /// A conclusion in which every level, and the bottom, has the same variable.
-fn conclusion(i: usize) -> Term {
+pub fn conclusion(i: usize) -> Term {
     let items = (0..LEVELS).map(|_| plain(i));
     links(items, KEY, under(OTHER_KEY, plain(i)))
 }

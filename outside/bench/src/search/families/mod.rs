@@ -5,6 +5,7 @@ mod deep;
 mod hats;
 mod joined;
 mod links;
+mod marked;
 mod secrets;
 mod wide;
 
@@ -27,8 +28,25 @@ fn family(name: &str, make: impl Fn(&mut Random) -> Sketch + 'static) -> Family 
     }
 }
 
-/// The families of this folder.
+/// The families of this folder, and the generator's certificates.
 pub fn written() -> Vec<Family> {
+    let mut all = without_marks_in_bads();
+    all.extend(with_marks_in_bads());
+    all.push(family("generated", generated));
+    all
+}
+
+fn with_marks_in_bads() -> [Family; 5] {
+    [
+        family("marked-beside", marked::beside),
+        family("marked-late", marked::late),
+        family("marked-premises", marked::premises),
+        family("marked-fields", marked::fields),
+        family("marked-below", marked::below),
+    ]
+}
+
+fn without_marks_in_bads() -> Vec<Family> {
     vec![
         family("chains-irrelevant", chains::irrelevant),
         family("chains-to-a-secret", chains::to_a_secret),
@@ -61,7 +79,6 @@ pub fn written() -> Vec<Family> {
         family("joined-keys", joined::keys),
         family("joined-cyclic", joined::cyclic),
         family("joined-hats", joined::hats),
-        family("generated", generated),
     ]
 }
 
