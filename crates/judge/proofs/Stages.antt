@@ -4,6 +4,7 @@ pub mod ListedLaws
 pub mod Listing
 pub mod Roots
 pub mod Tables
+pub mod Nonces
 pub mod Numbers
 pub mod Heads
 pub mod JudgingLaws

@@ -21,7 +21,7 @@ pub record Certificate : Type 0 where
   pub rules : List Rule
 
 -- A listed secret, good pattern, bad pattern, rule. That "a good pattern is an encryption with plain and marked
--- variables", and a bad one too (02, No. 2), is what numbers 7 and 8 ask of their blocks.
+-- variables", and a bad one too (02, No. 2), of either range (02, No. 3), is what numbers 7 and 8 ask of their blocks.
 abbrev pub Secret : Certificate → Message → Type 0
 Secret certificate m = List·Memᴰ m (certificate .secrets)
 

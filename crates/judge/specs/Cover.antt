@@ -3,7 +3,7 @@ use mathlib.Core.Path.{_≡_}
 use mathlib.Core.List.{_++_}
 use mathlib.Core.Option.{some}
 use Prim.Native.Nat.{ℕ}
-use Rattle.terms.specs.Term.{Term, variable, encrypted, Message, Variable, asTerm}
+use Rattle.terms.specs.Term.{Term, variable, encrypted, Message, Variable, Range, asTerm}
 use Rattle.terms.specs.Place.{Place, subtermAt, StrictlyAbove, AtOrAbove}
 use Rattle.terms.specs.Entry.{Placed}
 use Rattle.terms.specs.Instance.{Matches, Share}
@@ -12,9 +12,9 @@ use Rattle.judge.specs.Hat.{MarkAt, Mark, Cancels}
 
 -- With the bad pattern laid on place q, a marked variable of it stands at or below place p.
 pub record MarkBelow (bad : Term Variable) (q p : Place) : Type 0 where
-  pub number : ℕ
+  pub name : Range × ℕ
   pub place : Place
-  pub stands : MarkAt bad place number
+  pub stands : MarkAt bad place name
   pub below : AtOrAbove p (q ++ place)
 
 -- When a bad pattern that shares an instance with the subterm at place q counts against a sure hat for place p
@@ -40,15 +40,15 @@ pub record SureHat (certificate : Certificate) (t : Term Variable) (p : Place) :
   pub stands : subtermAt place t ≡ some subterm
   pub good : Term Variable
   pub listed : Good certificate good
-  pub match : Matches good subterm
+  pub match : Matches (certificate .atoms) good subterm
   pub mark : Mark good place p
-  pub notBad : (bad : Term Variable) → Bad certificate bad → Share bad subterm → MayCancel bad place p → ⊥
+  pub notBad : (bad : Term Variable) → Bad certificate bad → Share (certificate .atoms) bad subterm → MayCancel bad place p → ⊥
 
 -- What an open place p may have above it, at place q: an encryption that shares an instance with no good pattern, or
 -- that is a bad pattern with its variables replaced by terms, which is unmarked or has a mark at or above p (02, No. 2).
 pub data NoHat (certificate : Certificate) (t : Term Variable) (q p : Place) : Type 0 where
-  sharesNoGood : ((good : Term Variable) → Good certificate good → Share good t → ⊥) → NoHat certificate t q p
-  isBad : {bad : Term Variable} → Bad certificate bad → Matches bad t → Cancels bad q p → NoHat certificate t q p
+  sharesNoGood : ((good : Term Variable) → Good certificate good → Share (certificate .atoms) good t → ⊥) → NoHat certificate t q p
+  isBad : {bad : Term Variable} → Bad certificate bad → Matches (certificate .atoms) bad t → Cancels bad q p → NoHat certificate t q p
 
 -- Open place of a premise: every encryption strictly above it either shares an instance with no good pattern, or is a
 -- bad pattern with its variables replaced by terms (02, No. 2: a marked one "counts only with a mark at or above it").
@@ -65,10 +65,11 @@ pub record AtOpenPlace (certificate : Certificate) (rule : Rule) (t : Term Varia
   pub stands : subtermAt place premise ≡ some t
   pub isOpen : Open certificate premise place
 
--- Risky place of a conclusion: a variable, or a subterm that shares an instance with a secret; t is what stands there.
+-- Risky place of a conclusion: a variable, of any sort, or a subterm that shares an instance with a secret; t is what stands
+-- there.
 pub data Risky (certificate : Certificate) (t : Term Variable) : Type 0 where
   isVariable : {x : Variable} → t ≡ variable x → Risky certificate t
-  sharesSecret : {secret : Message} → Secret certificate secret → Share t secret → Risky certificate t
+  sharesSecret : {secret : Message} → Secret certificate secret → Share (certificate .atoms) t (asTerm secret) → Risky certificate t
 
 -- Covered: there is a sure hat for the place, or the same subterm, symbol for symbol, stands at an open place of the
 -- premise. The place is p, and t is the subterm that stands there in the conclusion.

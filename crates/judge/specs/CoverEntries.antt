@@ -10,11 +10,13 @@ use lib.ListN.{length, getD}
 use Rattle.blocks.specs.Kinds.{ruleKind}
 use Rattle.blocks.specs.Limits.{mostTermBytes}
 use Rattle.blocks.specs.Block.{blockAt, kindOf}
-use Rattle.terms.specs.Term.{Term, Variable}
+use Rattle.terms.specs.Term.{Term, Variable, Range}
 use Rattle.terms.specs.Place.{Place, subtermAt}
+use Rattle.terms.specs.declared.atom.Atom.{Atom}
 use Rattle.terms.specs.Instance.{Matches, Share}
+use Rattle.terms.specs.Seek.{Becomes}
 use Rattle.terms.specs.Entry.{size, termOf, Begins, from, entryAt}
-use Rattle.terms.specs.Tag.{markedTag}
+use Rattle.terms.specs.Tag.{MarkedTag}
 use Rattle.terms.specs.TermGraph.{SizesOf}
 use Rattle.judge.specs.Certificate.{Certificate, Good, Bad}
 use Rattle.judge.specs.Hat.{MarkAt, Marked}
@@ -117,21 +119,21 @@ pub record SomeBoth (flags others : List ℕ) : Type 0 where
 
 -- With a pattern laid on the subterm u at entry h, a marked variable of it stands at or above entry k.
 pub record MarkOver (pattern u : Term Variable) (h k : ℕ) : Type 0 where
-  pub number : ℕ
+  pub name : Range × ℕ
   pub place : Place
   pub subterm : Term Variable
-  pub stands : MarkAt pattern place number
+  pub stands : MarkAt pattern place name
   pub under : subtermAt place u ≡ some subterm
   pub low : h + entryAt place u ≤ k
   pub high : k < h + entryAt place u + size subterm
 
 -- One stands at or below entry k: `place` leads to the entry, and `rest` from there to the mark, which u need not have.
 pub record MarkUnder (pattern u : Term Variable) (h k : ℕ) : Type 0 where
-  pub number : ℕ
+  pub name : Range × ℕ
   pub place : Place
   pub rest : Place
   pub subterm : Term Variable
-  pub stands : MarkAt pattern (place ++ rest) number
+  pub stands : MarkAt pattern (place ++ rest) name
   pub under : subtermAt place u ≡ some subterm
   pub entry : h + entryAt place u ≡ k
 
@@ -140,18 +142,18 @@ abbrev pub MarkAround : Term Variable → Term Variable → ℕ → ℕ → Type
 MarkAround pattern u h k = MarkOver pattern u h k ⊎ MarkUnder pattern u h k
 
 -- The pattern p matches u, and laid on it covers entry k.
-abbrev pub Lays : Term Variable → ℕ → ℕ → Term Variable → Type 0
-Lays u h k p = Matches p u × MarkOver p u h k
+abbrev pub Lays : List Atom → Term Variable → ℕ → ℕ → Term Variable → Type 0
+Lays atoms u h k p = Matches atoms p u × MarkOver p u h k
 
 -- The pattern p shares an instance with u, and has a mark at, above or below entry k.
-abbrev pub LaysAround : Term Variable → ℕ → ℕ → Term Variable → Type 0
-LaysAround u h k p = Share p u × MarkAround p u h k
+abbrev pub LaysAround : List Atom → Term Variable → ℕ → ℕ → Term Variable → Type 0
+LaysAround atoms u h k p = Share atoms p u × MarkAround p u h k
 
--- What laying a pattern asks for: it is the pattern of the term at entry h of e.
+-- What laying a pattern asks for: the term at entry h of e is the pattern with its variables replaced.
 pub record Laying (p e : List ℕ) (h : ℕ) : Type 0 where
   pub pattern : Begins p
   pub term : Begins (from (4 * h) e)
-  pub match : Matches (termOf p) (subAt e h)
+  pub match : Becomes (termOf p) (subAt e h)
   pub inside : 4 * h ≤ length e
   pub short : length e ≤ mostTermBytes
 
@@ -165,7 +167,7 @@ pub record LayingAround (p y : List ℕ) (last i : ℕ) (e z : List ℕ) (h : �
   pub pattern-short : length p ≤ mostTermBytes
   pub short : length e ≤ mostTermBytes
   pub pattern-sizes : SizesOf p y
-  pub behind : (k : ℕ) → last ≤ k → ¬ (getD p (4 * k) 0 ≡ markedTag)
+  pub behind : (k : ℕ) → last ≤ k → ¬ MarkedTag (getD p (4 * k) 0)
   pub sizes : SizesOf e z
 
 -- The file is laid, and a term stands at entry h of e.
@@ -187,9 +189,9 @@ MayCancelOver bad u h k = (¬ Marked bad) ⊎ MarkAround bad u h k
 pub record HatOver (certificate : Certificate) (u : Term Variable) (h k : ℕ) : Type 0 where
   pub good : Term Variable
   pub listed : Good certificate good
-  pub match : Matches good u
+  pub match : Matches (certificate .atoms) good u
   pub mark : MarkOver good u h k
-  pub notBad : (bad : Term Variable) → Bad certificate bad → Share bad u → MayCancelOver bad u h k → ⊥
+  pub notBad : (bad : Term Variable) → Bad certificate bad → Share (certificate .atoms) bad u → MayCancelOver bad u h k → ⊥
 
 -- There is one among the first n entries.
 pub record HatBelow (certificate : Certificate) (e : List ℕ) (n k : ℕ) : Type 0 where
@@ -212,8 +214,8 @@ pub record Entries (e : List ℕ) : Type 0 where
 -- What an open entry k may have above it: the subterm u at entry h, which shares an instance with no good pattern, or is a
 -- bad pattern with its variables replaced by terms that counts for the entry.
 pub data NoHatOver (certificate : Certificate) (u : Term Variable) (h k : ℕ) : Type 0 where
-  sharesNoGood : ((good : Term Variable) → Good certificate good → Share good u → ⊥) → NoHatOver certificate u h k
-  isBad : {bad : Term Variable} → Bad certificate bad → Matches bad u → CancelsOver bad u h k → NoHatOver certificate u h k
+  sharesNoGood : ((good : Term Variable) → Good certificate good → Share (certificate .atoms) good u → ⊥) → NoHatOver certificate u h k
+  isBad : {bad : Term Variable} → Bad certificate bad → Matches (certificate .atoms) bad u → CancelsOver bad u h k → NoHatOver certificate u h k
 
 -- Entry k is open as far as the first n entries go: every encryption among them that stands strictly above it is such.
 pub record OpenBelow (certificate : Certificate) (e : List ℕ) (n k : ℕ) : Type 0 where

@@ -1,13 +1,14 @@
 -- Each condition, decided. The decisions compute.
 use mathlib.Core.Path.{_≡_, refl, sym, ap, subst, _∙_}
 use mathlib.Core.Logic.{_⊎_, inl, inr}
-use mathlib.Core.List.{_++_}
+use mathlib.Core.List.{List, _++_}
 use mathlib.Core.Option.{Option, none, some, Option·none-ne-some}
 use lib.ListN.{length}
 use Prim.Native.Nat.{ℕ}
 use native.Mathlib.Decide.{ℕ-discrete, decLt}
 use native.Mathlib.Omega.{arith}
-use Rattle.terms.specs.Term.{Term, variable, atom, pair, encrypted, Message, replace, asTerm, Variable, plain, marked, named, wrapped, encryption}
+use Rattle.terms.specs.Term.{Term, variable, atom, pair, encrypted, Message, replace, asTerm, Variable, sort, plain, marked, Range, named, wrapped, encryption}
+use Rattle.terms.specs.declared.atom.Atom.{Atom}
 use Rattle.terms.specs.Atom.{knownOf, atomAt}
 use Rattle.terms.specs.Place.{Place, subtermAt}
 use Rattle.terms.specs.Decide as decide
@@ -15,7 +16,7 @@ use Rattle.terms.specs.Instance.{Matches, Share}
 use Rattle.terms.specs.Decisions.{dec-map, dec-not, dec-and, dec-or}
 use Rattle.terms.specs.Search.{any?, all?, member?, any-above?, all-above?, at-or-above?, any-place?}
 use Rattle.judge.specs.Certificate.{Rule, Certificate, Secret, Good, Bad, Known, inverse}
-use Rattle.judge.specs.Hat.{Mark, Marked, Cancels, everywhere, atMark}
+use Rattle.judge.specs.Hat.{markNamed, Mark, Marked, Cancels, everywhere, atMark}
 use Rattle.judge.specs.Cover.{MarkBelow, MayCancel, cancels, belowPlace, SureHat, NoHat, sharesNoGood, isBad, Open, AtOpenPlace, Risky, isVariable}
 use Rattle.judge.specs.Cover.{sharesSecret, Covered, sureHat, inPremise, Dead}
 use Rattle.judge.specs.Conditions.{KnownAtom, WeaklyClosed, KeptKey}
@@ -82,9 +83,9 @@ kept-key? certificate (atom a) = no (λ h. let e = h .same in let z : _≡_ {A =
 kept-key? certificate (pair t u) = no (λ h. let e = h .same in let z : _≡_ {A = ℕ} 0 1 = cc in omega arith)
 
 -- A mark of a pattern.
-unfoldable pub marked? : (t : Term Variable) → Dec ((n : ℕ) × (t ≡ variable (named marked n)))
-marked? (variable (named plain n)) = no (λ w. let e = w .1 in let z : _≡_ {A = ℕ} 0 1 = cc in omega arith)
-marked? (variable (named marked n)) = yes (n, refl)
+unfoldable pub marked? : (t : Term Variable) → Dec ((n : Range × ℕ) × (t ≡ variable (markNamed n)))
+marked? (variable (named (sort plain r) n)) = no (λ w. let e = w .1 in let z : _≡_ {A = ℕ} 0 1 = cc in omega arith)
+marked? (variable (named (sort marked r) n)) = yes ((r, n), refl)
 marked? (atom a) = no (λ w. let e = w .1 in let z : _≡_ {A = ℕ} 0 1 = cc in omega arith)
 marked? (pair t u) = no (λ w. let e = w .1 in let z : _≡_ {A = ℕ} 0 1 = cc in omega arith)
 marked? (wrapped wr k t) = no (λ w. let e = w .1 in let z : _≡_ {A = ℕ} 0 1 = cc in omega arith)
@@ -98,22 +99,22 @@ is-variable? (wrapped wr k t) = no (λ w. let e = w .1 in let z : _≡_ {A = ℕ
 unfoldable pub mark? : (pattern : Term Variable) (q p : Place) → Dec (Mark pattern q p)
 unfolding dec-map dec-and any-place? marked? at-or-above?
 mark? pattern q p =
-    dec-map (λ w. record { number = w .2 .0 .0; place = w .0 .0; stands = w .1 ∙ ap some (w .2 .0 .1); above = w .2 .1 })
-    (λ h. ((h .place, variable (named marked (h .number))), h .stands, ((h .number, refl), h .above)))
+    dec-map (λ w. record { name = w .2 .0 .0; place = w .0 .0; stands = w .1 ∙ ap some (w .2 .0 .1); above = w .2 .1 })
+    (λ h. ((h .place, variable (markNamed (h .name))), h .stands, ((h .name, refl), h .above)))
     (any-place? pattern (λ w. dec-and (marked? (w .1)) (λ m. at-or-above? (q ++ w .0) p)))
 
 -- What a bad pattern cancels, and may cancel.
 unfoldable pub is-marked? : (pattern : Term Variable) → Dec (Marked pattern)
 unfolding dec-map any-place? marked?
 is-marked? pattern =
-    dec-map (λ w. record { number = w .2 .0; place = w .0 .0; stands = w .1 ∙ ap some (w .2 .1) })
-    (λ h. ((h .place, variable (named marked (h .number))), h .stands, (h .number, refl))) (any-place? pattern (λ w. marked? (w .1)))
+    dec-map (λ w. record { name = w .2 .0; place = w .0 .0; stands = w .1 ∙ ap some (w .2 .1) })
+    (λ h. ((h .place, variable (markNamed (h .name))), h .stands, (h .name, refl))) (any-place? pattern (λ w. marked? (w .1)))
 
 unfoldable pub mark-below? : (bad : Term Variable) (q p : Place) → Dec (MarkBelow bad q p)
 unfolding dec-map dec-and any-place? marked? at-or-above?
 mark-below? bad q p =
-    dec-map (λ w. record { number = w .2 .0 .0; place = w .0 .0; stands = w .1 ∙ ap some (w .2 .0 .1); below = w .2 .1 })
-    (λ h. ((h .place, variable (named marked (h .number))), h .stands, ((h .number, refl), h .below)))
+    dec-map (λ w. record { name = w .2 .0 .0; place = w .0 .0; stands = w .1 ∙ ap some (w .2 .0 .1); below = w .2 .1 })
+    (λ h. ((h .place, variable (markNamed (h .name))), h .stands, ((h .name, refl), h .below)))
     (any-place? bad (λ w. dec-and (marked? (w .1)) (λ m. at-or-above? p (q ++ w .0))))
 
 unfoldable pub cancels? : (bad : Term Variable) (q p : Place) → Dec (Cancels bad q p)
@@ -140,29 +141,25 @@ may-cancel? bad q p = dec-map to from (dec-or (cancels? bad q p) (λ n. mark-bel
     from (cancels h) = inl h
     from (belowPlace m) = inr m
 
--- A pattern with its variables replaced, and a shared instance, at the variables of a file.
-unfoldable pub matches? : (p t : Term Variable) → Dec (Matches p t)
-unfolding decide.match? decide.variable?
-matches? p t = decide.match? decide.variable? decide.variable? p t
+-- A pattern with its variables replaced, and a shared instance, over the atoms of a file.
+unfoldable pub matches? : (atoms : List Atom) (p t : Term Variable) → Dec (Matches atoms p t)
+unfolding decide.match?
+matches? atoms p t = decide.match? atoms p t
 
-unfoldable pub shares? : (s t : Term Variable) → Dec (Share s t)
-unfolding decide.share? decide.variable?
-shares? s t = decide.share? decide.variable? decide.variable? s t
-
-unfoldable pub shares-secret? : (t : Term Variable) (secret : Message) → Dec (Share t secret)
-unfolding decide.share? decide.variable?
-shares-secret? t secret = decide.share? decide.variable? (λ x. absurd x) t secret
+unfoldable pub shares? : (atoms : List Atom) (s t : Term Variable) → Dec (Share atoms s t)
+unfolding decide.share?
+shares? atoms s t = decide.share? atoms s t
 
 module _ (certificate : Certificate) where
   -- No bad pattern that shares an instance with t, at place q, counts for place p.
   abbrev pub NotBad : Term Variable → Place → Place → Type 0
-  NotBad t q p = (bad : Term Variable) → Bad certificate bad → Share bad t → MayCancel bad q p → ⊥
+  NotBad t q p = (bad : Term Variable) → Bad certificate bad → Share (certificate .atoms) bad t → MayCancel bad q p → ⊥
 
   unfoldable pub not-bad? : (t : Term Variable) (q p : Place) → Dec (NotBad t q p)
   unfolding all? dec-map dec-not dec-and shares? may-cancel?
   not-bad? t q p =
       all? (certificate .bads)
-      (λ bad. dec-map (λ n s m. n (s, m)) (λ n w. n (w .0) (w .1)) (dec-not (dec-and (shares? bad t) (λ s. may-cancel? bad q p))))
+      (λ bad. dec-map (λ n s m. n (s, m)) (λ n w. n (w .0) (w .1)) (dec-not (dec-and (shares? (certificate .atoms) bad t) (λ s. may-cancel? bad q p))))
 
   -- Sure hat for a place p of t.
   unfoldable pub sure-hat? : (t : Term Variable) (p : Place) → Dec (SureHat certificate t p)
@@ -183,7 +180,7 @@ module _ (certificate : Certificate) where
       (any-above? p (λ q. here q (subtermAt q t) refl))
     where
       Fits : Place → Term Variable → Type 0
-      Fits q u = (good : Term Variable) × Good certificate good × (Matches good u × (Mark good q p × NotBad u q p))
+      Fits q u = (good : Term Variable) × Good certificate good × (Matches (certificate .atoms) good u × (Mark good q p × NotBad u q p))
 
       here : (q : Place) (o : Option (Term Variable)) → subtermAt q t ≡ o →
           Dec ((u : Term Variable) × (subtermAt q t ≡ some u) × Fits q u)
@@ -191,18 +188,18 @@ module _ (certificate : Certificate) where
       here q (some u) e =
           dec-map (λ w. (u, e, w)) (λ w. let same : w .0 ≡ u = cc in subst (Fits q) same (w .2))
           (any? (certificate .goods)
-          (λ good. dec-and (matches? good u) (λ m. dec-and (mark? good q p) (λ k. not-bad? u q p))))
+          (λ good. dec-and (matches? (certificate .atoms) good u) (λ m. dec-and (mark? good q p) (λ k. not-bad? u q p))))
 
   unfoldable pub no-hat? : (t : Term Variable) (q p : Place) → Dec (NoHat certificate t q p)
   unfolding dec-map dec-or dec-and dec-not all? any? shares? matches? cancels?
   no-hat? t q p =
       dec-map to from
-      (dec-or (all? (certificate .goods) (λ good. dec-not (shares? good t)))
-      (λ n. any? (certificate .bads) (λ bad. dec-and (matches? bad t) (λ m. cancels? bad q p))))
+      (dec-or (all? (certificate .goods) (λ good. dec-not (shares? (certificate .atoms) good t)))
+      (λ n. any? (certificate .bads) (λ bad. dec-and (matches? (certificate .atoms) bad t) (λ m. cancels? bad q p))))
     where
       Ways : Type 0
-      Ways = ((good : Term Variable) → Good certificate good → Share good t → ⊥) ⊎
-          ((bad : Term Variable) × Bad certificate bad × (Matches bad t × Cancels bad q p))
+      Ways = ((good : Term Variable) → Good certificate good → Share (certificate .atoms) good t → ⊥) ⊎
+          ((bad : Term Variable) × Bad certificate bad × (Matches (certificate .atoms) bad t × Cancels bad q p))
 
       to : Ways → NoHat certificate t q p
       to (inl h) = sharesNoGood h
@@ -256,13 +253,13 @@ module _ (certificate : Certificate) where
 
   -- Risky place of a conclusion.
   unfoldable pub risky? : (t : Term Variable) → Dec (Risky certificate t)
-  unfolding dec-map dec-or any? is-variable? shares-secret?
+  unfolding dec-map dec-or any? is-variable? shares? asTerm replace
   risky? t =
       dec-map to from
-      (dec-or (is-variable? t) (λ n. any? (certificate .secrets) (λ secret. shares-secret? t secret)))
+      (dec-or (is-variable? t) (λ n. any? (certificate .secrets) (λ secret. shares? (certificate .atoms) t (asTerm secret))))
     where
       Ways : Type 0
-      Ways = ((x : Variable) × (t ≡ variable x)) ⊎ ((secret : Message) × Secret certificate secret × Share t secret)
+      Ways = ((x : Variable) × (t ≡ variable x)) ⊎ ((secret : Message) × Secret certificate secret × Share (certificate .atoms) t (asTerm secret))
 
       to : Ways → Risky certificate t
       to (inl w) = isVariable (w .1)

@@ -5,7 +5,7 @@ use mathlib.Core.Path.{_≡_}
 use mathlib.Core.Logic.{_↔_}
 use mathlib.Core.Option.{some}
 use Prim.Native.Nat.{ℕ, _<_}
-use Rattle.terms.specs.Term.{Term, variable, encrypted, Message, Variable, Foreign}
+use Rattle.terms.specs.Term.{Term, variable, encrypted, Message, Variable, rangeOf, asTerm, Foreign}
 use Rattle.terms.specs.Atom.{IsKey}
 use Rattle.terms.specs.Place.{Place, subtermAt, StrictlyAbove}
 use Rattle.terms.specs.Built.{Built, BuiltMatch, BuiltShare, MessageAtom}
@@ -23,7 +23,8 @@ pub record Holding (A K : ℕ → Type 0) (certificate : Certificate) : Type 0 w
   pub premises : (rule : Rule) → Listed certificate rule → (t : Term Variable) → rule .premise ≡ some t → Built A K t
   pub conclusions : (rule : Rule) → Listed certificate rule → Built A K (rule .conclusion)
 
--- "Foreign atoms are in no file": none is an atom or a key of a listed term. "All are nonces": none is a key.
+-- "Foreign atoms are in no file": none is an atom or a key of a listed term. "All are nonces": none is a key, and `Nonce`
+-- (terms/specs/Atom.antt) says that each is one.
 pub record NoForeign (certificate : Certificate) : Type 0 where
   pub terms : Holding (λ a. a < 1000) (λ k. k < 1000) certificate
   pub keys : (k : ℕ) → Foreign k → IsKey (certificate .atoms) k → ⊥
@@ -31,16 +32,16 @@ pub record NoForeign (certificate : Certificate) : Type 0 where
 -- ---- messages over the listed and the foreign atoms alone, with listed keys
 
 -- Replaced by such terms; and shared: such a message, by such replacements.
-abbrev pub ProperMatch : Certificate → {X Y : Type 0} → Term X → Term Y → Type 0
-ProperMatch certificate p t = BuiltMatch (MessageAtom (certificate .atoms)) (IsKey (certificate .atoms)) p t
+abbrev pub ProperMatch : Certificate → Term Variable → Term Variable → Type 0
+ProperMatch certificate p t = BuiltMatch (MessageAtom (certificate .atoms)) (IsKey (certificate .atoms)) (certificate .atoms) rangeOf p t
 
-abbrev pub ProperShare : Certificate → {X Y : Type 0} → Term X → Term Y → Type 0
-ProperShare certificate s t = BuiltShare (MessageAtom (certificate .atoms)) (IsKey (certificate .atoms)) s t
+abbrev pub ProperShare : Certificate → Term Variable → Term Variable → Type 0
+ProperShare certificate s t = BuiltShare (MessageAtom (certificate .atoms)) (IsKey (certificate .atoms)) (certificate .atoms) s t
 
 -- `Risky`, `SureHat`, `NoHat` and `Open` of Cover.antt, with these.
 pub data ProperRisky (certificate : Certificate) (t : Term Variable) : Type 0 where
   isVariable : {x : Variable} → t ≡ variable x → ProperRisky certificate t
-  sharesSecret : {secret : Message} → Secret certificate secret → ProperShare certificate t secret → ProperRisky certificate t
+  sharesSecret : {secret : Message} → Secret certificate secret → ProperShare certificate t (asTerm secret) → ProperRisky certificate t
 
 pub record ProperSureHat (certificate : Certificate) (t : Term Variable) (p : Place) : Type 0 where
   pub place : Place

@@ -3,27 +3,31 @@ use mathlib.Core.Path.{_≡_}
 use mathlib.Core.List.{_++_}
 use mathlib.Core.Option.{some}
 use Prim.Native.Nat.{ℕ}
-use Rattle.terms.specs.Term.{Term, variable, Message, Variable, marked, named}
+use Rattle.terms.specs.Term.{Term, variable, Message, Variable, sort, marked, Range, named}
 use Rattle.terms.specs.Place.{Place, subtermAt, StrictlyAbove, AtOrAbove}
-use Rattle.terms.specs.Instance.{Matches}
+use Rattle.terms.specs.Instance.{Instance}
 use Rattle.judge.specs.Certificate.{Certificate, Good, Bad}
 
--- The marked variable of this number stands at this place of the pattern.
-abbrev pub MarkAt : Term Variable → Place → ℕ → Type 0
-MarkAt pattern place number = subtermAt place pattern ≡ some (variable (named marked number))
+-- A mark is a marked variable; its name is its range (02, No. 3) and its number.
+abbrev pub markNamed : Range × ℕ → Variable
+markNamed name = named (sort marked (name .0)) (name .1)
+
+-- The mark of this name stands at this place of the pattern.
+abbrev pub MarkAt : Term Variable → Place → Range × ℕ → Type 0
+MarkAt pattern place name = subtermAt place pattern ≡ some (variable (markNamed name))
 
 -- With the pattern laid on place q, a marked variable of it stands at or above place p.
 pub record Mark (pattern : Term Variable) (q p : Place) : Type 0 where
-  pub number : ℕ
+  pub name : Range × ℕ
   pub place : Place
-  pub stands : MarkAt pattern place number
+  pub stands : MarkAt pattern place name
   pub above : AtOrAbove (q ++ place) p
 
 -- A pattern is marked if it holds at least one marked variable (02, No. 2).
 pub record Marked (pattern : Term Variable) : Type 0 where
-  pub number : ℕ
+  pub name : Range × ℕ
   pub place : Place
-  pub stands : MarkAt pattern place number
+  pub stands : MarkAt pattern place name
 
 -- What a bad pattern cancels, where a message at place q is an instance of it (02, No. 2): without marks the hat for
 -- every place p; a marked one "cancels only the protection that its own instances would give as hats, and only for
@@ -37,8 +41,8 @@ pub data Cancels (bad : Term Variable) (q p : Place) : Type 0 where
 -- instance cancels that. The good pattern is named, because its marks count.
 pub record Hat (certificate : Certificate) (good : Term Variable) (m : Message) (q p : Place) : Type 0 where
   pub listed : Good certificate good
-  pub match : Matches good m
-  pub notBad : (bad : Term Variable) → Bad certificate bad → Matches bad m → Cancels bad q p → ⊥
+  pub match : Instance (certificate .atoms) good m
+  pub notBad : (bad : Term Variable) → Bad certificate bad → Instance (certificate .atoms) bad m → Cancels bad q p → ⊥
 
 -- A secret at place p of a message is protected if a hat stands strictly above it and a marked variable of that hat's
 -- good pattern stands at or above it.

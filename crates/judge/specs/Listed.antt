@@ -12,14 +12,16 @@ use Rattle.blocks.specs.Limits.{mostTermBytes, mostTermEntries}
 use Rattle.blocks.specs.Block.{blockAt, kindOf, firstEntries}
 use Rattle.terms.specs.Term.{Term, Variable, asTerm, replace}
 use Rattle.terms.specs.Instance.{Matches, Share}
-use Rattle.terms.specs.Tag.{pairTag, markedTag, SymbolTag, Tagged, anAtom, aPair, aWrapping, aVariable, noTag, tagged}
+use Rattle.terms.specs.declared.atom.Atom.{Atom}
+use Rattle.terms.specs.Nonces.{mostNonces, NoncesIn}
+use Rattle.terms.specs.Tag.{pairTag, MarkedTag, SymbolTag, Tagged, anAtom, aPair, aWrapping, aVariable, noTag, tagged}
 use Rattle.terms.specs.Slot.{slotCount}
 use Rattle.terms.specs.Entry.{Begins, termOf, size, tagAt, valueAt, from}
 use Rattle.terms.specs.TermGraph.{SizesOf}
 use Rattle.terms.specs.Decisions.{dec-map, dec-not, dec-and}
 use Rattle.terms.specs.Search.{any?}
 use Rattle.judge.specs.Certificate.{Certificate}
-use Rattle.judge.specs.File.{patternOf, blockCount}
+use Rattle.judge.specs.File.{patternOf, blockCount, certificateOf}
 use Rattle.judge.specs.Laid.{Laid}
 use Rattle.judge.specs.Hat.{Marked}
 use Rattle.judge.specs.Decisions.{same-term?, is-marked?, matches?, shares?}
@@ -56,27 +58,27 @@ everywhere? kind p = dec-not (dec-and (ℕ-discrete kind badKind) (λ e. is-mark
 
 -- The term is a listed pattern, one that counts for every place, with its variables replaced by terms.
 abbrev pub MatchesEverywhere : Certificate → ℕ → Term Variable → Type 0
-MatchesEverywhere c kind t = AnyListed c kind (λ p. Everywhere kind p × Matches p t)
+MatchesEverywhere c kind t = AnyListed c kind (λ p. Everywhere kind p × Matches (c .atoms) p t)
 
 unfoldable pub matches-everywhere? : (c : Certificate) (kind : ℕ) (t : Term Variable) → Dec (MatchesEverywhere c kind t)
 unfolding any-listed? dec-and everywhere? matches?
-matches-everywhere? c kind t = any-listed? c kind (λ p. dec-and (everywhere? kind p) (λ w. matches? p t))
+matches-everywhere? c kind t = any-listed? c kind (λ p. dec-and (everywhere? kind p) (λ w. matches? (c .atoms) p t))
 
 -- A listed term shares an instance with the term.
 abbrev pub SharesListed : Certificate → ℕ → Term Variable → Type 0
-SharesListed c kind t = AnyListed c kind (λ p. Share p t)
+SharesListed c kind t = AnyListed c kind (λ p. Share (c .atoms) p t)
 
 unfoldable pub shares-listed? : (c : Certificate) (kind : ℕ) (t : Term Variable) → Dec (SharesListed c kind t)
 unfolding any-listed? shares?
-shares-listed? c kind t = any-listed? c kind (λ p. shares? p t)
+shares-listed? c kind t = any-listed? c kind (λ p. shares? (c .atoms) p t)
 
 -- A listed pattern, one that counts for every place, does.
 abbrev pub SharesEverywhere : Certificate → ℕ → Term Variable → Type 0
-SharesEverywhere c kind t = AnyListed c kind (λ p. Everywhere kind p × Share p t)
+SharesEverywhere c kind t = AnyListed c kind (λ p. Everywhere kind p × Share (c .atoms) p t)
 
 unfoldable pub shares-everywhere? : (c : Certificate) (kind : ℕ) (t : Term Variable) → Dec (SharesEverywhere c kind t)
 unfolding any-listed? dec-and everywhere? shares?
-shares-everywhere? c kind t = any-listed? c kind (λ p. dec-and (everywhere? kind p) (λ w. shares? p t))
+shares-everywhere? c kind t = any-listed? c kind (λ p. dec-and (everywhere? kind p) (λ w. shares? (c .atoms) p t))
 
 -- The term is no hat for any place: no good pattern shares an instance with it, or it is a bad one without marks with its
 -- variables replaced by terms.
@@ -94,6 +96,10 @@ IsSecret c t = AnyListed c secretKind (λ p. p ≡ t)
 unfoldable pub is-secret? : (c : Certificate) (t : Term Variable) → Dec (IsSecret c t)
 unfolding any-listed? same-term?
 is-secret? c t = any-listed? c secretKind (λ p. same-term? p t)
+
+-- The atoms of a file.
+abbrev pub atomsIn : List ℕ → List Atom
+atomsIn file = certificateOf file .atoms
 
 -- Block i is of this kind, and its term has P.
 pub record HoldsAt (file : List ℕ) (kind : ℕ) (P : Term Variable → Type 0) (i : ℕ) : Type 0 where
@@ -119,7 +125,7 @@ pub record SizeOf (e : List ℕ) (n : ℕ) : Type 0 where
   pub is : n ≡ size (termOf e)
   pub fits : 4 * n ≤ length e
 
--- Slots of roots: for atoms, pairs and encryptions 256 each, so that no two atoms share one, for variables 16.
+-- Slots of roots: for atoms, pairs and encryptions 256 each, so that no two atoms share one, for variables 32.
 abbrev pub pairRoots : ℕ
 pairRoots = 256
 
@@ -182,15 +188,18 @@ pub record NoRoot (roots e : List ℕ) : Type 0 where
   pub left-symbol : tagAt e ≡ pairTag → SymbolTag (tagAt (drop 4 e))
   pub absent : getD roots (slotAt e) 0 ≡ 0
 
--- Room for what is noted of the listed terms: a row of 64 for each block, and one slot more.
+-- Room for what is noted of a file: a row of 64 for each block, one slot more, and a flag for each atom.
 abbrev pub rowSize : ℕ
 rowSize = 64
 
 abbrev pub listedRows : ℕ
 listedRows = 4096
 
+abbrev pub nonceSlots : ℕ
+nonceSlots = listedRows + 1
+
 abbrev pub listedSizes : ℕ
-listedSizes = listedRows + 1
+listedSizes = nonceSlots + mostNonces
 
 -- The last slot of block i's row, which no size stands in.
 abbrev pub markSlot : ℕ → ℕ
@@ -201,12 +210,12 @@ pub record MarkTag (e : List ℕ) (low high : ℕ) : Type 0 where
   pub number : ℕ
   pub above : low ≤ number
   pub below : number < high
-  pub tag : getD e (4 * number) 0 ≡ markedTag
+  pub tag : MarkedTag (getD e (4 * number) 0)
 
 -- From entry r on there is no such tag, and entry r - 1 has it, if r is not 0.
 pub record LastMark (e : List ℕ) (r : ℕ) : Type 0 where
-  pub behind : (k : ℕ) → r ≤ k → ¬ (getD e (4 * k) 0 ≡ markedTag)
-  pub here : ¬ (r ≡ 0) → getD e (4 * (r - 1)) 0 ≡ markedTag
+  pub behind : (k : ℕ) → r ≤ k → ¬ MarkedTag (getD e (4 * k) 0)
+  pub here : ¬ (r ≡ 0) → MarkedTag (getD e (4 * (r - 1)) 0)
 
 -- Block i is a marked bad pattern.
 abbrev pub MarkedBad : List ℕ → ℕ → Type 0
@@ -215,7 +224,7 @@ MarkedBad file i = (kindOf (blockAt file i) ≡ badKind) × Marked (patternOf (b
 -- What is noted of it: 0 if it is none, and else so many entries that no mark stands behind them.
 pub record Noted (file : List ℕ) (i v : ℕ) : Type 0 where
   pub marked : (¬ (v ≡ 0)) ↔ MarkedBad file i
-  pub behind : kindOf (blockAt file i) ≡ badKind → (k : ℕ) → v ≤ k → ¬ (getD (firstEntries (blockAt file i)) (4 * k) 0 ≡ markedTag)
+  pub behind : kindOf (blockAt file i) ≡ badKind → (k : ℕ) → v ≤ k → ¬ MarkedTag (getD (firstEntries (blockAt file i)) (4 * k) 0)
 
 -- The table has the sizes of the terms that the first n blocks list, those of block i in its row, and in the row's last slot
 -- what is noted of its marks.
@@ -224,10 +233,12 @@ pub record SizesBelow (file : List ℕ) (n : ℕ) (sizes : List ℕ) : Type 0 wh
   pub at : (i : ℕ) → i < n → ListsTerm (kindOf (blockAt file i)) → SizesOf (firstEntries (blockAt file i)) (from (rowSize * i) sizes)
   pub marks : (i : ℕ) → i < n → ListsTerm (kindOf (blockAt file i)) → Noted file i (getD sizes (markSlot i) 0)
 
--- It has those of all blocks; and the slot behind them is 1 if there is a marked bad pattern.
+-- It has those of all blocks; the slot behind them is 1 if there is a marked bad pattern; and then come flags for the
+-- nonces.
 pub record SizesIn (file sizes : List ℕ) : Type 0 where
   pub rows : SizesBelow file (blockCount file) sizes
   pub some : (i : ℕ) → i < blockCount file → MarkedBad file i → getD sizes listedRows 0 ≡ 1
+  pub nonces : NoncesIn (atomsIn file) (from nonceSlots sizes)
 
 -- The entries are those of the term of block i.
 pub record TermPart (file : List ℕ) (i : ℕ) (e : List ℕ) : Type 0 where

@@ -3,7 +3,8 @@ use mathlib.Core.Path.{_≡_}
 use mathlib.Core.List.{List, [], _∷_}
 use mathlib.Core.Option.{none, some}
 use Prim.Native.Nat.{ℕ}
-use Rattle.terms.specs.Term.{Term, atom, pair, encrypted, Message, Variable, Foreign, instance}
+use Rattle.terms.specs.Term.{Term, atom, pair, encrypted, Message, Variable, noVariable, Foreign, instance}
+use Rattle.terms.specs.Instance.{PutsNonces}
 use Rattle.judge.specs.Certificate.{Rule, Certificate, Listed, Known, inverse}
 
 -- What the intruder derives: what it has, pairs of derived messages, {m}k from m and k, both halves of a pair, and m
@@ -23,11 +24,13 @@ pub data Start (certificate : Certificate) (m : Message) : Type 0 where
   known : {a : ℕ} → m ≡ atom a → Known certificate a → Start certificate m
   foreign : {a : ℕ} → m ≡ atom a → Foreign a → Start certificate m
 
--- A step picks a rule and a replacement. (Any number may be an atom or a key here: more runs than the file's own.)
+-- A step picks a rule and a replacement, which gives every nonce variable a nonce (02, No. 3: "and runs do likewise"). (Elsewhere
+-- any number may be an atom or a key: more runs than the file's own.)
 pub record Step (certificate : Certificate) : Type 0 where
   pub rule : Rule
   pub listed : Listed certificate rule
   pub by : Variable → Message
+  pub nonces : PutsNonces (certificate .atoms) noVariable by
 
 -- The premise's instance is derivable from what the intruder has by then, or there is no premise.
 pub data Enabled {certificate : Certificate} (has : Message → Type 0) (step : Step certificate) : Type 0 where

@@ -10,7 +10,7 @@ ghost use Rattle.blocks.specs.Block.{firstEntries, secondEntries};
 ghost use Rattle.terms.specs.Entry.{Begins, termOf, size};
 ghost use Rattle.terms.specs.Decisions.{Says};
 ghost use Rattle.terms.specs.TermGraph.{SizesOf};
-ghost use Rattle.judge.specs.Listed.{rootSlots, HoldsAt, AnyListed, Searching, IsSecret, NeverHat, SharesUnmarked, RootsOf, SizesIn, slotAt};
+ghost use Rattle.judge.specs.Listed.{rootSlots, atomsIn, HoldsAt, AnyListed, Searching, IsSecret, NeverHat, SharesUnmarked, RootsOf, SizesIn, slotAt};
 ghost use Rattle.judge.specs.CoverEntries.{entryFlags};
 ghost use Rattle.judge.specs.File.{blockCount, certificateOf, ruleOf};
 ghost use Rattle.judge.specs.Laid.{Laid, RuleBlock};
@@ -31,8 +31,8 @@ use terms::entry;
 use terms::entry::SIZES;
 use terms::matching;
 use terms::tag::ENCRYPTION;
-use terms::tag::MARKED;
 use terms::tag::PAIR;
+use terms::tag::is_marked;
 use terms::valid::Found;
 
 // Lays the pattern p on the term at entry h: every entry at or below one of its marks is flagged.
@@ -48,33 +48,48 @@ fn mark_cover(p: &[u8], e: &[u8], h: usize, marked: &mut [u8; FLAGS])
         mark_cover(&p[4 * past..], e, right, marked);
     } else if tag == ENCRYPTION {
         mark_cover(&p[4..], e, h + 1, marked);
-    } else if tag == MARKED {
+    } else if is_marked(tag) {
         flag::paint(marked, h, h + entry::term_size(&e[4 * h..]), 1);
     }
 }
 
 // Lays the pattern of block i, if it is of this kind and matches the term at entry h.
-fn lay_pattern(file: &[u8], i: usize, kind: u8, e: &[u8], h: usize, marked: &mut [u8; FLAGS])
-    requires { ⌜ Standing (now file) (now e) h × ListsTerm kind × (i < blockCount (now file)) × (length (now marked) ≡ entryFlags) ⌝ }
-    ensures { λ _. ⌜ Raised (now (marked .entry)) (now (marked .exit)) (λ k. HoldsAt (now (file .entry)) kind (Lays (subAt (now (e .entry)) h) h k) i) ⌝ }
+fn lay_pattern(
+    file: &[u8],
+    sizes: &[u8; LISTED_SIZES],
+    i: usize,
+    kind: u8,
+    e: &[u8],
+    h: usize,
+    marked: &mut [u8; FLAGS],
+)
+    requires { ⌜ Standing (now file) (now e) h × ListsTerm kind × (i < blockCount (now file)) × (length (now marked) ≡ entryFlags) × SizesIn (now file) (now sizes) ⌝ }
+    ensures { λ _. ⌜ Raised (now (marked .entry)) (now (marked .exit)) (λ k. HoldsAt (now (file .entry)) kind (Lays (atomsIn (now (file .entry))) (subAt (now (e .entry)) h) h k) i) ⌝ }
 {
     if listed::is_kind(file, i, kind) {
         let p = listed::term_at(file, i);
-        if matching::matches(p, &e[4 * h..]) {
+        if matching::matches(p, &e[4 * h..], listed::nonces(sizes)) {
             mark_cover(p, e, h, marked);
         }
     }
 }
 
 // Lays every pattern of this kind that matches the term at entry h, from the last block back to the first of a lower kind.
-fn lay_patterns(file: &[u8], kind: u8, e: &[u8], h: usize, marked: &mut [u8; FLAGS])
-    requires { ⌜ Standing (now file) (now e) h × ListsTerm kind × (length (now marked) ≡ entryFlags) ⌝ }
-    ensures { λ _. ⌜ Raised (now (marked .entry)) (now (marked .exit)) (λ k. AnyListed (certificateOf (now (file .entry))) kind (Lays (subAt (now (e .entry)) h) h k)) ⌝ }
+fn lay_patterns(
+    file: &[u8],
+    sizes: &[u8; LISTED_SIZES],
+    kind: u8,
+    e: &[u8],
+    h: usize,
+    marked: &mut [u8; FLAGS],
+)
+    requires { ⌜ Standing (now file) (now e) h × ListsTerm kind × (length (now marked) ≡ entryFlags) × SizesIn (now file) (now sizes) ⌝ }
+    ensures { λ _. ⌜ Raised (now (marked .entry)) (now (marked .exit)) (λ k. AnyListed (certificateOf (now (file .entry))) kind (Lays (atomsIn (now (file .entry))) (subAt (now (e .entry)) h) h k)) ⌝ }
 {
     let count = file.len() / limits::BLOCK_SIZE;
     let mut left = count;
     while 0 < left {
-        lay_pattern(file, left - 1, kind, e, h, marked);
+        lay_pattern(file, sizes, left - 1, kind, e, h, marked);
         if listed::kind_at(file, left - 1) < kind {
             return;
         }
@@ -83,12 +98,18 @@ fn lay_patterns(file: &[u8], kind: u8, e: &[u8], h: usize, marked: &mut [u8; FLA
 }
 
 // The entries at or below a mark of a pattern of this kind that matches the term at entry h.
-fn marked_places(file: &[u8], kind: u8, e: &[u8], h: usize) -> [u8; FLAGS]
-    requires { ⌜ Standing (now file) (now e) h × ListsTerm kind ⌝ }
-    ensures { λ r. ⌜ Flags r (λ k. AnyListed (certificateOf (now (file .entry))) kind (Lays (subAt (now (e .entry)) h) h k)) ⌝ }
+fn marked_places(
+    file: &[u8],
+    sizes: &[u8; LISTED_SIZES],
+    kind: u8,
+    e: &[u8],
+    h: usize,
+) -> [u8; FLAGS]
+    requires { ⌜ Standing (now file) (now e) h × ListsTerm kind × SizesIn (now file) (now sizes) ⌝ }
+    ensures { λ r. ⌜ Flags r (λ k. AnyListed (certificateOf (now (file .entry))) kind (Lays (atomsIn (now (file .entry))) (subAt (now (e .entry)) h) h k)) ⌝ }
 {
     let mut marked = [0u8; FLAGS];
-    lay_patterns(file, kind, e, h, &mut marked);
+    lay_patterns(file, sizes, kind, e, h, &mut marked);
     marked
 }
 
@@ -113,7 +134,7 @@ fn mark_around(
         return false;
     }
     let tag = p[4 * i];
-    if tag == MARKED {
+    if is_marked(tag) {
         flag::paint(around, h, entry::end_of(e, z, h), 1);
         return true;
     }
@@ -157,7 +178,7 @@ fn drop_exception(
     hats: &mut [u8; FLAGS],
 )
     requires { ⌜ Standing (now file) (now e) h × (i < blockCount (now file)) × (length (now hats) ≡ entryFlags) × SizesIn (now file) (now sizes) × SizesOf (now e) (now z) ⌝ }
-    ensures { λ _. ⌜ Cleared (now (hats .entry)) (now (hats .exit)) (λ k. HoldsAt (now (file .entry)) badKind (LaysAround (subAt (now (e .entry)) h) h k) i) ⌝ }
+    ensures { λ _. ⌜ Cleared (now (hats .entry)) (now (hats .exit)) (λ k. HoldsAt (now (file .entry)) badKind (LaysAround (atomsIn (now (file .entry))) (subAt (now (e .entry)) h) h k) i) ⌝ }
 {
     if listed::is_kind(file, i, kinds::BAD) {
         let last = listed::last_mark_of(sizes, i);
@@ -192,7 +213,7 @@ fn drop_exceptions(
     hats: &mut [u8; FLAGS],
 )
     requires { ⌜ Standing (now file) (now e) h × (length (now hats) ≡ entryFlags) × SizesIn (now file) (now sizes) × SizesOf (now e) (now z) ⌝ }
-    ensures { λ _. ⌜ Cleared (now (hats .entry)) (now (hats .exit)) (λ k. AnyListed (certificateOf (now (file .entry))) badKind (LaysAround (subAt (now (e .entry)) h) h k)) ⌝ }
+    ensures { λ _. ⌜ Cleared (now (hats .entry)) (now (hats .exit)) (λ k. AnyListed (certificateOf (now (file .entry))) badKind (LaysAround (atomsIn (now (file .entry))) (subAt (now (e .entry)) h) h k)) ⌝ }
 {
     if !listed::some_marked(sizes) {
         return;
@@ -249,7 +270,7 @@ fn take_hat(
     ensures flags { λ _. ⌜ Cleared (now (bare .entry)) (now (bare .exit)) (HatOver (certificateOf (now (file .entry))) (subAt (now (e .entry)) h) h) ⌝ }
 {
     if !shares_bad(file, sizes, e, z, h, shared) {
-        let mut hats = marked_places(file, kinds::GOOD, e, h);
+        let mut hats = marked_places(file, sizes, kinds::GOOD, e, h);
         drop_exceptions(file, sizes, e, z, h, &mut hats);
         flag::clear(bare, &hats);
     }
@@ -338,10 +359,10 @@ fn never_hat_at(
 // The entries that a marked bad pattern leaves open below the encryption at entry h.
 fn excepted_places(file: &[u8], sizes: &[u8; LISTED_SIZES], e: &[u8], h: usize) -> [u8; FLAGS]
     requires { ⌜ Standing (now file) (now e) h × SizesIn (now file) (now sizes) ⌝ }
-    ensures { λ r. ⌜ Flags r (λ k. AnyListed (certificateOf (now (file .entry))) badKind (Lays (subAt (now (e .entry)) h) h k)) ⌝ }
+    ensures { λ r. ⌜ Flags r (λ k. AnyListed (certificateOf (now (file .entry))) badKind (Lays (atomsIn (now (file .entry))) (subAt (now (e .entry)) h) h k)) ⌝ }
 {
     if listed::some_marked(sizes) {
-        marked_places(file, kinds::BAD, e, h)
+        marked_places(file, sizes, kinds::BAD, e, h)
     } else {
         [0u8; FLAGS]
     }
@@ -545,29 +566,34 @@ fn is_secret(file: &[u8], roots: &[u8; ROOT_SLOTS], t: &[u8]) -> bool
 }
 
 // Is the term a variable, or does it share an instance with a secret?
-fn is_risky(file: &[u8], roots: &[u8; ROOT_SLOTS], t: &[u8]) -> bool
-    requires { ⌜ Searching (now file) secretKind (now t) × RootsOf (now file) (now roots) ⌝ }
+fn is_risky(file: &[u8], roots: &[u8; ROOT_SLOTS], sizes: &[u8; LISTED_SIZES], t: &[u8]) -> bool
+    requires { ⌜ Searching (now file) secretKind (now t) × RootsOf (now file) (now roots) × SizesIn (now file) (now sizes) ⌝ }
     ensures { λ r. ⌜ Says r (Risky (certificateOf (now (file .entry))) (termOf (now (t .entry)))) ⌝ }
 {
     if t[0] > 3 {
         true
     } else if listed::may_be_secret(roots, t) {
-        listed::shares_secret(file, t)
+        listed::shares_secret(file, sizes, t)
     } else {
         false
     }
 }
 
 // The risky entries of a conclusion.
-fn risky_places(file: &[u8], roots: &[u8; ROOT_SLOTS], e: &[u8]) -> [u8; FLAGS]
-    requires { ⌜ Concluded (now file) (now e) × RootsOf (now file) (now roots) ⌝ }
+fn risky_places(
+    file: &[u8],
+    roots: &[u8; ROOT_SLOTS],
+    sizes: &[u8; LISTED_SIZES],
+    e: &[u8],
+) -> [u8; FLAGS]
+    requires { ⌜ Concluded (now file) (now e) × RootsOf (now file) (now roots) × SizesIn (now file) (now sizes) ⌝ }
     ensures { λ r. ⌜ Flags r (RiskyEntry (certificateOf (now (file .entry))) (now (e .entry))) ⌝ }
 {
     let mut risky = [0u8; FLAGS];
     let count = e.len() / 4;
     let mut k = 0;
     while k < count {
-        risky[k] = flag::flag_of(is_risky(file, roots, &e[4 * k..]));
+        risky[k] = flag::flag_of(is_risky(file, roots, sizes, &e[4 * k..]));
         k += 1;
     }
     risky
@@ -694,7 +720,7 @@ pub fn uncovered(
 {
     let premise = blocks::first_entries(block);
     let conclusion = blocks::second_entries(block);
-    let risky = risky_places(file, roots, conclusion);
+    let risky = risky_places(file, roots, sizes, conclusion);
     let wanted = wanted_places(file, roots, premise, conclusion, &risky);
     let opened = open_places(file, sizes, premise, above, wanted);
     if is_dead(file, roots, premise, &opened) {

@@ -12,6 +12,8 @@ ghost use Rattle.terms.specs.Instance.{Matches, Share};
 ghost use Rattle.terms.specs.Entry.{Begins, termOf, from};
 ghost use Rattle.terms.specs.OneTerm.{IsEncryption};
 ghost use Rattle.terms.specs.TermGraph.{SizesOf};
+ghost use Rattle.terms.specs.Sizes.{KeptBelow};
+ghost use Rattle.terms.specs.Nonces.{NoncesIn};
 ghost use Rattle.terms.specs.Decisions.{Says};
 ghost use Rattle.terms.specs.Decide.{answer};
 ghost use Rattle.judge.specs.Certificate.{Secret, inverse};
@@ -20,8 +22,9 @@ ghost use Rattle.judge.specs.Laid.{Laid, TermBlock};
 ghost use Rattle.judge.specs.Conditions.{KnownAtom, WeaklyClosed, KeptKey};
 ghost use Rattle.judge.specs.Judgement.{judgedOf};
 ghost use Rattle.judge.specs.Verdict.{onKind, kindAsked, Meets, faultOn, conditionAt, conditionFault};
-ghost use Rattle.judge.specs.Listed.{HoldsAt, HeldAmong, Searching, TermPart, Everywhere, matches-everywhere?, shares-listed?, shares-everywhere?, is-secret?};
-ghost use Rattle.judge.specs.Listed.{rootSlots, slotAt, FlaggedMore, RootsOf, NoRoot, SizesBelow, SizesIn, SizeOf, rowSize, listedRows, listedSizes, markSlot, MarkedBad, MarkTag, LastMark, Noted};
+ghost use Rattle.judge.specs.Listed.{atomsIn, HoldsAt, HeldAmong, Searching, TermPart, Everywhere, matches-everywhere?, shares-listed?, shares-everywhere?, is-secret?};
+ghost use Rattle.judge.specs.Listed.{rootSlots, slotAt, FlaggedMore, RootsOf, NoRoot, SizesBelow, SizesIn, SizeOf, rowSize, listedRows, nonceSlots, listedSizes, markSlot, MarkedBad, MarkTag, LastMark, Noted};
+use crate::atoms;
 use crate::atoms::atom_at;
 use crate::flag;
 use crate::form::Judged;
@@ -29,13 +32,15 @@ use crate::verdict::Fault;
 use blocks::kinds;
 use blocks::limits;
 use blocks::wide;
+use terms::atom;
+use terms::atom::NONCES;
 use terms::entry;
 use terms::matching;
 use terms::sharing;
 use terms::tag::ENCRYPTION;
-use terms::tag::MARKED;
 use terms::tag::PAIR;
 use terms::tag::SLOTS;
+use terms::tag::is_marked;
 use terms::tag::is_variable;
 
 // What numbers 9, 10 and 11 ask of the blocks of one kind.
@@ -90,6 +95,15 @@ pub fn row(sizes: &[u8; LISTED_SIZES], i: usize) -> &[u8]
     &all[ROW * i..]
 }
 
+// The flags of the nonces, in the table.
+pub fn nonces(sizes: &[u8; LISTED_SIZES]) -> &[u8]
+    requires { ⌜ length (now sizes) ≡ listedSizes ⌝ }
+    ensures { λ r. ⌜ now r ≡ from nonceSlots (now (sizes .entry)) ⌝ }
+{
+    let all = &sizes[..];
+    &all[NONCE_SLOTS..]
+}
+
 // Is there a marked bad pattern, by the table?
 pub fn some_marked(sizes: &[u8; LISTED_SIZES]) -> bool
     requires { ⌜ length (now sizes) ≡ listedSizes ⌝ }
@@ -102,13 +116,13 @@ pub fn some_marked(sizes: &[u8; LISTED_SIZES]) -> bool
 // replaced?
 fn matches_at(file: &[u8], sizes: &[u8; LISTED_SIZES], i: usize, kind: u8, e: &[u8]) -> bool
     requires { ⌜ Searching (now file) kind (now e) × (i < blockCount (now file)) × SizesIn (now file) (now sizes) ⌝ }
-    ensures { λ r. ⌜ Says r (HoldsAt (now (file .entry)) kind (λ p. Everywhere kind p × Matches p (termOf (now (e .entry)))) i) ⌝ }
+    ensures { λ r. ⌜ Says r (HoldsAt (now (file .entry)) kind (λ p. Everywhere kind p × Matches (atomsIn (now (file .entry))) p (termOf (now (e .entry)))) i) ⌝ }
 {
     if is_kind(file, i, kind) {
         if last_mark_of(sizes, i) != 0 {
             return false;
         }
-        matching::matches(term_at(file, i), e)
+        matching::matches(term_at(file, i), e, nonces(sizes))
     } else {
         false
     }
@@ -144,10 +158,10 @@ fn shares_at(
     z: &[u8],
 ) -> bool
     requires { ⌜ Searching (now file) kind (now e) × (i < blockCount (now file)) × SizesIn (now file) (now sizes) × SizesOf (now e) (now z) ⌝ }
-    ensures { λ r. ⌜ Says r (HoldsAt (now (file .entry)) kind (λ p. Share p (termOf (now (e .entry)))) i) ⌝ }
+    ensures { λ r. ⌜ Says r (HoldsAt (now (file .entry)) kind (λ p. Share (atomsIn (now (file .entry))) p (termOf (now (e .entry)))) i) ⌝ }
 {
     if is_kind(file, i, kind) {
-        sharing::shares(term_at(file, i), e, row(sizes, i), z)
+        sharing::shares(term_at(file, i), e, row(sizes, i), z, nonces(sizes))
     } else {
         false
     }
@@ -165,7 +179,7 @@ pub fn shares_among(
     z: &[u8],
 ) -> bool
     requires { ⌜ Searching (now file) kind (now e) × SizesIn (now file) (now sizes) × SizesOf (now e) (now z) × (low ≤ high) × (high ≤ blockCount (now file)) ⌝ }
-    ensures { λ r. ⌜ Says r (HeldAmong (now (file .entry)) kind (λ p. Share p (termOf (now (e .entry)))) low high) ⌝ }
+    ensures { λ r. ⌜ Says r (HeldAmong (now (file .entry)) kind (λ p. Share (atomsIn (now (file .entry))) p (termOf (now (e .entry)))) low high) ⌝ }
 {
     let mut left = high;
     while low < left {
@@ -192,7 +206,7 @@ pub fn shares_listed(file: &[u8], sizes: &[u8; LISTED_SIZES], kind: u8, e: &[u8]
 // Does block i, if it is a bad one without marks, share an instance with e's term?
 fn unmarked_shares(file: &[u8], sizes: &[u8; LISTED_SIZES], i: usize, e: &[u8], z: &[u8]) -> bool
     requires { ⌜ Searching (now file) badKind (now e) × (i < blockCount (now file)) × SizesIn (now file) (now sizes) × SizesOf (now e) (now z) ⌝ }
-    ensures { λ r. ⌜ Says r (HoldsAt (now (file .entry)) badKind (λ p. Everywhere badKind p × Share p (termOf (now (e .entry)))) i) ⌝ }
+    ensures { λ r. ⌜ Says r (HoldsAt (now (file .entry)) badKind (λ p. Everywhere badKind p × Share (atomsIn (now (file .entry))) p (termOf (now (e .entry)))) i) ⌝ }
 {
     if is_kind(file, i, kinds::BAD) {
         if 0 < last_mark_of(sizes, i) {
@@ -275,16 +289,16 @@ pub fn is_listed_secret(file: &[u8], e: &[u8]) -> bool
 
 // Is block i a secret's, and its secret an instance of e's term, which has n entries? A secret has no variables: they then
 // share it. An instance has no fewer entries.
-fn instance_at(file: &[u8], i: usize, e: &[u8], n: usize) -> bool
-    requires { ⌜ Searching (now file) secretKind (now e) × (i < blockCount (now file)) × SizeOf (now e) n ⌝ }
-    ensures { λ r. ⌜ Says r (HoldsAt (now (file .entry)) secretKind (λ p. Share p (termOf (now (e .entry)))) i) ⌝ }
+fn instance_at(file: &[u8], sizes: &[u8; LISTED_SIZES], i: usize, e: &[u8], n: usize) -> bool
+    requires { ⌜ Searching (now file) secretKind (now e) × (i < blockCount (now file)) × SizeOf (now e) n × SizesIn (now file) (now sizes) ⌝ }
+    ensures { λ r. ⌜ Says r (HoldsAt (now (file .entry)) secretKind (λ p. Share (atomsIn (now (file .entry))) p (termOf (now (e .entry)))) i) ⌝ }
 {
     if is_kind(file, i, kinds::SECRET) {
         let secret = term_at(file, i);
         if secret.len() < 4 * n {
             return false;
         }
-        matching::matches(e, secret)
+        matching::matches(e, secret, nonces(sizes))
     } else {
         false
     }
@@ -292,15 +306,15 @@ fn instance_at(file: &[u8], i: usize, e: &[u8], n: usize) -> bool
 
 // Does a listed secret share an instance with the term that e begins with? Asked from the first block to the first of a
 // higher kind.
-pub fn shares_secret(file: &[u8], e: &[u8]) -> bool
-    requires { ⌜ Searching (now file) secretKind (now e) ⌝ }
+pub fn shares_secret(file: &[u8], sizes: &[u8; LISTED_SIZES], e: &[u8]) -> bool
+    requires { ⌜ Searching (now file) secretKind (now e) × SizesIn (now file) (now sizes) ⌝ }
     ensures { λ r. ⌜ r ≡ answer (shares-listed? (certificateOf (now (file .entry))) secretKind (termOf (now (e .entry)))) ⌝ }
 {
     let n = entry::term_size(e);
     let count = file.len() / limits::BLOCK_SIZE;
     let mut i = 0;
     while i < count {
-        if instance_at(file, i, e, n) {
+        if instance_at(file, sizes, i, e, n) {
             return true;
         }
         if kinds::SECRET < kind_at(file, i) {
@@ -326,7 +340,7 @@ pub fn has_mark(e: &[u8], low: usize, high: usize) -> bool
 {
     let mut k = low;
     while k < high {
-        if e[4 * k] == MARKED {
+        if is_marked(e[4 * k]) {
             return true;
         }
         k += 1;
@@ -341,7 +355,7 @@ fn last_mark(e: &[u8]) -> usize
 {
     let mut left = e.len() / 4;
     while 0 < left {
-        if e[4 * (left - 1)] == MARKED {
+        if is_marked(e[4 * (left - 1)]) {
             return left;
         }
         left -= 1;
@@ -376,7 +390,20 @@ fn fill_row(file: &[u8], i: usize, sizes: &mut [u8; LISTED_SIZES]) -> bool
     marked
 }
 
-// What is noted of all listed terms: the sizes of block i's in its row, and which bad patterns are marked.
+// Puts the flags of the nonces in their place.
+fn put_nonces(file: &[u8], sizes: &mut [u8; LISTED_SIZES])
+    requires { ⌜ Laid (now file) × (length (now sizes) ≡ listedSizes) ⌝ }
+    ensures { λ _. ⌜ NoncesIn (atomsIn (now (file .entry))) (from nonceSlots (now (sizes .exit))) × KeptBelow nonceSlots (now (sizes .entry)) (now (sizes .exit)) ⌝ }
+{
+    let flags = atom::nonces(atoms::first(file), atoms::more(file));
+    let mut k = 0;
+    while k < NONCES {
+        sizes[NONCE_SLOTS + k] = flags[k];
+        k += 1;
+    }
+}
+
+// What is noted of a file: the sizes of block i's term in its row, which bad patterns are marked, and which atoms are nonces.
 pub fn listed_sizes(file: &[u8]) -> [u8; LISTED_SIZES]
     requires { ⌜ Laid (now file) ⌝ }
     ensures { λ r. ⌜ SizesIn (now (file .entry)) r ⌝ }
@@ -390,18 +417,21 @@ pub fn listed_sizes(file: &[u8]) -> [u8; LISTED_SIZES]
         i += 1;
     }
     sizes[ROWS] = some;
+    put_nonces(file, &mut sizes);
     sizes
 }
 
-// Room for what is noted of the listed terms: a row of 64 for each block, with the sizes of its subterms and, in the last slot,
-// where the last mark of a bad pattern stands; and behind the rows whether any is marked.
+// Room for what is noted of a file: a row of 64 for each block, with the sizes of its subterms and, in the last slot, where the
+// last mark of a bad pattern stands; behind the rows whether any is marked; and then a flag for each atom.
 const ROW: usize = 64;
 
 const MARK_SLOT: usize = limits::MOST_TERM_ENTRIES;
 
 const ROWS: usize = 4096;
 
-pub const LISTED_SIZES: usize = ROWS + 1;
+const NONCE_SLOTS: usize = ROWS + 1;
+
+pub const LISTED_SIZES: usize = NONCE_SLOTS + NONCES;
 
 // The slots of roots: those of atoms from 0, then those of pairs, of encryptions and of variables.
 const PAIR_ROOTS: usize = 256;
@@ -413,7 +443,7 @@ const VARIABLE_ROOTS: usize = 768;
 pub const ROOT_SLOTS: usize = VARIABLE_ROOTS + SLOTS;
 
 // The slot of the root of the term that e begins with. Atoms, pairs and encryptions have 256 slots each, by the root's
-// value; a pair's value is always 0, so its left half's root is asked instead. Variables have 16.
+// value; a pair's value is always 0, so its left half's root is asked instead. Variables have 32.
 pub fn root_slot(e: &[u8]) -> usize
     requires { ⌜ Begins (now e) ⌝ }
     ensures { λ r. ⌜ (r ≡ slotAt (now (e .entry))) × (r < rootSlots) ⌝ }

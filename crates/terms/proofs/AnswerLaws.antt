@@ -1,10 +1,10 @@
 -- Laws of answers: what the answer of a decision says, and what the answers of tests say.
 use mathlib.Core.Path.{_≡_, refl, sym}
 use mathlib.Core.Bool.{Bool, true, false, true≢false, false≢true}
-use Prim.Native.Nat.{ℕ, _<_}
+use Prim.Native.Nat.{ℕ, _<_, _≤_}
 use native.Mathlib.Omega.{arith}
-use lib.Dec.{eqb, ltb}
-use borrow.Author.Tests.{eqb-true, eqb-false, ltb-true, ltb-false}
+use lib.Dec.{eqb, ltb, leb}
+use borrow.Author.Tests.{eqb-true, eqb-false, ltb-true, ltb-false, leb-true, leb-false}
 use Rattle.terms.specs.Decisions.{Says}
 use Rattle.terms.specs.Decide.{answer}
 
@@ -55,6 +55,13 @@ says-lt a b = go (ltb a b) refl
     go : (t : Bool) → ltb a b ≡ t → Says t (a < b)
     go true e = ltb-true a b e
     go false e = λ h. omega (arith, ltb-false a b e)
+
+pub says-le : (a b : ℕ) → Says (leb a b) (a ≤ b)
+says-le a b = go (leb a b) refl
+  where
+    go : (t : Bool) → leb a b ≡ t → Says t (a ≤ b)
+    go true e = leb-true a b e
+    go false e = λ h. omega (arith, leb-false a b e)
 
 -- What a true answer says, and a false one.
 pub says-yes : {P : Type 0} (b : Bool) → Says b P → b ≡ true → P

@@ -6,10 +6,11 @@ use Prim.Native.Nat.{ℕ}
 use native.Mathlib.Omega.{arith}
 use native.Mathlib.Decide.{decLt, decLe}
 use lib.ListN.{length}
-use Rattle.terms.specs.Term.{Term, variable, atom, pair, Variable, replace, wrapped}
-use Rattle.terms.specs.Instance.{Matches, Share}
+use Rattle.terms.specs.Term.{Term, variable, atom, pair, Variable, Range, replace, wrapped}
+use Rattle.terms.specs.Instance.{NonceTerm, Replaced, Share}
 use Rattle.terms.specs.declared.atom.Atom.{Atom}
-use Rattle.terms.specs.Atom.{IsKey, isKey?}
+use Rattle.terms.specs.Atom.{IsKey, isKey?, Nonce, listedNonce, foreignNonce}
+use Rattle.terms.proofs.AtomLaws.{kind-listed}
 use Rattle.terms.specs.Occurs.{replace-none}
 use Rattle.terms.specs.Decide.{answer}
 use Rattle.terms.specs.Built.{Built, BuiltMatch, BuiltShare, MessageAtom}
@@ -65,30 +66,54 @@ module _ {A K : ℕ → Type 0} (A? : (a : ℕ) → Dec (A a)) (K? : (k : ℕ) �
   unfolding mend
   mend-same t b = ap mend (sym (replace-none t)) ∙ mend-replace variable t b ∙ replace-none t
 
-  -- A match of built terms is one by built terms.
-  pub built-match : {X Y : Type 0} {p : Term X} {t : Term Y} → Built A K p → Built A K t → Matches p t → BuiltMatch A K p t
-  built-match {p = p} {t = t} bp bt m = record {
-    match = record { by = λ x. mend (m .by x); same = sym (mend-replace (m .by) p bp) ∙ ap mend (m .same) ∙ mend-same t bt };
-    built = λ x. mend-built (m .by x);
-  }
+  -- Where A has all nonces, a nonce stays one.
+  module _ (atoms : List Atom) (all : (a : ℕ) → Nonce atoms a → A a) where
+    mend-nonce : {Y : Type 0} (range : Y → Range) (t : Term Y) → NonceTerm atoms range t → NonceTerm atoms range (mend t)
+    unfolding NonceTerm mend
+    mend-nonce range (variable y) is = is
+    mend-nonce {Y} range (atom a) is = go (A? a)
+      where
+        go : (q : Dec (A a)) → NonceTerm atoms range (elim q [ yes p ↦ atom a | no n ↦ atom f ])
+        go (yes p) = is
+        go (no n) = absurd (n (all a is))
+    mend-nonce range (pair t u) is = is
+    mend-nonce range (wrapped w k t) is = absurd is
 
-  -- Built terms that share an instance share a built one.
-  pub built-share : {X Y : Type 0} {s : Term X} {t : Term Y} → Built A K s → Built A K t → Share s t → BuiltShare A K s t
-  built-share {s = s} {t = t} bs bt c = record {
-    share = record {
-      message = mend (c .message);
-      left = record { by = λ x. mend (c .left .by x); same = sym (mend-replace (c .left .by) s bs) ∙ ap mend (c .left .same) };
-      right = record { by = λ y. mend (c .right .by y); same = sym (mend-replace (c .right .by) t bt) ∙ ap mend (c .right .same) };
-    };
-    message = mend-built (c .message);
-    left = λ x. mend-built (c .left .by x);
-    right = λ y. mend-built (c .right .by y);
-  }
+    mended : {Y : Type 0} {range : Y → Range} {p : Term Variable} {t : Term Y} → Built A K p → Replaced atoms range p t → Replaced atoms range p (mend t)
+    mended {range = range} {p = p} bp m = record {
+      by = λ x. mend (m .by x);
+      nonces = λ x is. mend-nonce range (m .by x) (m .nonces x is);
+      same = sym (mend-replace (m .by) p bp) ∙ ap mend (m .same);
+    }
 
-  -- So the restriction changes no answer.
-  pub built-answer : {X Y : Type 0} {s : Term X} {t : Term Y} → Built A K s → Built A K t
-      → (d : Dec (Share s t)) (e : Dec (BuiltShare A K s t)) → answer d ≡ answer e
-  built-answer bs bt d e = answer-same d e (built-share bs bt) (λ b. b .share)
+    -- A match of built terms is one by built terms.
+    pub built-match : {Y : Type 0} {range : Y → Range} {p : Term Variable} {t : Term Y} → Built A K p → Built A K t → Replaced atoms range p t
+        → BuiltMatch A K atoms range p t
+    unfolding mended
+    built-match {t = t} bp bt m = let n = mended bp m in record {
+      match = record { by = n .by; nonces = n .nonces; same = n .same ∙ mend-same t bt };
+      built = λ x. mend-built (m .by x);
+    }
+
+    -- Built terms that share an instance share a built one.
+    pub built-share : {s t : Term Variable} → Built A K s → Built A K t → Share atoms s t → BuiltShare A K atoms s t
+    unfolding mended
+    built-share bs bt c = record {
+      share = record { message = mend (c .message); left = mended bs (c .left); right = mended bt (c .right) };
+      message = mend-built (c .message);
+      left = λ x. mend-built (c .left .by x);
+      right = λ y. mend-built (c .right .by y);
+    }
+
+    -- So the restriction changes no answer.
+    pub built-answer : {s t : Term Variable} → Built A K s → Built A K t
+        → (d : Dec (Share atoms s t)) (e : Dec (BuiltShare A K atoms s t)) → answer d ≡ answer e
+    built-answer bs bt d e = answer-same d e (built-share bs bt) (λ b. b .share)
+
+-- A nonce is a message's atom.
+pub nonce-atom : {atoms : List Atom} (a : ℕ) → Nonce atoms a → MessageAtom atoms a
+nonce-atom {atoms} a (listedNonce is) = inl (kind-listed atoms a (omega arith))
+nonce-atom a (foreignNonce far) = inr far
 
 message-atom? : (atoms : List Atom) (a : ℕ) → Dec (MessageAtom atoms a)
 message-atom? atoms a = elim (decLt a (length atoms)) [
@@ -104,6 +129,6 @@ message-built (encryptedRight i w) = (i, message-built w)
 message-built (variableRight l k) = tt
 
 pub message-share : {atoms : List Atom} {i j : ℕ} {s t : Term Variable} → TermRight atoms i s → TermRight atoms j t
-    → Share s t ↔ BuiltShare (MessageAtom atoms) (IsKey atoms) s t
+    → Share atoms s t ↔ BuiltShare (MessageAtom atoms) (IsKey atoms) atoms s t
 message-share {atoms} w v =
-    (built-share (message-atom? atoms) (isKey? atoms) 1000 (inr (omega arith)) (message-built w) (message-built v), λ b. b .share)
+    (built-share (message-atom? atoms) (isKey? atoms) 1000 (inr (omega arith)) atoms nonce-atom (message-built w) (message-built v), λ b. b .share)

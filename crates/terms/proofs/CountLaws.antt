@@ -28,16 +28,16 @@ unfolding withZero symbolOf tagOf
 symbol-tag (suc z) tag v e = absurd (none≢some _ e)
 symbol-tag zero tag v {s} e = go (tagged tag) v e
   where
-    variable-of : (sort : Sort) → tag ≡ sortTag sort → (v : ℕ) (b : Bool) → numbered b (named sort v) ≡ some s → tagOf s ≡ tag
-    variable-of sort g v true q = let same : s ≡ variableSymbol (named sort v) = cc in rw (same, g) refl
-    variable-of sort g v false q = absurd (none≢some _ q)
+    variable-of : (σ : Sort) → tag ≡ sortTag σ → (v : ℕ) (b : Bool) → numbered b (named σ v) ≡ some s → tagOf s ≡ tag
+    variable-of σ g v true q = let same : s ≡ variableSymbol (named σ v) = cc in rw (same, g) refl
+    variable-of σ g v false q = absurd (none≢some _ q)
 
     go : (w : Tagged tag) (v : ℕ) → symbolBy w v ≡ some s → tagOf s ≡ tag
     go (anAtom g) v e = let same : s ≡ atomSymbol v = cc in rw (same, g) refl
     go (aPair g) zero e = let same : s ≡ pairSymbol = cc in rw (same, g) refl
     go (aPair g) (suc v) e = absurd (none≢some _ e)
     go (aWrapping w g) v e = let same : s ≡ wrapperSymbol w v = cc in rw (same, g) refl
-    go (aVariable sort g) v e = variable-of sort g v (ltb v variables) e
+    go (aVariable σ g) v e = variable-of σ g v (ltb v variables) e
     go (noTag g) v e = absurd (none≢some _ e)
 
 -- So many terms were read.

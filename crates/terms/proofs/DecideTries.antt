@@ -1,27 +1,44 @@
 -- Worked cases of matching and sharing, by computation.
 use mathlib.Core.Path.{_≡_, refl}
 use mathlib.Core.Bool.{Bool, true, false}
-use Rattle.terms.specs.Term.{Term, variable, atom, pair, encrypted, plain, marked, Variable, named}
+use Rattle.terms.specs.Term.{Term, variable, atom, pair, encrypted, sort, plain, marked, anyMessage, oneNonce, Variable, named}
+use mathlib.Core.List.{List, [], _∷_}
+use Rattle.terms.specs.declared.atom.Atom.{Atom}
+use Rattle.terms.specs.Atom.{atomsOf}
 use Rattle.terms.specs.Decide.{answer, variable?, term?, match?, share?}
 
 -- x, y and x′ of the cases.
 abbrev x : Term Variable
-x = variable (named plain 0)
+x = variable (named (sort plain anyMessage) 0)
 
 abbrev y : Term Variable
-y = variable (named plain 1)
+y = variable (named (sort plain anyMessage) 1)
 
 abbrev x′ : Term Variable
-x′ = variable (named marked 0)
+x′ = variable (named (sort marked anyMessage) 0)
+
+-- Nonce variables, plain and marked, of the numbers 0 and 1.
+abbrev n : Term Variable
+n = variable (named (sort plain oneNonce) 0)
+
+abbrev m : Term Variable
+m = variable (named (sort plain oneNonce) 1)
+
+abbrev n′ : Term Variable
+n′ = variable (named (sort marked oneNonce) 0)
+
+-- Five atoms, one of each kind: 0 a principal, 1 a nonce, 2 to 4 keys.
+atoms : List Atom
+atoms = atomsOf (1 ∷ 1 ∷ 0 ∷ 0 ∷ 2 ∷ 0 ∷ 0 ∷ 0 ∷ 3 ∷ 1 ∷ 3 ∷ 0 ∷ 4 ∷ 0 ∷ 2 ∷ 0 ∷ 5 ∷ 0 ∷ 4 ∷ 0 ∷ [])
 
 -- Do two terms with variables of a file share an instance? Does a pattern match a term?
 shared : Term Variable → Term Variable → Bool
-unfolding share? variable?
-shared s t = answer (share? variable? variable? s t)
+unfolding share? atoms atomsOf
+shared s t = answer (share? atoms s t)
 
 matched : Term Variable → Term Variable → Bool
-unfolding match? variable?
-matched p t = answer (match? variable? variable? p t)
+unfolding match? atoms atomsOf
+matched p t = answer (match? atoms p t)
 
 -- A message cannot be (T, itself).
 cyclic : shared (pair x x) (pair x (pair (atom 7) x)) ≡ false
@@ -73,3 +90,67 @@ same-terms = refl
 other-mark : answer (term? variable? (pair x y) (pair x′ y)) ≡ false
 unfolding term? variable?
 other-mark = refl
+
+-- Nonce variables (02, No. 3): a nonce may stand there, listed or foreign, and nothing else.
+a-nonce : matched n (atom 1) ≡ true
+unfolding matched
+a-nonce = refl
+
+a-foreign-nonce : matched n (atom 1000) ≡ true
+unfolding matched
+a-foreign-nonce = refl
+
+a-principal : matched n (atom 0) ≡ false
+unfolding matched
+a-principal = refl
+
+a-key : matched n (atom 2) ≡ false
+unfolding matched
+a-key = refl
+
+a-pair : matched n (pair (atom 1) (atom 1)) ≡ false
+unfolding matched
+a-pair = refl
+
+an-encryption : matched n (encrypted 2 (atom 1)) ≡ false
+unfolding matched
+an-encryption = refl
+
+-- A plain variable does not match a nonce variable of a pattern; another nonce variable does; both share with it.
+a-plain-variable : matched n x ≡ false
+unfolding matched
+a-plain-variable = refl
+
+a-nonce-variable : matched (pair n n′) (pair m n) ≡ true
+unfolding matched
+a-nonce-variable = refl
+
+taken-by-a-plain-one : matched x n ≡ true
+unfolding matched
+taken-by-a-plain-one = refl
+
+shared-with-a-plain-one : shared n x ≡ true
+unfolding shared
+shared-with-a-plain-one = refl
+
+-- The four sorts of one number are four variables.
+four-sorts : matched (pair (pair x x′) (pair n n′)) (pair (pair (atom 0) (atom 2)) (pair (atom 1) m)) ≡ true
+unfolding matched
+four-sorts = refl
+
+-- A class that meets a nonce variable first and an encryption later; a key later; a nonce later.
+met-an-encryption-later : shared (pair x (pair x x)) (pair n (pair y (encrypted 2 y))) ≡ false
+unfolding shared
+met-an-encryption-later = refl
+
+met-a-key-later : shared (pair x (pair x x)) (pair n (pair y (atom 4))) ≡ false
+unfolding shared
+met-a-key-later = refl
+
+met-a-nonce-later : shared (pair x (pair x x)) (pair n (pair y (atom 1))) ≡ true
+unfolding shared
+met-a-nonce-later = refl
+
+inside-what-is-taken : shared (pair x x) (pair (encrypted 2 n) (encrypted 2 (atom 0))) ≡ false
+unfolding shared
+inside-what-is-taken = refl

@@ -12,10 +12,10 @@ use borrow.Author.Tests.{ltb-true, lt-ltb, le-ltb, eq-eqb, ne-eqb}
 use borrow.Rule.Slice.PartAt.{part-to-end}
 use Rattle.blocks.specs.Kinds.{secretKind, goodKind, badKind}
 use Rattle.terms.specs.declared.valid.Found.the-variants.{At, Nothing}
-use Rattle.terms.specs.Term.{Sort, plain, marked}
+use Rattle.terms.specs.Term.{Sort, sort, plain, marked, Range, anyMessage, oneNonce}
 use Rattle.terms.specs.declared.atom.Atom.{Atom}
 use Rattle.terms.specs.Atom.{publicKind, atomAt, atomKind, IsKey, key-kind, kind-key}
-use Rattle.terms.specs.Tag.{atomTag, markedTag, sortTag, variables, Tagged, anAtom, aPair, aWrapping, aVariable, noTag, tagged, wrapping-tag}
+use Rattle.terms.specs.Tag.{atomTag, markedNonceTag, sortTag, variables, Tagged, anAtom, aPair, aWrapping, aVariable, noTag, tagged, wrapping-tag}
 use Rattle.terms.specs.Entry.{tagAt, valueAt, from}
 use Rattle.terms.specs.Each.{EntryIs}
 use Rattle.terms.specs.TermEntry.{MayStand, EntryRight, AskedBy, Asked, asked, tagRight, rightAt?, wrongEntry}
@@ -79,12 +79,14 @@ module _ (atoms : List Atom) (kind value : ℕ) where
   unfolding Asked limitsOf sortTag MayStand
   within-asked tag below kept = go (tagged tag) below kept
     where
-      sorted : (s : Sort) → value < getD (limitsOf kind (length atoms)) (sortTag s) 0 → (value < variables) × MayStand s kind
-      sorted plain below = elim (ℕ-discrete kind secretKind) [
+      unmarked : (r : Range) → value < plainLimit kind → (value < variables) × MayStand (sort plain r) kind
+      unmarked r below = elim (ℕ-discrete kind secretKind) [
         | yes e ↦ absurd (omega (arith, plain-secret e))
         | no off ↦ (omega (arith, plain-other off), off)
       ]
-      sorted marked below = elim (ℕ-discrete kind goodKind) [
+
+      with-mark : (r : Range) → value < markedLimit kind → (value < variables) × MayStand (sort marked r) kind
+      with-mark r below = elim (ℕ-discrete kind goodKind) [
         | yes e ↦ (omega (arith, marked-good e), inl e)
         | no not-good ↦ elim (ℕ-discrete kind badKind) [
           | yes e ↦ (omega (arith, marked-bad not-good e), inr e)
@@ -92,10 +94,16 @@ module _ (atoms : List Atom) (kind value : ℕ) where
         ]
       ]
 
-      past : {n : ℕ} (l : List ℕ) → length l ≡ 6 → 5 < n → getD l n 0 ≡ 0
+      sorted : (s : Sort) → value < getD (limitsOf kind (length atoms)) (sortTag s) 0 → (value < variables) × MayStand s kind
+      sorted (sort plain anyMessage) below = unmarked anyMessage below
+      sorted (sort marked anyMessage) below = with-mark anyMessage below
+      sorted (sort plain oneNonce) below = unmarked oneNonce below
+      sorted (sort marked oneNonce) below = with-mark oneNonce below
+
+      past : {n : ℕ} (l : List ℕ) → length l ≡ 8 → 7 < n → getD l n 0 ≡ 0
       past l long far = List·getD-eq-default l 0 (omega arith)
 
-      none : (n : ℕ) → (n < atomTag) ⊎ (markedTag < n) → value < getD (limitsOf kind (length atoms)) n 0 → ⊥
+      none : (n : ℕ) → (n < atomTag) ⊎ (markedNonceTag < n) → value < getD (limitsOf kind (length atoms)) n 0 → ⊥
       none n (inl low) below = let z : n ≡ 0 = omega arith in let h = rw z at below in omega arith
       none n (inr far) below = let z = past (limitsOf kind (length atoms)) refl far in omega arith
 
@@ -115,10 +123,18 @@ module _ (atoms : List Atom) (kind value : ℕ) where
       Within : ℕ → Type 0
       Within n = (value < getD (limitsOf kind (length atoms)) n 0) × (getD leastKinds n 0 ≤ listedKind atoms value)
 
+      unmarked : ¬ (kind ≡ secretKind) → value < variables → value < plainLimit kind
+      unmarked off low = omega (arith, plain-other off)
+
+      with-mark : (kind ≡ goodKind) ⊎ (kind ≡ badKind) → value < variables → value < markedLimit kind
+      with-mark (inl is) low = omega (arith, marked-good is)
+      with-mark (inr is) low = omega (arith, marked-bad (λ e. omega arith) is)
+
       sorted : (s : Sort) → value < variables → MayStand s kind → Within (sortTag s)
-      sorted plain low off = (omega (arith, plain-other off), omega arith)
-      sorted marked low (inl is) = (omega (arith, marked-good is), omega arith)
-      sorted marked low (inr is) = (omega (arith, marked-bad (λ e. omega arith) is), omega arith)
+      sorted (sort plain anyMessage) low off = (unmarked off low, omega arith)
+      sorted (sort marked anyMessage) low may = (with-mark may low, omega arith)
+      sorted (sort plain oneNonce) low off = (unmarked off low, omega arith)
+      sorted (sort marked oneNonce) low may = (with-mark may low, omega arith)
 
       go : (w : Tagged tag) → AskedBy atoms kind value w → Within tag
       go (anAtom e) a = rw e (a, omega arith)
@@ -153,7 +169,7 @@ module _ (atoms : List Atom) (kind : ℕ) {limits : List ℕ} (tables : limits �
 
 -- The steps of the test.
 module _ {atoms : List Atom} {limits least e : List ℕ} {tag : ℕ} (is-tag : tag ≡ tagAt e) where
-  pub past-tables : length limits ≡ 6 → 5 < tag → ¬ ByTables atoms limits least e
+  pub past-tables : length limits ≡ 8 → 7 < tag → ¬ ByTables atoms limits least e
   past-tables long far w = let z : getD limits (tagAt e) 0 ≡ 0 = List·getD-eq-default limits 0 (omega arith) in let h = w .below in omega arith
 
   module _ {n : ℕ} (is-value : n ≡ valueAt e) where

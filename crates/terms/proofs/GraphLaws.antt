@@ -234,10 +234,11 @@ module _ (node : ℕ → Node) (name : ℕ → ℕ) where
 pub record Valued (node : ℕ → Node) (name : ℕ → ℕ) : Type 0 where
   pub v : ℕ → Message
   pub respects : Respects name v
+  pub makes : (i : ℕ) → v i ≡ made v (node (name i))
   pub valid : ClosedFor node name v → Valid node v
 
 pub valued : {node : ℕ → Node} {name : ℕ → ℕ} → Classes node name → ((i : ℕ) → Finite node name i) → Valued node name
-valued {node} {name} cs ends = record { v = value node name cs ends; respects = value-respects node name cs ends; valid = value-valid node name cs ends }
+valued {node} {name} cs ends = record { v = value node name cs ends; respects = value-respects node name cs ends; makes = λ i. build-made node name cs ends (ends i); valid = value-valid node name cs ends }
 
 -- Only symbols have children.
 pub child-symbol : (n : Node) (j : ℕ) → Child j n → IsSymbol n

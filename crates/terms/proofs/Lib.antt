@@ -23,6 +23,7 @@ pub mod GraphLaws
 pub mod TermGraphLaws
 pub mod SizeLaws
 pub mod NodeLaws
+pub mod NonceLaws
 pub mod NameLaws
 pub mod ClassLaws
 pub mod ClassAnswers

@@ -1,36 +1,59 @@
 -- Laws of matching by a walk over the pattern's entries left: bindings, and a step for each branch.
 use mathlib.Core.Path.{_≡_, refl, sym, _∙_}
-use mathlib.Core.Bool.{Bool, true, false}
+use mathlib.Core.Bool.{Bool, true}
 use mathlib.Core.List.{List}
 use mathlib.Core.Logic.{_↔_}
 use Prim.Native.Nat.{ℕ, _+_, _*_, _-_, _<_, _≤_}
 use native.Mathlib.Omega.{arith}
-use native.Mathlib.Decide.{ℕ-discrete}
+use native.Mathlib.Decide.{ℕ-discrete, decLt}
 use lib.ListN.{length, getD, set, replicate, getD-replicate}
 use lib.Seq.{getD-set-same, getD-set-other}
-use Rattle.terms.specs.Term.{Term, variable, Variable, replace}
+use Rattle.terms.specs.declared.atom.Atom.{Atom}
+use Rattle.terms.specs.Term.{Term, variable, Variable, oneNonce, rangeOf, replace}
+use Rattle.terms.specs.Instance.{NonceTerm, PutsNonces}
 use Rattle.terms.specs.Tag.{childrenOf}
 use Rattle.terms.specs.Entry.{size, termOf, Begins, tagAt, from}
-use Rattle.terms.specs.Decisions.{Says, says-same}
+use Rattle.terms.specs.Decisions.{Says, says-same, dec-and, dec-not}
 use Rattle.terms.specs.Decide.{answer}
 use Rattle.terms.specs.Slot.{slotCount, slotOf, inSlot}
-use Rattle.terms.specs.Front.{Front, Takes, SameFirst, Bound, Agrees, Comparable, Bindable, Ready, Made}
-use Rattle.terms.proofs.AnswerLaws.{yes-of, no-of, answer-says}
+use Rattle.terms.specs.Front.{Front, Takes, SameFirst, Bound, Agrees, Comparable, Bindable, Ready, NoncesBound, MayTake, Made}
+use Rattle.terms.proofs.AnswerLaws.{answer-says}
 use Rattle.terms.proofs.EntryLaws.{termOf-reads, fits, from-from, from-length}
-use Rattle.terms.proofs.SlotLaws.{slot-of-slot, slot-first}
+use Rattle.terms.proofs.SlotLaws.{slot-of-slot, slot-first, nonce-slot, high-slot}
 use Rattle.terms.proofs.FrontLaws.{next, front-begins, opened, parted, KeepsFirst, next-term, next-symbol, other-symbol, none-compared}
 
 -- Where every slot holds 255, nothing is bound.
 pub none-bound : (i : ℕ) → ¬ Bound (replicate slotCount 255) i
 none-bound i h = h .1 (getD-replicate slotCount i 255 0 (h .0))
 
--- The replacement of the bindings.
+-- Is something bound in the slot?
+bound? : (bound : List ℕ) (i : ℕ) → Dec (Bound bound i)
+bound? bound i = dec-and (decLt i slotCount) (λ l. dec-not (ℕ-discrete (getD bound i 0) 255))
+
+-- The replacement of the bindings; a variable that is not bound stays.
 bindings : (t bound : List ℕ) → Variable → Term Variable
-bindings t bound x = termOf (from (4 * getD bound (slotOf (variable x)) 0) t)
+bindings t bound x = elim (bound? bound (slotOf (variable x))) [
+  | yes h ↦ termOf (from (4 * getD bound (slotOf (variable x)) 0) t)
+  | no off ↦ variable x
+]
 
 bindings-agree : (t bound : List ℕ) → Agrees t bound (bindings t bound)
 unfolding bindings
-bindings-agree t bound = record { held = λ i h. rw (slot-of-slot i) refl }
+bindings-agree t bound = record { held = λ i h. go (slotOf (variable (inSlot i))) i (slot-of-slot i) h (bound? bound (slotOf (variable (inSlot i)))) }
+  where
+    go : (j i : ℕ) → j ≡ i → Bound bound i → (q : Dec (Bound bound j))
+        → elim q [ yes h ↦ termOf (from (4 * getD bound j 0) t) | no off ↦ variable (inSlot i) ] ≡ termOf (from (4 * getD bound i 0) t)
+    go j i is h (yes b) = rw is
+    go j i is h (no off) = absurd (off (rw is h))
+
+bindings-nonces : {atoms : List Atom} {t bound : List ℕ} → NoncesBound atoms t bound → PutsNonces atoms rangeOf (bindings t bound)
+unfolding bindings NonceTerm
+bindings-nonces {atoms} {t} {bound} nonces x is = go (bound? bound (slotOf (variable x)))
+  where
+    go : (q : Dec (Bound bound (slotOf (variable x))))
+        → NonceTerm atoms rangeOf (elim q [ yes h ↦ termOf (from (4 * getD bound (slotOf (variable x)) 0) t) | no off ↦ variable x ])
+    go (yes b) = nonces .each _ b (high-slot (nonce-slot x is))
+    go (no off) = is
 
 -- A term that begins past byte n is within.
 begins-within : (n : ℕ) (e : List ℕ) → Begins (from n e) → n + 4 ≤ length e
@@ -88,8 +111,8 @@ module _ (t bound : List ℕ) (x at : ℕ) (slot : x < slotCount) (long : x < le
       go i h (no off) = rw (still i off) at (a .held i (rw (still i off) h))
 
 -- Nothing is left to compare.
-pub made-none : {p t bound : List ℕ} {at need : ℕ} → need ≡ 0 → Made p t at need bound
-made-none {p} {t} {bound} {at} is = record { by = bindings t bound; agrees = bindings-agree t bound; takes = none-compared _ p (from (4 * at) t) is }
+pub made-none : {atoms : List Atom} {p t bound : List ℕ} {at need : ℕ} → need ≡ 0 → NoncesBound atoms t bound → Made atoms p t at need bound
+made-none {p = p} {t} {bound} {at} is nonces = record { by = bindings t bound; nonces = bindings-nonces nonces; agrees = bindings-agree t bound; takes = none-compared _ p (from (4 * at) t) is }
 
 module _ {p t bound : List ℕ} {at need : ℕ} (r : Ready p t at need bound) (some-left : ¬ (need ≡ 0)) where
   pub pattern-begins : Begins p
@@ -132,16 +155,18 @@ module _ {p t bound : List ℕ} {at need : ℕ} (r : Ready p t at need bound) (s
     unfolding replace
     variable-term is by = rw (past-variable, past-term is, variable-there) at (next-term need (r .pattern) (r .subject) some-left by)
 
-    variable-made : {s : ℕ} → s ≡ size (termOf (from (4 * at) t)) → Bindable t (getD bound x 0) at
-        → Made p t at need bound ↔ Made (from 4 p) t (at + s) (need - 1) (set bound x at)
-    variable-made {s} is free = (
+    variable-made : (atoms : List Atom) → {s : ℕ} → s ≡ size (termOf (from (4 * at) t)) → Bindable t (getD bound x 0) at
+        → Made atoms p t at need bound ↔ Made atoms (from 4 p) t (at + s) (need - 1) (set bound x at)
+    variable-made atoms {s} is free = (
       λ m. (let h = variable-term is (m .by) .0 (m .takes) in record {
         by = m .by;
+        nonces = m .nonces;
         agrees = bind-agrees t bound x at low long entry (m .by) (m .agrees) (h .0);
         takes = h .1;
       }),
       λ m. record {
         by = m .by;
+        nonces = m .nonces;
         agrees = bound-old t bound x at low long entry (m .by) free (m .agrees);
         takes = variable-term is (m .by) .1 (bound-new t bound x at low long entry (m .by) (m .agrees), m .takes);
       },
@@ -150,18 +175,31 @@ module _ {p t bound : List ℕ} {at need : ℕ} (r : Ready p t at need bound) (s
         entry : ¬ (at ≡ 255)
         entry = omega (arith, entry-small)
 
-    pub variable-step : {s : ℕ} → s ≡ size (termOf (from (4 * at) t)) → {more : List ℕ} → more ≡ set bound x at → Bindable t (getD bound x 0) at
-        → (b : Bool) → Says b (Made (from 4 p) t (at + s) (need - 1) more) → Says b (Made p t at need bound)
-    variable-step is new free b says = let m = variable-made is free in says-same b (m .1) (m .0) (rw new at says)
+    pub variable-step : (atoms : List Atom) → {s : ℕ} → s ≡ size (termOf (from (4 * at) t)) → {more : List ℕ} → more ≡ set bound x at → Bindable t (getD bound x 0) at
+        → (b : Bool) → Says b (Made atoms (from 4 p) t (at + s) (need - 1) more) → Says b (Made atoms p t at need bound)
+    variable-step atoms is new free b says = let m = variable-made atoms is free in says-same b (m .1) (m .0) (rw new at says)
+
+    -- A nonce is bound where one is wanted.
+    pub variable-nonces : (atoms : List Atom) → NoncesBound atoms t bound → MayTake atoms x t at → {more : List ℕ} → more ≡ set bound x at → NoncesBound atoms t more
+    variable-nonces atoms nonces may new = rw new (record {
+      each = λ i. bound-cases t bound x at low long (omega (arith, entry-small))
+          (λ k. (i < slotCount) × ¬ (k ≡ 255) → rangeOf (inSlot i) ≡ oneNonce → NonceTerm atoms rangeOf (termOf (from (4 * k) t))) i
+          (λ is h. rw is may) (λ off h. nonces .each i h);
+    })
 
     -- Where it is the last term, its end is not asked for.
-    pub variable-last : need ≡ 1 → Bindable t (getD bound x 0) at → Made p t at need bound
-    variable-last one free =
+    pub variable-last : (atoms : List Atom) → need ≡ 1 → NoncesBound atoms t bound → MayTake atoms x t at → Bindable t (getD bound x 0) at → Made atoms p t at need bound
+    variable-last atoms one nonces may free =
         let last : need - 1 ≡ 0 = omega arith in
-        variable-step {s = size (termOf (from (4 * at) t))} refl {more = set bound x at} refl free true (made-none last)
+        variable-step atoms {s = size (termOf (from (4 * at) t))} refl {more = set bound x at} refl free true
+        (made-none last (variable-nonces atoms nonces may refl))
 
-    pub variable-clash : ¬ Bindable t (getD bound x 0) at → ¬ Made p t at need bound
-    variable-clash off m = off (record { same = λ is. sym (m .agrees .held x (low, is)) ∙ variable-term refl (m .by) .0 (m .takes) .0 })
+    -- The term is no nonce, and one is wanted.
+    pub variable-refused : (atoms : List Atom) → ¬ MayTake atoms x t at → ¬ Made atoms p t at need bound
+    variable-refused atoms off m = off (λ is. rw (variable-term refl (m .by) .0 (m .takes) .0) at (m .nonces (inSlot x) is))
+
+    pub variable-clash : (atoms : List Atom) → ¬ Bindable t (getD bound x 0) at → ¬ Made atoms p t at need bound
+    variable-clash atoms off m = off (record { same = λ is. sym (m .agrees .held x (low, is)) ∙ variable-term refl (m .by) .0 (m .takes) .0 })
 
   -- A symbol stands first: its children are next, or it is not the same.
   module _ {x : ℕ} (slot : x ≡ slotOf (termOf p)) (high : slotCount ≤ x) where
@@ -182,18 +220,18 @@ module _ {p t bound : List ℕ} {at need : ℕ} (r : Ready p t at need bound) (s
           small = r .small;
         })
 
-    symbol-made : SameFirst p (from (4 * at) t) → Made p t at need bound ↔ Made (from 4 p) t (at + 1) (next need p) bound
-    symbol-made is = (
-      λ m. record { by = m .by; agrees = m .agrees; takes = step (m .by) .0 (m .takes) },
-      λ m. record { by = m .by; agrees = m .agrees; takes = step (m .by) .1 (m .takes) },
+    symbol-made : (atoms : List Atom) → SameFirst p (from (4 * at) t) → Made atoms p t at need bound ↔ Made atoms (from 4 p) t (at + 1) (next need p) bound
+    symbol-made atoms is = (
+      λ m. record { by = m .by; nonces = m .nonces; agrees = m .agrees; takes = step (m .by) .0 (m .takes) },
+      λ m. record { by = m .by; nonces = m .nonces; agrees = m .agrees; takes = step (m .by) .1 (m .takes) },
     )
       where
         step : (by : Variable → Term Variable) → Takes by need p (from (4 * at) t) ↔ Takes by (next need p) (from 4 p) (from (4 * (at + 1)) t)
         step by = rw past-entry at (next-symbol need (r .pattern) (r .subject) some-left by (keeps by) is)
 
-    pub symbol-step : SameFirst p (from (4 * at) t) → {k : ℕ} → k ≡ childrenOf (tagAt p)
-        → (b : Bool) → Says b (Made (from 4 p) t (at + 1) (need - 1 + k) bound) → Says b (Made p t at need bound)
-    symbol-step same is b says = let m = symbol-made same in says-same b (m .1) (m .0) (rw is at says)
+    pub symbol-step : (atoms : List Atom) → SameFirst p (from (4 * at) t) → {k : ℕ} → k ≡ childrenOf (tagAt p)
+        → (b : Bool) → Says b (Made atoms (from 4 p) t (at + 1) (need - 1 + k) bound) → Says b (Made atoms p t at need bound)
+    symbol-step atoms same is b says = let m = symbol-made atoms same in says-same b (m .1) (m .0) (rw is at says)
 
-    pub symbol-clash : ¬ SameFirst p (from (4 * at) t) → ¬ Made p t at need bound
-    symbol-clash off m = other-symbol need (r .pattern) (r .subject) some-left (m .by) (keeps (m .by)) off (m .takes)
+    pub symbol-clash : (atoms : List Atom) → ¬ SameFirst p (from (4 * at) t) → ¬ Made atoms p t at need bound
+    symbol-clash atoms off m = other-symbol need (r .pattern) (r .subject) some-left (m .by) (keeps (m .by)) off (m .takes)

@@ -9,21 +9,22 @@ use lib.Dec.{eqb}
 use lib.ListN.{length, getD, set, length-set}
 use lib.Seq.{getD-set-same, getD-set-other}
 use borrow.Author.Tests.{eq-eqb, ne-eqb}
-use Rattle.terms.specs.Term.{Term, variable, atom, pair, Variable, replace, wrapped}
-use Rattle.terms.specs.Instance.{Share}
+use Rattle.terms.specs.declared.atom.Atom.{Atom}
+use Rattle.terms.specs.Term.{Term, variable, atom, pair, Variable, oneNonce, rangeOf, replace, wrapped}
+use Rattle.terms.specs.Instance.{NonceTerm, PutsNonces, Share}
 use Rattle.terms.specs.Tag.{SymbolTag, childrenOf}
 use Rattle.terms.specs.Entry.{size, termOf, Begins, tagAt, from}
 use Rattle.terms.specs.Decisions.{pick}
 use Rattle.terms.specs.Occurs.{replace-none}
-use Rattle.terms.specs.Slot.{slotCount, slotOf}
+use Rattle.terms.specs.Slot.{anySlots, slotOf}
 use Rattle.terms.specs.Front.{Ran, Goes}
 use Rattle.terms.specs.TermGraph.{TwoTerms}
 use Rattle.terms.specs.Meetings.{RootsDiffer, Noted, NotedIn, notedSlot, Distinct, Same, AllSame, Walking, Stops, Reduced}
 use Rattle.terms.proofs.EntryLaws.{size-positive, leaf-first, from-from, from-length, from-start}
-use Rattle.terms.proofs.SlotLaws.{symbol-slot}
+use Rattle.terms.proofs.SlotLaws.{symbol-slot, nonce-slot}
 use Rattle.terms.proofs.FrontLaws.{front-begins, parted, alike-term, alike-other, front-few}
 use Rattle.terms.proofs.SameLaws.{alike-none, alike-one}
-use Rattle.terms.proofs.RunLaws.{alike-share}
+use Rattle.terms.proofs.InstanceLaws.{alike-share}
 use Rattle.terms.proofs.TermGraphLaws.{tag-from}
 
 -- Terms whose roots differ are made the same by no replacements.
@@ -190,7 +191,7 @@ pub record AVariable (t : Term Variable) : Type 0 where
   pub x : Variable
   pub is : t ≡ variable x
 
-slot-variable : (t : Term Variable) → slotOf t < slotCount → AVariable t
+slot-variable : (t : Term Variable) → slotOf t < anySlots → AVariable t
 unfolding slotOf
 slot-variable (variable x) low = record { x = x; is = refl }
 slot-variable (atom a) low = absurd (omega arith)
@@ -201,7 +202,7 @@ slot-variable (wrapped w k t) low = absurd (omega arith)
 pub distinct-none : (s m : List ℕ) → Distinct s m 0
 distinct-none s m = record { variables = λ k h. absurd (omega arith); apart = λ j k h l. absurd (omega arith) }
 
-pub distinct-more : {s m : List ℕ} {k : ℕ} → Distinct s m k → notedSlot s m k < slotCount → ((j : ℕ) → j < k → ¬ (notedSlot s m j ≡ notedSlot s m k))
+pub distinct-more : {s m : List ℕ} {k : ℕ} → Distinct s m k → notedSlot s m k < anySlots → ((j : ℕ) → j < k → ¬ (notedSlot s m j ≡ notedSlot s m k))
     → Distinct s m (k + 1)
 distinct-more {s} {m} {k} d low new = record {
   variables = λ j h. elim (ℕ-discrete j k) [ yes e ↦ rw e low | no off ↦ d .variables j (omega arith) ];
@@ -251,7 +252,20 @@ module _ (s t m : List ℕ) {n : ℕ} (d : Distinct s m n) where
   unfolding replace
   met k h v = rw (v .is) (takes (v .x) k h (ap slotOf (v .is)) n h (omega arith)) ∙ sym (replace-none (opposite t m k))
 
-  pub free-match : Reduced s t m n → Share (termOf s) (termOf t)
-  free-match r = alike-share (taken s t m n) variable (r .same (taken s t m n) variable .1 (record {
+  -- A nonce variable is none of them, and stays.
+  taken-nonce : (atoms : List Atom) (x : Variable) → rangeOf x ≡ oneNonce → (l : ℕ) → l ≤ n → NonceTerm atoms rangeOf (taken s t m l x)
+  unfolding NonceTerm taken
+  taken-nonce atoms x is zero few = is
+  taken-nonce atoms x is (suc l) few =
+      let far = nonce-slot x is in
+      let near = d .variables l (omega arith) in
+      rw (ne-eqb (notedSlot s m l) (slotOf (variable x)) (omega arith)) (taken-nonce atoms x is l (omega arith))
+
+  stays : (atoms : List Atom) → PutsNonces atoms rangeOf variable
+  unfolding NonceTerm
+  stays atoms x is = is
+
+  pub free-match : (atoms : List Atom) → Reduced s t m n → Share atoms (termOf s) (termOf t)
+  free-match atoms r = alike-share (taken s t m n) variable (λ x is. taken-nonce atoms x is n (omega arith)) (stays atoms) (r .same (taken s t m n) variable .1 (record {
     each = λ k h. record { same = met k h (slot-variable _ (d .variables k h)) };
   }))

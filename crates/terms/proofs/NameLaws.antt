@@ -35,6 +35,10 @@ name-own : (c : List ℕ) (i : ℕ) → linkOf c i ≡ i → nameOf c i ≡ i
 unfolding nameOf
 name-own c i e = after-own allNodes c i e
 
+-- A node that stands at its own place in the array names its class.
+pub own-name : (c : List ℕ) (i : ℕ) → i < length c → getD c i 0 ≡ i → nameOf c i ≡ i
+own-name c i inside own = name-own c i (getD-any c i i 0 inside ∙ own)
+
 -- Node k is on the way from node i to its class's name, with n links at most left to follow.
 pub record WayToName (c : List ℕ) (i n k : ℕ) : Type 0 where
   pub leads : linksOn n c k ≡ nameOf c i

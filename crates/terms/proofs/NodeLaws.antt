@@ -8,8 +8,9 @@ use native.Mathlib.Omega.{arith}
 use native.Mathlib.Decide.{decLt}
 use lib.ListN.{length, getD}
 use borrow.Author.Tests.{lt-ltb, le-ltb}
-use Rattle.terms.specs.Term.{Sort, plain, marked}
-use Rattle.terms.specs.Tag.{pairTag, encryptionTag, plainTag, markedTag, sortTag, variables, Tagged, anAtom, aPair, aWrapping, aVariable, noTag, wrapping-tag}
+use Rattle.terms.specs.Term.{Sort, sort, plain, marked, anyMessage, oneNonce}
+use Rattle.terms.specs.Tag.{pairTag, encryptionTag, plainTag, markedNonceTag, sortTag, variables, VariableTag, Tagged, anAtom, aPair, aWrapping, aVariable, noTag, wrapping-tag, sort-tag}
+use Rattle.terms.proofs.SlotLaws.{slot-by-tag}
 use Rattle.terms.specs.Tag.{tagged, freeBy, freeTag}
 use Rattle.terms.specs.Entry.{Begins}
 use Rattle.terms.specs.Graph.{free, IsSymbol}
@@ -19,32 +20,45 @@ use Rattle.terms.proofs.EntryLaws.{fits}
 use Rattle.terms.proofs.TermGraphLaws.{home-there, left-side, right-side}
 use Rattle.terms.proofs.SizeLaws.{tag-inside, pair-there, encryption-there, whole-entry}
 
+-- The last tag of a sort.
+last-sort : (s : Sort) {tag : ℕ} → tag ≡ sortTag s → tag ≤ markedNonceTag
+unfolding sortTag
+last-sort (sort plain anyMessage) e = omega arith
+last-sort (sort marked anyMessage) e = omega arith
+last-sort (sort plain oneNonce) e = omega arith
+last-sort (sort marked oneNonce) e = omega arith
+
 -- The node of an entry, by its tag.
 module _ (e : List ℕ) (base slots k : ℕ) where
-  pub home-plain : {n : ℕ} → tagIn e k ≡ plainTag → n ≡ valueIn e k → slots + n % variables ≡ home e base slots k
+  own-by : ((s : Sort) → tagIn e k ≡ sortTag s → ⊥) → base + k ≡ home e base slots k
   unfolding home homeBy
-  home-plain {n} g q = ap (λ (m : ℕ). slots + m % variables) q ∙ ap (λ (m : ℕ). homeBy m (valueIn e k) slots (base + k)) (sym g)
-
-  pub home-marked : {n : ℕ} → tagIn e k ≡ markedTag → n ≡ valueIn e k → slots + variables + n % variables ≡ home e base slots k
-  unfolding home homeBy
-  home-marked {n} g q =
-      let there : slots + variables + n % variables ≡ slots + (variables + n % variables) = omega arith in
-      there ∙ ap (λ (m : ℕ). slots + (variables + m % variables)) q ∙ ap (λ (m : ℕ). homeBy m (valueIn e k) slots (base + k)) (sym g)
-
-  pub home-own : (tagIn e k ≡ plainTag → ⊥) → (tagIn e k ≡ markedTag → ⊥) → base + k ≡ home e base slots k
-  unfolding home homeBy sortTag
-  home-own no-plain no-marked = go (tagged (tagIn e k))
+  own-by off = go (tagged (tagIn e k))
     where
-      sort : (s : Sort) → tagIn e k ≡ sortTag s → ⊥
-      sort plain g = no-plain g
-      sort marked g = no-marked g
-
       go : (w : Tagged (tagIn e k)) → base + k ≡ homeFor w (valueIn e k) slots (base + k)
       go (anAtom g) = refl
       go (aPair g) = refl
       go (aWrapping w g) = refl
-      go (aVariable s g) = absurd (sort s g)
+      go (aVariable s g) = absurd (off s g)
       go (noTag g) = refl
+
+  pub home-variable : {n : ℕ} → VariableTag (tagIn e k) → tagIn e k ≤ markedNonceTag → n ≡ valueIn e k
+      → slots + variables * (tagIn e k - plainTag) + n % variables ≡ home e base slots k
+  unfolding home homeBy
+  home-variable {n} some few q = rw q (go (tagged (tagIn e k)))
+    where
+      go : (w : Tagged (tagIn e k)) → slots + variables * (tagIn e k - plainTag) + valueIn e k % variables ≡ homeFor w (valueIn e k) slots (base + k)
+      go (anAtom g) = absurd (omega arith)
+      go (aPair g) = absurd (omega arith)
+      go (aWrapping w g) = absurd (omega (arith, wrapping-tag w g))
+      go (aVariable s g) = rw g (omega (arith, slot-by-tag s (valueIn e k % variables)))
+      go (noTag (inl low)) = absurd (omega arith)
+      go (noTag (inr high)) = absurd (omega arith)
+
+  pub home-own : ¬ VariableTag (tagIn e k) → base + k ≡ home e base slots k
+  home-own symbol = own-by (λ s g. symbol (sort-tag s g))
+
+  pub home-past : markedNonceTag < tagIn e k → base + k ≡ home e base slots k
+  home-past far = own-by (λ s g. omega (arith, last-sort s g))
 
 -- The tag of a node, in each of its three regions.
 module _ (s t : List ℕ) {i : ℕ} where

@@ -3,15 +3,15 @@ use mathlib.Core.Path.{_≡_, refl, sym, ap, _∙_, ap₂}
 use mathlib.Core.List.{List, [], _∷_, _++_, append-assoc, append-nil}
 use mathlib.Core.Option.{some}
 use mathlib.Core.Bool.{Bool, true, false}
-use mathlib.Core.Logic.{_⊎_, inl, inr, _↔_, ⊎-elim}
+use mathlib.Core.Logic.{inl, inr, _↔_}
 use Prim.Native.Nat.{ℕ, _+_, _*_, _/_, _%_, _<_}
 use native.Mathlib.Omega.{arith}
 use lib.ListN.{getD, length, length-append}
 use lib.Dec.{ltb, eqb}
 use borrow.Author.Tests.{lt-ltb, ltb-true}
-use Rattle.blocks.specs.Kinds.{secretKind, goodKind, badKind}
+use Rattle.blocks.specs.Kinds.{secretKind}
 use Rattle.terms.specs.declared.valid.Found.the-variants.{Nothing}
-use Rattle.terms.specs.Term.{Term, variable, atom, pair, encrypted, Message, Sort, plain, marked, Variable, named, replace, asTerm, wrapped, encryption}
+use Rattle.terms.specs.Term.{Term, variable, atom, pair, encrypted, Message, Sort, sort, plain, marked, Variable, named, replace, asTerm, wrapped, encryption}
 use Rattle.terms.specs.declared.atom.Atom.{Atom}
 use Rattle.terms.specs.Atom.{IsKey}
 use Rattle.terms.specs.Tag.{encryptionTag, variables, sort-tagged}
@@ -22,7 +22,6 @@ use Rattle.terms.specs.TermEntry.{MayStand, TagRight, atomEntry, pairEnt
 use Rattle.terms.specs.TermEntry.{wrongEntry}
 use Rattle.terms.specs.OneTerm.{Numbered, OneTerm, HasSymbol, IsEncryption}
 use Rattle.terms.specs.Decisions.{Says, says-same}
-use Rattle.terms.specs.Occurs.{Occurs}
 use Rattle.terms.specs.Reading.{First, first-atom, first-pair, first-wrapped, first-variable, none≢some, first, never-empty, entriesAll, AllOf}
 use Rattle.terms.specs.Reading.{read-entries, one-reads}
 use Rattle.terms.proofs.AnswerLaws.{says-eq}
@@ -127,29 +126,16 @@ right-term {e = e} each o = right-terms each (termOf e ∷ []) (record { is = on
 -- Secrets have no variables: a secret is a message.
 pub secret-bare : (s : Sort) {kind : ℕ} → kind ≡ secretKind → ¬ MayStand s kind
 unfolding MayStand
-secret-bare plain secret may = may secret
-secret-bare marked secret (inl good) = omega arith
-secret-bare marked secret (inr bad) = omega arith
+secret-bare (sort plain r) secret may = may secret
+secret-bare (sort marked r) secret (inl good) = omega arith
+secret-bare (sort marked r) secret (inr bad) = omega arith
 
 pub secret-message : {atoms : List Atom} {kind : ℕ} {t : Term Variable} → kind ≡ secretKind → TermRight atoms kind t → (m : Message) × (t ≡ asTerm m)
 unfolding asTerm replace
 secret-message s (atomRight {a} l) = (atom a, refl)
 secret-message s (pairRight w v) = let a = secret-message s w in let b = secret-message s v in (pair (a .0) (b .0), ap₂ pair (a .1) (b .1))
 secret-message s (encryptedRight {k} i w) = let a = secret-message s w in (encrypted k (a .0), ap (encrypted k) (a .1))
-secret-message s (variableRight {s = sort} l k) = absurd (secret-bare sort s k)
-
--- Marked variables stand in patterns only.
-mark-stands : (s : Sort) {kind x y : ℕ} → named marked x ≡ named s y → MayStand s kind → (kind ≡ goodKind) ⊎ (kind ≡ badKind)
-unfolding MayStand
-mark-stands plain same may = let z : _≡_ {A = ℕ} 0 1 = cc in absurd (omega arith)
-mark-stands marked same may = may
-
-pub no-mark : {atoms : List Atom} {kind : ℕ} {t : Term Variable} → ((kind ≡ goodKind) ⊎ (kind ≡ badKind) → ⊥) → TermRight atoms kind t → (x : ℕ) → ¬ Occurs (named marked x) t
-unfolding Occurs
-no-mark no-pattern (atomRight l) x o = o
-no-mark no-pattern (pairRight w v) x o = ⊎-elim (no-mark no-pattern w x) (no-mark no-pattern v x) o
-no-mark no-pattern (encryptedRight i w) x o = no-mark no-pattern w x o
-no-mark no-pattern (variableRight {s = sort} l k) x o = no-pattern (mark-stands sort o k)
+secret-message s (variableRight {s = σ} l k) = absurd (secret-bare σ s k)
 
 -- Entries that are exactly one term have its size.
 entries-length : (t : Term Variable) → length (termEntries t) ≡ 4 * size t

@@ -1,11 +1,11 @@
--- Two terms that begin with different symbols share no instance.
+-- Two terms that begin with different symbols have no message in common.
 use mathlib.Core.Path.{_≡_, sym, ap, _∙_}
 use mathlib.Core.List.{List, _∷_}
 use Prim.Native.Nat.{ℕ, _≤_}
 use native.Mathlib.Omega.{arith}
 use lib.ListN.{drop}
 use Rattle.terms.specs.Term.{Term, atom, pair, Message, Variable, replace, wrapped}
-use Rattle.terms.specs.Instance.{Share}
+use Rattle.terms.specs.Apart.{Common}
 use Rattle.terms.specs.Tag.{SymbolTag}
 use Rattle.terms.specs.Entry.{termOf, Begins, tagAt, valueAt}
 use Rattle.terms.specs.Solve.{form}
@@ -32,10 +32,10 @@ root {e} b = go (first (b .reads)) (termOf-reads (b .reads))
     go (first-variable g v n q k) is = record { tagged = λ h by. absurd (omega arith); valued = λ h by. absurd (omega arith) }
 
 module _ {s t : List ℕ} (left : Begins s) (right : Begins t) (symbol : SymbolTag (tagAt s)) (other : SymbolTag (tagAt t)) where
-  pub tags-apart : (tagAt s ≡ tagAt t → ⊥) → Share (termOf s) (termOf t) → ⊥
+  pub tags-apart : (tagAt s ≡ tagAt t → ⊥) → Common (termOf s) (termOf t) → ⊥
   tags-apart off h = off
       (sym (root left .tagged symbol (h .left .by)) ∙ ap form (h .left .same ∙ sym (h .right .same)) ∙ root right .tagged other (h .right .by))
 
-  pub values-apart : (valueAt s ≡ valueAt t → ⊥) → Share (termOf s) (termOf t) → ⊥
+  pub values-apart : (valueAt s ≡ valueAt t → ⊥) → Common (termOf s) (termOf t) → ⊥
   values-apart off h = off
       (sym (root left .valued symbol (h .left .by)) ∙ ap number (h .left .same ∙ sym (h .right .same)) ∙ root right .valued other (h .right .by))

@@ -7,15 +7,17 @@ use Prim.Native.Nat.{ℕ, _+_, _*_, _-_, _≤_}
 use native.Mathlib.Omega.{arith}
 use lib.ListN.{length, replicate}
 use Rattle.blocks.specs.Limits.{mostTermBytes}
-use Rattle.terms.specs.Term.{Term, variable, atom, Message, Variable, replace, asTerm}
-use Rattle.terms.specs.Instance.{Matches, Share}
+use Rattle.terms.specs.Term.{Term, variable, Variable, replace, asTerm}
+use Rattle.terms.specs.declared.atom.Atom.{Atom}
+use Rattle.terms.specs.Instance.{Matches}
+use Rattle.terms.specs.Apart.{Common}
 use Rattle.terms.specs.Tag.{SymbolTag, childrenOf}
 use Rattle.terms.specs.Entry.{termOf, Begins, tagAt, from}
 use Rattle.terms.specs.Decisions.{Says, says-same}
 use Rattle.terms.specs.Occurs.{replace-twice}
 use Rattle.terms.specs.Decide.{answer, variable?, term?, match?}
 use Rattle.terms.specs.Slot.{slotCount}
-use Rattle.terms.specs.Front.{Front, Takes, SameFirst, Alike, Ran, Goes, Ready, Made}
+use Rattle.terms.specs.Front.{Front, Takes, SameFirst, Alike, Ran, Goes, Ready, NoncesBound, Made}
 use Rattle.terms.proofs.AnswerLaws.{says-answer}
 use Rattle.terms.proofs.EntryLaws.{from-from, from-length, from-start}
 use Rattle.terms.proofs.SlotLaws.{symbol-slot}
@@ -96,29 +98,20 @@ module _ {need : ℕ} {e f : List ℕ} {k left : ℕ} (r : Ran need e f k left) 
     differ-alike by by′ h = alike-other left (r .front) (r .other-front) some-left by by′ (keeps low some-left by) (keeps-other low′ some-left by′) off
         (r .alike by by′ .0 h)
 
--- A shared instance gives replacements that make the terms the same, and the other way round.
-pub share-alike : {t u : Term Variable} (h : Share t u)
+-- A message in common gives replacements that make the terms the same.
+pub common-alike : {t u : Term Variable} (h : Common t u)
     → replace {Y = Variable} (λ x. asTerm (h .left .by x)) t ≡ replace (λ x. asTerm (h .right .by x)) u
 unfolding asTerm
-share-alike {t} {u} h =
+common-alike {t} {u} h =
     let left : replace (λ x. asTerm (h .left .by x)) t ≡ asTerm (h .message) =
     sym (replace-twice (λ x. absurd x) (h .left .by) t) ∙ ap asTerm (h .left .same) in
     let right : replace (λ x. asTerm (h .right .by x)) u ≡ asTerm (h .message) =
     sym (replace-twice (λ x. absurd x) (h .right .by) u) ∙ ap asTerm (h .right .same) in
     left ∙ sym right
 
-pub alike-share : {t u : Term Variable} (by by′ : Variable → Term Variable) → replace by t ≡ replace by′ u → Share t u
-alike-share {t} {u} by by′ h =
-    let ground : Variable → Message = λ x. atom 0 in
-    record {
-      message = replace ground (replace by t);
-      left = record { by = λ x. replace ground (by x); same = sym (replace-twice ground by t) };
-      right = record { by = λ x. replace ground (by′ x); same = sym (replace-twice ground by′ u) ∙ ap (replace ground) (sym h) };
-    }
-
--- Terms that no replacements make the same share no instance.
-pub apart-shares : {e f : List ℕ} → Begins e → Begins f → ((by by′ : Variable → Term Variable) → ¬ Alike by by′ 1 e f) → ¬ Share (termOf e) (termOf f)
-apart-shares b d off h = off _ _ (alike-one b d _ _ .1 (share-alike h))
+-- Terms that no replacements make the same have no message in common.
+pub apart-common : {e f : List ℕ} → Begins e → Begins f → ((by by′ : Variable → Term Variable) → ¬ Alike by by′ 1 e f) → ¬ Common (termOf e) (termOf f)
+apart-common b d off h = off _ _ (alike-one b d _ _ .1 (common-alike h))
 
 -- Matching goes on behind the run, with nothing bound.
 pub run-ready : {e f : List ℕ} {k left : ℕ} → Ran 1 e f k left → length f ≤ mostTermBytes → Ready (from (4 * k) e) f k left (replicate slotCount 255)
@@ -130,17 +123,21 @@ run-ready {e} {f} {k} {left} r small = record {
   small = small;
 }
 
-pub run-answer : {e f : List ℕ} {k left : ℕ} → Begins e → Begins f → Ran 1 e f k left → (b : Bool)
-    → Says b (Made (from (4 * k) e) f k left (replicate slotCount 255))
-    → b ≡ answer (match? variable? variable? (termOf e) (termOf f))
-run-answer {e} {f} {k} {left} b d r t says = says-answer t (says-same t to back says) (match? variable? variable? _ _)
-  where
-    to : Made (from (4 * k) e) f k left (replicate slotCount 255) → Matches (termOf e) (termOf f)
-    to m = record { by = m .by; same = one-term b d (m .by) .0 (r .takes (m .by) .1 (m .takes)) }
+pub none-nonces : (atoms : List Atom) (t : List ℕ) → NoncesBound atoms t (replicate slotCount 255)
+none-nonces atoms t = record { each = λ i h. absurd (none-bound i h) }
 
-    back : Matches (termOf e) (termOf f) → Made (from (4 * k) e) f k left (replicate slotCount 255)
+pub run-answer : (atoms : List Atom) {e f : List ℕ} {k left : ℕ} → Begins e → Begins f → Ran 1 e f k left → (b : Bool)
+    → Says b (Made atoms (from (4 * k) e) f k left (replicate slotCount 255))
+    → b ≡ answer (match? atoms (termOf e) (termOf f))
+run-answer atoms {e} {f} {k} {left} b d r t says = says-answer t (says-same t to back says) (match? atoms _ _)
+  where
+    to : Made atoms (from (4 * k) e) f k left (replicate slotCount 255) → Matches atoms (termOf e) (termOf f)
+    to m = record { by = m .by; nonces = m .nonces; same = one-term b d (m .by) .0 (r .takes (m .by) .1 (m .takes)) }
+
+    back : Matches atoms (termOf e) (termOf f) → Made atoms (from (4 * k) e) f k left (replicate slotCount 255)
     back m = record {
       by = m .by;
+      nonces = m .nonces;
       agrees = record { held = λ i h. absurd (none-bound i h) };
       takes = r .takes (m .by) .0 (one-term b d (m .by) .1 (m .same));
     }

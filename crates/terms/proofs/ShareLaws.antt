@@ -12,33 +12,67 @@ use lib.ListN.{length, getD, drop}
 use borrow.Author.Tests.{lt-ltb, le-ltb, ltb-true, ltb-false}
 use borrow.Rule.Slice.PartAt.{part-to-end}
 use Rattle.blocks.specs.Limits.{mostTermBytes}
-use Rattle.terms.specs.Term.{Term, atom, Message, Sort, Variable, named, replace, asTerm}
-use Rattle.terms.specs.Instance.{Share}
+use Rattle.terms.specs.declared.atom.Atom.{Atom}
+use Rattle.terms.specs.Atom.{foreignNonce}
+use Rattle.terms.specs.Term.{Term, atom, Message, Sort, Variable, named, noVariable, replace, asTerm}
+use Rattle.terms.specs.Instance.{NonceTerm, PutsNonces, Share}
+use Rattle.terms.specs.Apart.{Common}
 use Rattle.terms.specs.Tag.{variables}
 use Rattle.terms.specs.Entry.{termOf, Begins, from}
 use Rattle.terms.specs.Decisions.{pick, Says}
 use Rattle.terms.specs.Occurs.{replace-twice, replace-none}
-use Rattle.terms.specs.Decide.{answer, variable?, share?}
-use Rattle.terms.specs.Slot.{slotIn, inSlot}
-use Rattle.terms.specs.Graph.{free, IsSymbol, made, Valid, Respects, Classes, ClassStep, Clash, Outcome, Finite, Any}
+use Rattle.terms.specs.Decide.{answer, share?}
+use Rattle.terms.specs.Slot.{slotCount, anySlots, slotIn, slotOf, inSlot}
+use Rattle.terms.specs.Graph.{Node, free, atomNode, pairNode, wrapperNode, IsSymbol, NonceNode, made, Valid, Respects, Classes, ClassStep, Clash, Outcome, Finite, Any}
 use Rattle.terms.specs.TermGraph.{rightNodes, variableNodes, rightVariables, home, nodeBy, region, nodeTag, nodeOf, TwoTerms}
-use Rattle.terms.specs.Meetings.{Reduced, AllEqual}
+use Rattle.terms.specs.Meetings.{Reduced, AllEqual, NoncesKept}
 use Rattle.terms.proofs.AnswerLaws.{says-answer}
 use Rattle.terms.proofs.EntryLaws.{termOf-reads, suffix}
-use Rattle.terms.proofs.SlotLaws.{slot-small, slot-in}
-use Rattle.terms.proofs.RunLaws.{share-alike, alike-share}
-use Rattle.terms.proofs.GraphLaws.{stay, both, second-clash, restate, restate-clash, valued}
+use Rattle.terms.proofs.SlotLaws.{slot-small, slot-in, nonce-slot, high-slot}
+use Rattle.terms.proofs.RunLaws.{common-alike}
+use Rattle.terms.proofs.InstanceLaws.{common}
+use Rattle.terms.proofs.GraphLaws.{stay, both, second-clash, restate, restate-clash, Valued, valued}
 use Rattle.terms.proofs.TermGraphLaws.{values, home-value, side-makes, left-side, right-side}
 
--- What a valuation puts for the variables from slots on.
+-- What a valuation puts for the variables from slots on; a foreign nonce for those that no entry has.
 abbrev read : (ℕ → Message) → ℕ → Variable → Message
-read v slots (named s x) = v (slots + slotIn s x)
+read v slots (named s x) = pick (ltb x variables) (v (slots + slotIn s x)) (atom 1000)
 
 -- The valuation of two replacements.
 abbrev given : List ℕ → List ℕ → (Variable → Message) → (Variable → Message) → ℕ → Message
 given s t f g i =
     region i (replace f (termOf (drop (4 * i) s))) (replace g (termOf (drop (4 * (i - rightNodes)) t)))
     (pick (ltb i rightVariables) (f (inSlot (i - variableNodes))) (g (inSlot (i - rightVariables))))
+
+-- Nonces for the nonce variables.
+abbrev NoncesAt : List Atom → (ℕ → Message) → ℕ → Type 0
+NoncesAt atoms v slots = (k : ℕ) → anySlots ≤ k → k < slotCount → NonceTerm atoms noVariable (v (slots + k))
+
+read-small : (v : ℕ → Message) (slots : ℕ) (s : Sort) (x : ℕ) → x < variables → v (slots + slotIn s x) ≡ read v slots (named s x)
+read-small v slots s x low = simp (lt-ltb x variables low)
+
+read-nonces : (atoms : List Atom) (v : ℕ → Message) (slots : ℕ) → NoncesAt atoms v slots → PutsNonces atoms noVariable (read v slots)
+unfolding NonceTerm slotOf
+read-nonces atoms v slots nonces (named s x) is = go (ltb x variables) refl
+  where
+    go : (b : Bool) → ltb x variables ≡ b → NonceTerm atoms noVariable (pick b (v (slots + slotIn s x)) (atom 1000))
+    go true q = nonces (slotIn s x) (nonce-slot (named s x) is) (slot-small s (ltb-true x variables q))
+    go false q = foreignNonce (omega arith)
+
+-- A node that may be in the class of a nonce variable makes a nonce, and the other way round.
+made-nonce : (atoms : List Atom) (v : ℕ → Message) (n : Node) → NonceNode atoms n → NonceTerm atoms noVariable (made v n)
+unfolding NonceTerm made
+made-nonce atoms v free is = foreignNonce (omega arith)
+made-nonce atoms v (atomNode a) is = is
+made-nonce atoms v (pairNode l r) is = is
+made-nonce atoms v (wrapperNode w k c) is = is
+
+nonce-made : (atoms : List Atom) (v : ℕ → Message) (n : Node) → (IsSymbol n → NonceTerm atoms noVariable (made v n)) → NonceNode atoms n
+unfolding NonceTerm made
+nonce-made atoms v free is = tt
+nonce-made atoms v (atomNode a) is = is tt
+nonce-made atoms v (pairNode l r) is = is tt
+nonce-made atoms v (wrapperNode w k c) is = is tt
 
 -- A message read as a term, and back.
 unread : (m : Message) → replace (λ (x : Variable). atom 0) (asTerm m) ≡ m
@@ -69,13 +103,13 @@ module _ (s t : List ℕ) (bs : Begins s) (bt : Begins t) (ss : length s ≤ mos
     left-value : (k : ℕ) → 4 * (k + 1) ≤ length s → v (home s 0 variableNodes k) ≡ replace (read v variableNodes) (termOf (from (4 * k) s))
     left-value k h =
         let b = suffix k bs (omega arith) in
-        values (nodeOf s t) s 0 variableNodes ss (left-side s t) v (read v variableNodes) (λ w x l. refl) valid (b .term) k (omega arith) (b .reads)
+        values (nodeOf s t) s 0 variableNodes ss (left-side s t) v (read v variableNodes) (read-small v variableNodes) valid (b .term) k (omega arith) (b .reads)
         ∙ ap (replace (read v variableNodes)) (sym (rw part-to-end (termOf-reads (b .reads))))
 
     right-value : (k : ℕ) → 4 * (k + 1) ≤ length t → v (home t rightNodes rightVariables k) ≡ replace (read v rightVariables) (termOf (from (4 * k) t))
     right-value k h =
         let b = suffix k bt (omega arith) in
-        values (nodeOf s t) t rightNodes rightVariables st (right-side s t) v (read v rightVariables) (λ w x l. refl) valid (b .term) k (omega arith) (b .reads)
+        values (nodeOf s t) t rightNodes rightVariables st (right-side s t) v (read v rightVariables) (read-small v rightVariables) valid (b .term) k (omega arith) (b .reads)
         ∙ ap (replace (read v rightVariables)) (sym (rw part-to-end (termOf-reads (b .reads))))
 
   -- The valuation of two replacements is valid, and gives an entry's node the instance of the term that stands there.
@@ -142,65 +176,114 @@ module _ (s t : List ℕ) (bs : Begins s) (bt : Begins t) (ss : length s ≤ mos
         ∙ ap (replace g) (sym (rw part-to-end (termOf-reads (b .reads))))
 
   -- The noted entries, for a valuation and for replacements.
-  module _ {m : List ℕ} {n : ℕ} (r : Reduced s t m n) where
-    shared-of : {v : ℕ → Message} → Valid (nodeOf s t) v → AllEqual s t m n v → Share (termOf s) (termOf t)
-    shared-of {v} valid all = alike-share _ _ (r .same (λ x. asTerm (read v variableNodes x)) (λ x. asTerm (read v rightVariables x)) .1 (record {
-      each = λ k h. record {
-        same = equal-up (read v variableNodes) (read v rightVariables) _ _ (sym (left-value valid _ (r .noted .left k h)) ∙ all k h ∙ right-value valid _ (r .noted .right k h));
-      };
-    }))
+  module _ (atoms : List Atom) {m : List ℕ} {n : ℕ} (r : Reduced s t m n) where
+    shared-of : {v : ℕ → Message} → Valid (nodeOf s t) v → AllEqual s t m n v → NoncesAt atoms v variableNodes → NoncesAt atoms v rightVariables
+        → Share atoms (termOf s) (termOf t)
+    shared-of {v} valid all left right =
+        let f = read v variableNodes in
+        let g = read v rightVariables in
+        let same = equal-down f g _ _ (r .same (λ x. asTerm (f x)) (λ x. asTerm (g x)) .1 (record {
+          each = λ k h. record { same = equal-up f g _ _ (sym (left-value valid _ (r .noted .left k h)) ∙ all k h ∙ right-value valid _ (r .noted .right k h)) };
+        })) in
+        record {
+          message = replace f (termOf s);
+          left = record { by = f; nonces = read-nonces atoms v variableNodes left; same = refl };
+          right = record { by = g; nonces = read-nonces atoms v rightVariables right; same = sym same };
+        }
 
-    all-of : (h : Share (termOf s) (termOf t)) → AllEqual s t m n (given s t (h .left .by) (h .right .by))
+    all-of : (h : Common (termOf s) (termOf t)) → AllEqual s t m n (given s t (h .left .by) (h .right .by))
     all-of h k l =
         let f = h .left .by in
         let g = h .right .by in
-        let all = r .same (λ x. asTerm (f x)) (λ x. asTerm (g x)) .0 (share-alike h) in
+        let all = r .same (λ x. asTerm (f x)) (λ x. asTerm (g x)) .0 (common-alike h) in
         given-left-value f g _ (r .noted .left k l) ∙ equal-down f g _ _ (all .each k l .same) ∙ sym (given-right-value f g _ (r .noted .right k l))
 
-    -- What uniting and the test for finite classes answer, together.
-    sharing-yes : {next : ℕ → ℕ} → ClassStep (nodeOf s t) Any (λ i. i) next (AllEqual s t m n) → ((i : ℕ) → Finite (nodeOf s t) next i)
-        → Share (termOf s) (termOf t)
-    sharing-yes step ends =
-        let w = valued (step .classes) ends in
-        let closed = step .closes (w .v) (w .respects) (record { makes = λ i is. refl }) in
-        shared-of (w .valid closed) (step .holds (w .v) (w .respects) tt)
-
-    sharing-no : Clash (nodeOf s t) (λ i. i) (AllEqual s t m n) → Share (termOf s) (termOf t) → ⊥
+    sharing-no : Clash (nodeOf s t) (λ i. i) (AllEqual s t m n) → Common (termOf s) (termOf t) → ⊥
     sharing-no clash h = clash .never _ (given-valid (h .left .by) (h .right .by)) (record { same = λ i. refl }) (all-of h)
 
-    sharing-endless : {next : ℕ → ℕ} → ClassStep (nodeOf s t) Any (λ i. i) next (AllEqual s t m n)
-        → ((v : ℕ → Message) → Valid (nodeOf s t) v → Respects next v → ⊥) → Share (termOf s) (termOf t) → ⊥
-    sharing-endless step never h =
-        let valid = given-valid (h .left .by) (h .right .by) in
-        never _ valid (step .forth _ valid (record { same = λ i. refl }) (all-of h))
+    -- The noted entries were united.
+    module _ {next : ℕ → ℕ} (step : ClassStep (nodeOf s t) Any (λ i. i) next (AllEqual s t m n)) where
+      -- Then the valuation of a shared instance respects the classes.
+      given-respects : (h : Common (termOf s) (termOf t)) → Respects next (given s t (h .left .by) (h .right .by))
+      given-respects h = step .forth _ (given-valid (h .left .by) (h .right .by)) (record { same = λ i. refl }) (all-of h)
+
+      sharing-endless : ((v : ℕ → Message) → Valid (nodeOf s t) v → Respects next v → ⊥) → Common (termOf s) (termOf t) → ⊥
+      sharing-endless never h = never _ (given-valid (h .left .by) (h .right .by)) (given-respects h)
+
+      -- Every way down ends, and the classes of nonce variables are named by variables or nonces.
+      sharing-yes : ((i : ℕ) → Finite (nodeOf s t) next i) → NoncesKept atoms s t next → Share atoms (termOf s) (termOf t)
+      sharing-yes ends kept =
+          let w = valued (step .classes) ends in
+          let closed = step .closes (w .v) (w .respects) (record { makes = λ i is. refl }) in
+          shared-of (w .valid closed) (step .holds (w .v) (w .respects) tt) (λ k far few. nonce w _ (kept .left k far few)) (λ k far few. nonce w _ (kept .right k far few))
+        where
+          nonce : (w : Valued (nodeOf s t) next) (i : ℕ) → NonceNode atoms (nodeOf s t (next i)) → NonceTerm atoms noVariable (w .v i)
+          nonce w i is = rw (w .makes i) (made-nonce atoms (w .v) (nodeOf s t (next i)) is)
+
+      -- With a shared instance they are.
+      sharing-kept : Share atoms (termOf s) (termOf t) → NoncesKept atoms s t next
+      sharing-kept h = record {
+        left = λ k far few. kept (variableNodes + k) (rw (on-left k few) (h .left .nonces (inSlot k) (high-slot far)));
+        right = λ k far few. kept (rightVariables + k) (rw (on-right k) (h .right .nonces (inSlot k) (high-slot far)));
+      }
+        where
+          f : Variable → Message
+          f = h .left .by
+
+          g : Variable → Message
+          g = h .right .by
+
+          still : Respects next (given s t f g)
+          still = given-respects (record { message = h .message; left = record { by = f; same = h .left .same }; right = record { by = g; same = h .right .same } })
+
+          on-left : (k : ℕ) → k < slotCount → given s t f g (variableNodes + k) ≡ f (inSlot k)
+          on-left k few =
+              let back : variableNodes + k - variableNodes ≡ k = omega arith in
+              given-slot f g (variableNodes + k) (omega arith) ∙ simp (lt-ltb (variableNodes + k) rightVariables (omega arith), back)
+
+          on-right : (k : ℕ) → given s t f g (rightVariables + k) ≡ g (inSlot k)
+          on-right k =
+              let back : rightVariables + k - rightVariables ≡ k = omega arith in
+              given-slot f g (rightVariables + k) (omega arith) ∙ simp (le-ltb (rightVariables + k) rightVariables (omega arith), back)
+
+          kept : (i : ℕ) → NonceTerm atoms noVariable (given s t f g i) → NonceNode atoms (nodeOf s t (next i))
+          kept i is = nonce-made atoms (given s t f g) (nodeOf s t (next i))
+              (λ symbol. rw (still .same i ∙ given-valid f g .makes (next i) symbol) at is)
 
 -- What the test for a shared instance answers, from the array in which every node is a class by itself.
-module _ {s t m : List ℕ} {n : ℕ} (two : TwoTerms s t) (r : Reduced s t m n) {name next : ℕ → ℕ} (own : name ≡ (λ i. i)) {a : Bool}
+module _ (atoms : List Atom) {s t m : List ℕ} {n : ℕ} (two : TwoTerms s t) (r : Reduced s t m n) {name next : ℕ → ℕ} (own : name ≡ (λ i. i)) {a : Bool}
     (united : Outcome (nodeOf s t) Any name next (AllEqual s t m n) a) where
   -- Uniting met a clash.
-  pub clash-answer : a ≡ false → false ≡ answer (share? variable? variable? (termOf s) (termOf t))
+  pub clash-answer : a ≡ false → false ≡ answer (share? atoms (termOf s) (termOf t))
   clash-answer e =
       let clash = rw own at (united .clashed e) in
-      says-answer false (sharing-no s t (two .left) (two .right) (two .left-short) (two .right-short) r clash)
-      (share? variable? variable? (termOf s) (termOf t))
+      says-answer false (λ h. sharing-no s t (two .left) (two .right) (two .left-short) (two .right-short) atoms r clash (common h))
+      (share? atoms (termOf s) (termOf t))
 
-  -- All were united: then every way down has to end.
-  pub ending-answer : a ≡ true → (b : Bool) → (b ≡ true → (i : ℕ) → Finite (nodeOf s t) next i)
-      → (b ≡ false → (v : ℕ → Message) → Valid (nodeOf s t) v → Respects next v → ⊥) → b ≡ answer (share? variable? variable? (termOf s) (termOf t))
-  ending-answer e b ends never =
+  -- All were united: then the classes of nonce variables have to be named by variables or nonces.
+  pub lost-answer : a ≡ true → ¬ NoncesKept atoms s t next → false ≡ answer (share? atoms (termOf s) (termOf t))
+  lost-answer e lost =
       let step = rw own at (united .stepped e) in
-      says-answer b (said b (λ q. sharing-yes s t (two .left) (two .right) (two .left-short) (two .right-short) r step (ends q))
-      (λ q. sharing-endless s t (two .left) (two .right) (two .left-short) (two .right-short) r step (never q)))
-      (share? variable? variable? (termOf s) (termOf t))
+      says-answer false (λ h. lost (sharing-kept s t (two .left) (two .right) (two .left-short) (two .right-short) atoms r step h))
+      (share? atoms (termOf s) (termOf t))
+
+  -- And every way down has to end.
+  pub ending-answer : a ≡ true → NoncesKept atoms s t next → (b : Bool) → (b ≡ true → (i : ℕ) → Finite (nodeOf s t) next i)
+      → (b ≡ false → (v : ℕ → Message) → Valid (nodeOf s t) v → Respects next v → ⊥) → b ≡ answer (share? atoms (termOf s) (termOf t))
+  ending-answer e kept b ends never =
+      let step = rw own at (united .stepped e) in
+      says-answer b (said b (λ q. sharing-yes s t (two .left) (two .right) (two .left-short) (two .right-short) atoms r step (ends q) kept)
+      (λ q h. sharing-endless s t (two .left) (two .right) (two .left-short) (two .right-short) atoms r step (never q) (common h)))
+      (share? atoms (termOf s) (termOf t))
     where
       said : {P : Type 0} (b : Bool) → (b ≡ true → P) → (b ≡ false → P → ⊥) → Says b P
       said true holds fails = holds refl
       said false holds fails = fails refl
 
 -- The walk came to different symbols.
-pub apart-answer : (t u : Term Variable) → ((by by′ : Variable → Term Variable) → ¬ (replace by t ≡ replace by′ u))
-    → false ≡ answer (share? variable? variable? t u)
-apart-answer t u off = says-answer false (λ h. off _ _ (share-alike h)) (share? variable? variable? t u)
+pub apart-answer : (atoms : List Atom) (t u : Term Variable) → ((by by′ : Variable → Term Variable) → ¬ (replace by t ≡ replace by′ u))
+    → false ≡ answer (share? atoms t u)
+apart-answer atoms t u off = says-answer false (λ h. off _ _ (common-alike (common h))) (share? atoms t u)
 
 -- ---- uniting the noted entries, one after the other
 

@@ -13,7 +13,8 @@ use borrow.Author.Tests.{ltb-true, ltb-false}
 use borrow.Rule.Slice.PartAt.{part-to-end}
 use Rattle.blocks.specs.Limits.{mostTermBytes, mostTermEntries}
 use Rattle.terms.specs.Term.{Term, encrypted, Variable, encryption}
-use Rattle.terms.specs.Tag.{pairTag, encryptionTag}
+use mathlib.Core.Logic.{inl, inr}
+use Rattle.terms.specs.Tag.{pairTag, encryptionTag, MarkedTag}
 use Rattle.terms.specs.Entry.{size, termOf, Reads, Begins, from}
 use Rattle.terms.specs.TermGraph.{tagIn, valueIn, rightIn, sizeIn, SizesOf}
 use Rattle.terms.specs.Sizes.{SizedFrom, KeptBelow}
@@ -27,6 +28,10 @@ tag-inside e k {n} g = go (ltb (4 * k) (length e)) refl
     go : (b : Bool) → ltb (4 * k) (length e) ≡ b → 4 * k < length e
     go true q = ltb-true (4 * k) (length e) q
     go false q = let none : tagIn e k ≡ 0 = List·getD-eq-default e 0 (ltb-false (4 * k) (length e) q) in omega arith
+
+pub marked-inside : (e : List ℕ) (k : ℕ) → MarkedTag (tagIn e k) → 4 * k < length e
+marked-inside e k (inl m) = tag-inside e k m
+marked-inside e k (inr m) = tag-inside e k m
 
 -- Tag 2 at entry k of terms: a pair stands there.
 pub record PairThere (e : List ℕ) (k : ℕ) : Type 0 where

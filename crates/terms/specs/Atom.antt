@@ -9,7 +9,8 @@ use lib.ListN.{length, getD}
 use Rattle.terms.specs.declared.atom.Atom.{Atom}
 use Rattle.terms.specs.declared.valid.Found.{Found}
 use Rattle.terms.specs.First.{firstNot}
-use Rattle.terms.specs.Decisions.{dec-map, dec-and}
+use Rattle.terms.specs.Decisions.{dec-map, dec-and, dec-or}
+use Rattle.terms.specs.Term.{Foreign}
 
 -- Kinds of atoms: 1 principal, 2 nonce, 3 public, 4 private, 5 symmetric key.
 abbrev pub principalKind : ℕ
@@ -91,6 +92,24 @@ kind-key {atoms} {n} low high = elim (ℕ-discrete (atomKind atoms n) publicKind
 unfoldable pub isKey? : (atoms : List Atom) (n : ℕ) → Dec (IsKey atoms n)
 unfolding atomAt decLe dec-map dec-and
 isKey? atoms n = dec-map (λ h. kind-key (h .0) (h .1)) key-kind (dec-and (decLe publicKind (atomKind atoms n)) (λ l. decLe (atomKind atoms n) symmetricKind))
+
+-- A nonce: a listed atom of kind 2, or a foreign one, for "all are nonces". (02, No. 3: "listed or foreign".) This is the
+-- one place that says which atoms are nonces.
+pub data Nonce (atoms : List Atom) (n : ℕ) : Type 0 where
+  listedNonce : atomKind atoms n ≡ nonceKind → Nonce atoms n
+  foreignNonce : Foreign n → Nonce atoms n
+
+unfoldable pub nonce? : (atoms : List Atom) (n : ℕ) → Dec (Nonce atoms n)
+unfolding atomAt ℕ-discrete decLe dec-map dec-or
+nonce? atoms n = dec-map to from (dec-or (ℕ-discrete (atomKind atoms n) nonceKind) (λ off. decLe 1000 n))
+  where
+    to : (atomKind atoms n ≡ nonceKind) ⊎ Foreign n → Nonce atoms n
+    to (inl is) = listedNonce is
+    to (inr far) = foreignNonce far
+
+    from : Nonce atoms n → (atomKind atoms n ≡ nonceKind) ⊎ Foreign n
+    from (listedNonce is) = inl is
+    from (foreignNonce far) = inr far
 
 -- A public and a private key name each other: the partner is an entry of the other kind whose partner field is this
 -- entry's number. Of the partner's entry only its kind and its partner field count.

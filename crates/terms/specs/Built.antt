@@ -4,8 +4,8 @@ use mathlib.Core.Logic.{_⊎_}
 use mathlib.Core.List.{List}
 use Prim.Native.Nat.{ℕ, _<_}
 use lib.ListN.{length}
-use Rattle.terms.specs.Term.{Term, variable, atom, pair, Foreign, wrapped}
-use Rattle.terms.specs.Instance.{Matches, Share}
+use Rattle.terms.specs.Term.{Term, variable, atom, pair, Range, Variable, Foreign, wrapped}
+use Rattle.terms.specs.Instance.{Replaced, Share}
 use Rattle.terms.specs.declared.atom.Atom.{Atom}
 
 -- Every atom a of the term has A a, and every key k of its encryptions has K k.
@@ -16,16 +16,16 @@ Built A K (pair t u) = Built A K t × Built A K u
 Built A K (wrapped w k t) = K k × Built A K t
 
 -- A match by built terms alone.
-pub record BuiltMatch (A K : ℕ → Type 0) {X Y : Type 0} (pattern : Term X) (term : Term Y) : Type 0 where
-  pub match : Matches pattern term
-  pub built : (x : X) → Built A K (match .by x)
+pub record BuiltMatch (A K : ℕ → Type 0) (atoms : List Atom) {Y : Type 0} (range : Y → Range) (pattern : Term Variable) (term : Term Y) : Type 0 where
+  pub match : Replaced atoms range pattern term
+  pub built : (x : Variable) → Built A K (match .by x)
 
 -- A shared instance that is built, by replacements that are built at every variable.
-pub record BuiltShare (A K : ℕ → Type 0) {X Y : Type 0} (s : Term X) (t : Term Y) : Type 0 where
-  pub share : Share s t
+pub record BuiltShare (A K : ℕ → Type 0) (atoms : List Atom) (s t : Term Variable) : Type 0 where
+  pub share : Share atoms s t
   pub message : Built A K (share .message)
-  pub left : (x : X) → Built A K (share .left .by x)
-  pub right : (y : Y) → Built A K (share .right .by y)
+  pub left : (x : Variable) → Built A K (share .left .by x)
+  pub right : (y : Variable) → Built A K (share .right .by y)
 
 -- Messages over the listed and the foreign atoms alone, with listed keys alone: two right terms share an instance if and
 -- only if they share such a one, by such replacements.

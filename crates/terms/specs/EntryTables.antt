@@ -16,7 +16,7 @@ use Rattle.terms.specs.Decisions.{pick}
 unfoldable pub listedKind : List Atom → ℕ → ℕ
 listedKind atoms n = pick (ltb (atomKind atoms n) 6) (atomKind atoms n) 0
 
--- How many plain and how many marked variables a block of this kind may have.
+-- How many plain and how many marked variables a block of this kind may have, and as many nonce variables of each.
 unfoldable pub plainLimit : ℕ → ℕ
 plainLimit kind = pick (eqb kind secretKind) 0 variables
 
@@ -25,10 +25,10 @@ markedLimit kind = pick (eqb kind goodKind) variables (pick (eqb kind badKind) v
 
 -- The limits of the tags, with so many atoms, and their least kinds.
 unfoldable pub limitsOf : ℕ → ℕ → List ℕ
-limitsOf kind count = 0 ∷ count ∷ 1 ∷ count ∷ plainLimit kind ∷ markedLimit kind ∷ []
+limitsOf kind count = 0 ∷ count ∷ 1 ∷ count ∷ plainLimit kind ∷ markedLimit kind ∷ plainLimit kind ∷ markedLimit kind ∷ []
 
 abbrev pub leastKinds : List ℕ
-leastKinds = 0 ∷ 0 ∷ 0 ∷ publicKind ∷ 0 ∷ 0 ∷ []
+leastKinds = 0 ∷ 0 ∷ 0 ∷ publicKind ∷ 0 ∷ 0 ∷ 0 ∷ 0 ∷ []
 
 -- The entry that stands first is right by these tables.
 pub record ByTables (atoms : List Atom) (limits least e : List ℕ) : Type 0 where

@@ -6,7 +6,9 @@ use mathlib.Core.Option.{Option, none, some}
 use Prim.Native.Nat.{ℕ, _+_, _*_, _<_, _≤_}
 use lib.ListN.{length, getD, take}
 use Rattle.blocks.specs.Limits.{mostTermBytes}
-use Rattle.terms.specs.Term.{Term, Variable, replace}
+use Rattle.terms.specs.declared.atom.Atom.{Atom}
+use Rattle.terms.specs.Term.{Term, Variable, oneNonce, rangeOf, replace}
+use Rattle.terms.specs.Instance.{NonceTerm, PutsNonces}
 use Rattle.terms.specs.Tag.{SymbolTag}
 use Rattle.terms.specs.Entry.{termsOf, termOf, Reads, Begins, tagAt, valueAt, from}
 use Rattle.terms.specs.Slot.{slotCount, inSlot}
@@ -59,7 +61,7 @@ pub record Goes (e f : List ℕ) (count left : ℕ) : Type 0 where
   pub symbol : SymbolTag (tagAt (from (4 * count) e))
   pub same : SameFirst (from (4 * count) e) (from (4 * count) f)
 
--- Bindings: for each of 16 slots the entry of t where its variable's term stands, 255 for a variable that is not bound.
+-- Bindings: for each of 32 slots the entry of t where its variable's term stands, 255 for a variable that is not bound.
 abbrev pub Bound : List ℕ → ℕ → Type 0
 Bound bound i = (i < slotCount) × ¬ (getD bound i 0 ≡ 255)
 
@@ -85,9 +87,18 @@ pub record Ready (p t : List ℕ) (at need : ℕ) (bound : List ℕ) : Type 0 wh
   pub inside : 4 * (at + need) ≤ length t
   pub small : length t ≤ mostTermBytes
 
--- What the walk says: some replacement that agrees with the bindings makes the first terms of t from its entry `at` on
--- from the first terms of p.
-pub record Made (p t : List ℕ) (at need : ℕ) (bound : List ℕ) : Type 0 where
+-- The term at entry `at` may be put at the variable of slot i.
+abbrev pub MayTake : List Atom → ℕ → List ℕ → ℕ → Type 0
+MayTake atoms i t at = rangeOf (inSlot i) ≡ oneNonce → NonceTerm atoms rangeOf (termOf (from (4 * at) t))
+
+-- Every bound term may be put at its variable.
+pub record NoncesBound (atoms : List Atom) (t bound : List ℕ) : Type 0 where
+  pub each : (i : ℕ) → Bound bound i → MayTake atoms i t (getD bound i 0)
+
+-- What the walk says: some replacement that puts nonces at nonce variables and agrees with the bindings makes the first
+-- terms of t from its entry `at` on from the first terms of p.
+pub record Made (atoms : List Atom) (p t : List ℕ) (at need : ℕ) (bound : List ℕ) : Type 0 where
   pub by : Variable → Term Variable
+  pub nonces : PutsNonces atoms rangeOf by
   pub agrees : Agrees t bound by
   pub takes : Takes by need p (from (4 * at) t)

@@ -3,7 +3,10 @@
 use mathlib.Core.Path.{_≡_}
 use mathlib.Core.Logic.{_⊎_}
 use mathlib.Core.Bool.{Bool, true, false}
+use mathlib.Core.List.{List}
 use Prim.Native.Nat.{ℕ}
+use Rattle.terms.specs.declared.atom.Atom.{Atom}
+use Rattle.terms.specs.Atom.{Nonce}
 use Rattle.terms.specs.Term.{atom, pair, Message, wrapped, Wrapping}
 
 -- What stands at a node: a free node (a variable, or nothing), or a symbol with its children's nodes.
@@ -18,6 +21,13 @@ IsSymbol free = ⊥
 IsSymbol (atomNode a) = Unit {0}
 IsSymbol (pairNode l r) = Unit {0}
 IsSymbol (wrapperNode w k c) = Unit {0}
+
+-- What may stand at a node whose class holds a nonce variable (02, No. 3): no pair, no encryption, and no atom but a nonce.
+abbrev pub NonceNode : List Atom → Node → Type 0
+NonceNode atoms free = Unit {0}
+NonceNode atoms (atomNode a) = Nonce atoms a
+NonceNode atoms (pairNode l r) = ⊥
+NonceNode atoms (wrapperNode w k c) = ⊥
 
 -- The message that a node's symbol makes of its children's messages; a free node gets a foreign atom.
 unfoldable pub made : (ℕ → Message) → Node → Message

@@ -11,9 +11,11 @@ use Rattle.terms.specs.declared.sharing.Walk.the-variants.{Apart, Throug
 use Rattle.terms.specs.Term.{Term, Message, Variable, replace}
 use Rattle.terms.specs.Tag.{SymbolTag}
 use Rattle.terms.specs.Entry.{termOf, tagAt, from}
-use Rattle.terms.specs.Slot.{slotCount, slotOf}
+use Rattle.terms.specs.declared.atom.Atom.{Atom}
+use Rattle.terms.specs.Slot.{slotCount, anySlots, slotOf}
+use Rattle.terms.specs.Graph.{NonceNode}
 use Rattle.terms.specs.Front.{Front, SameFirst, Alike}
-use Rattle.terms.specs.TermGraph.{rightNodes, variableNodes, rightVariables, home}
+use Rattle.terms.specs.TermGraph.{rightNodes, variableNodes, rightVariables, home, nodeOf}
 
 -- Both begin with symbols, and not with the same one.
 pub record RootsDiffer (s t : List ℕ) : Type 0 where
@@ -34,13 +36,13 @@ pub record NotedIn (s m : List ℕ) (n : ℕ) : Type 0 where
   pub few : n ≤ mostTermEntries
   pub inside : (k : ℕ) → k < n → 4 * (getD m k 0 + 1) ≤ length s
 
--- The slot of the term at the k-th noted entry of the first side: its variable's, or 16.
+-- The slot of the term at the k-th noted entry of the first side: its variable's, or 32.
 abbrev pub notedSlot : List ℕ → List ℕ → ℕ → ℕ
 notedSlot s m k = slotOf (termOf (from (4 * getD m k 0) s))
 
--- Variables stand at the first n noted entries of the first side, each another one.
+-- Variables for any message stand at the first n noted entries of the first side, each another one.
 pub record Distinct (s m : List ℕ) (n : ℕ) : Type 0 where
-  pub variables : (k : ℕ) → k < n → notedSlot s m k < slotCount
+  pub variables : (k : ℕ) → k < n → notedSlot s m k < anySlots
   pub apart : (j k : ℕ) → j < k → k < n → ¬ (notedSlot s m j ≡ notedSlot s m k)
 
 -- The replacements, one for each side, make the terms at entries i and j the same.
@@ -80,3 +82,17 @@ WalkSays s t m (Through n) = Reduced s t m n
 -- A valuation gives the nodes of the first n noted entries equal messages, two and two.
 abbrev pub AllEqual : List ℕ → List ℕ → List ℕ → ℕ → (ℕ → Message) → Type 0
 AllEqual s t m n v = (k : ℕ) → k < n → v (home s 0 variableNodes (getD m k 0)) ≡ v (home t rightNodes rightVariables (getD m (64 + k) 0))
+
+-- The class of every nonce variable is named by a variable or by a nonce: on the side whose variables' nodes begin at `slots`;
+-- on both sides.
+abbrev pub SideKeeps : List Atom → List ℕ → List ℕ → (ℕ → ℕ) → ℕ → Type 0
+SideKeeps atoms s t name slots = (k : ℕ) → anySlots ≤ k → k < slotCount → NonceNode atoms (nodeOf s t (name (slots + k)))
+
+pub record NoncesKept (atoms : List Atom) (s t : List ℕ) (name : ℕ → ℕ) : Type 0 where
+  pub left : SideKeeps atoms s t name variableNodes
+  pub right : SideKeeps atoms s t name rightVariables
+
+-- Every nonce variable names its own class.
+pub record NoncesAlone (name : ℕ → ℕ) : Type 0 where
+  pub left : (k : ℕ) → anySlots ≤ k → k < slotCount → name (variableNodes + k) ≡ variableNodes + k
+  pub right : (k : ℕ) → anySlots ≤ k → k < slotCount → name (rightVariables + k) ≡ rightVariables + k

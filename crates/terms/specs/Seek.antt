@@ -1,10 +1,15 @@
--- What `match?` needs: the one replacement by which a pattern can become a term.
+-- What `match?` needs: whether a pattern becomes a term, whatever its variables stand for, and the one replacement by which
+-- it can.
 use mathlib.Core.Path.{_≡_, _∙_}
 use mathlib.Core.HLevel.{Discrete}
 use mathlib.Core.Logic.{_⊎_, inl, inr, ⊎-elim}
 use Rattle.terms.specs.Term.{Term, variable, atom, pair, replace, wrapped}
-use Rattle.terms.specs.Instance.{Matches}
 use Rattle.terms.specs.Occurs.{Occurs, replace-on}
+
+-- The term is the pattern with its variables replaced by terms, whatever they stand for.
+pub record Becomes {X Y : Type 0} (pattern : Term X) (term : Term Y) : Type 0 where
+  pub by : X → Term Y
+  pub same : replace by pattern ≡ term
 
 -- The part of the term against which the variable stands first in the pattern; `rest` if there is none.
 unfoldable pub seek : {X Y : Type 0} → Discrete X → X → Term X → Term Y → Term Y → Term Y
@@ -39,6 +44,6 @@ unfolding seek
 found d p t x = seek d x p t (atom 0)
 
 -- If any replacement makes the term of the pattern, this one does.
-pub found-is : {X Y : Type 0} (d : Discrete X) (p : Term X) (t : Term Y) → Matches p t → replace (found d p t) p ≡ t
+pub found-is : {X Y : Type 0} (d : Discrete X) (p : Term X) (t : Term Y) → Becomes p t → replace (found d p t) p ≡ t
 unfolding found
 found-is d p t m = replace-on (found d p t) (m .by) p (λ x o. rw (← m .same) (seek-is d (m .by) x p (atom 0) (inl o))) ∙ m .same

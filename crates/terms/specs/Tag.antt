@@ -5,9 +5,10 @@ use mathlib.Core.Bool.{Bool, true, false}
 use mathlib.Core.Logic.{_⊎_, inl, inr}
 use Prim.Native.Nat.{ℕ, zero, suc, _≤_, _<_}
 use native.Mathlib.Omega.{arith}
-use Rattle.terms.specs.Term.{Sort, plain, marked, Wrapping, encryption}
+use Rattle.terms.specs.Term.{Sort, sort, plain, marked, anyMessage, oneNonce, Wrapping, encryption}
 
--- Tags: 1 atom; 2 pair; 3 encryption; 4 plain variable; 5 marked variable.
+-- Tags: 1 atom; 2 pair; 3 encryption; 4 plain variable; 5 marked variable; 6 plain nonce variable; 7 marked one
+-- (02, No. 3).
 abbrev pub atomTag : ℕ
 atomTag = 1
 
@@ -23,14 +24,22 @@ plainTag = 4
 abbrev pub markedTag : ℕ
 markedTag = 5
 
+abbrev pub plainNonceTag : ℕ
+plainNonceTag = 6
+
+abbrev pub markedNonceTag : ℕ
+markedNonceTag = 7
+
 -- The tag of what is put around a term.
 unfoldable pub wrappingTag : Wrapping → ℕ
 wrappingTag encryption = encryptionTag
 
 -- The tag of a variable of this sort.
 unfoldable pub sortTag : Sort → ℕ
-sortTag plain = plainTag
-sortTag marked = markedTag
+sortTag (sort plain anyMessage) = plainTag
+sortTag (sort marked anyMessage) = markedTag
+sortTag (sort plain oneNonce) = plainNonceTag
+sortTag (sort marked oneNonce) = markedNonceTag
 
 -- How many variables of each sort there are: 0 to 7.
 abbrev pub variables : ℕ
@@ -43,6 +52,10 @@ VariableTag tag = encryptionTag < tag
 abbrev pub SymbolTag : ℕ → Type 0
 SymbolTag tag = tag ≤ encryptionTag
 
+-- The tag of a variable that is marked.
+abbrev pub MarkedTag : ℕ → Type 0
+MarkedTag tag = (tag ≡ markedTag) ⊎ (tag ≡ markedNonceTag)
+
 -- A tag that has one child.
 abbrev pub WrapperTag : ℕ → Type 0
 WrapperTag tag = tag ≡ encryptionTag
@@ -53,7 +66,7 @@ pub data Tagged (tag : ℕ) : Type 0 where
   aPair : tag ≡ pairTag → Tagged tag
   aWrapping : (w : Wrapping) → tag ≡ wrappingTag w → Tagged tag
   aVariable : (s : Sort) → tag ≡ sortTag s → Tagged tag
-  noTag : (tag < atomTag) ⊎ (markedTag < tag) → Tagged tag
+  noTag : (tag < atomTag) ⊎ (markedNonceTag < tag) → Tagged tag
 
 unfoldable pub tagged : (tag : ℕ) → Tagged tag
 unfolding sortTag wrappingTag
@@ -61,9 +74,11 @@ tagged zero = noTag (inl (omega arith))
 tagged (suc zero) = anAtom refl
 tagged (suc (suc zero)) = aPair refl
 tagged (suc (suc (suc zero))) = aWrapping encryption refl
-tagged (suc (suc (suc (suc zero)))) = aVariable plain refl
-tagged (suc (suc (suc (suc (suc zero))))) = aVariable marked refl
-tagged (suc (suc (suc (suc (suc (suc n)))))) = noTag (inr (omega arith))
+tagged (suc (suc (suc (suc zero)))) = aVariable (sort plain anyMessage) refl
+tagged (suc (suc (suc (suc (suc zero))))) = aVariable (sort marked anyMessage) refl
+tagged (suc (suc (suc (suc (suc (suc zero)))))) = aVariable (sort plain oneNonce) refl
+tagged (suc (suc (suc (suc (suc (suc (suc zero))))))) = aVariable (sort marked oneNonce) refl
+tagged (suc (suc (suc (suc (suc (suc (suc (suc n)))))))) = noTag (inr (omega arith))
 
 -- How many children an entry of this tag has.
 abbrev pub childrenBy : {tag : ℕ} → Tagged tag → ℕ
@@ -77,7 +92,7 @@ unfoldable pub childrenOf : ℕ → ℕ
 unfolding tagged
 childrenOf tag = childrenBy (tagged tag)
 
--- A tag that may stand for any message, or for none: a variable's, or no tag.
+-- A tag without a symbol of its own: a variable's, or no tag.
 abbrev pub freeBy : {tag : ℕ} → Tagged tag → Bool
 freeBy (anAtom e) = false
 freeBy (aPair e) = false
@@ -92,13 +107,17 @@ freeTag tag = freeBy (tagged tag)
 -- What the decisions below need of the tag of a sort: it is a variable's, and says that sort.
 pub sort-tag : {tag : ℕ} (s : Sort) → tag ≡ sortTag s → VariableTag tag
 unfolding sortTag
-sort-tag plain e = omega arith
-sort-tag marked e = omega arith
+sort-tag (sort plain anyMessage) e = omega arith
+sort-tag (sort marked anyMessage) e = omega arith
+sort-tag (sort plain oneNonce) e = omega arith
+sort-tag (sort marked oneNonce) e = omega arith
 
 pub sort-tagged : (s : Sort) → tagged (sortTag s) ≡ aVariable s refl
 unfolding tagged sortTag
-sort-tagged plain = refl
-sort-tagged marked = refl
+sort-tagged (sort plain anyMessage) = refl
+sort-tagged (sort marked anyMessage) = refl
+sort-tagged (sort plain oneNonce) = refl
+sort-tagged (sort marked oneNonce) = refl
 
 -- The same of what is put around a term.
 pub wrapping-tag : {tag : ℕ} (w : Wrapping) → tag ≡ wrappingTag w → WrapperTag tag

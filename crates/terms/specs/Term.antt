@@ -28,16 +28,34 @@ Message = Term ⊥
 abbrev pub Foreign : ℕ → Type 0
 Foreign a = 1000 ≤ a
 
--- The sorts of variables: plain and marked ones.
+-- A variable is plain or marked.
+pub data Marking : Type 0 where
+  plain : Marking
+  marked : Marking
+  deriving Discrete as Marking-discrete
+
+-- It stands for any message, or for one nonce (02, No. 3).
+pub data Range : Type 0 where
+  anyMessage : Range
+  oneNonce : Range
+  deriving Discrete as Range-discrete
+
+-- The sorts of variables.
 pub data Sort : Type 0 where
-  plain : Sort
-  marked : Sort
+  sort : Marking → Range → Sort
   deriving Discrete as Sort-discrete
 
--- A variable of a file: a marked variable is never the same as a plain one of its number.
+-- A variable of a file: variables of one number and of different sorts are never the same.
 pub data Variable : Type 0 where
   named : Sort → ℕ → Variable
   deriving Discrete as Variable-discrete
+
+-- What a variable stands for. A message has none, so there is nothing to tell.
+unfoldable pub rangeOf : Variable → Range
+rangeOf (named (sort m r) n) = r
+
+unfoldable pub noVariable : ⊥ → Range
+noVariable x = absurd x
 
 -- A term with each variable replaced, by the same term at all its occurrences.
 unfoldable pub replace : {X Y : Type 0} → (X → Term Y) → Term X → Term Y
@@ -46,7 +64,8 @@ replace by (atom a) = atom a
 replace by (pair t u) = pair (replace by t) (replace by u)
 replace by (wrapped w k t) = wrapped w k (replace by t)
 
--- An instance replaces each variable by a finite message, the same one at all its occurrences.
+-- A term with each variable replaced by a finite message, the same one at all its occurrences. It is an instance if nonce
+-- variables get nonces: `Instance`, `PutsNonces` of specs/Instance.antt (02, No. 3).
 abbrev pub instance : {X : Type 0} → (X → Message) → Term X → Message
 instance by t = replace by t
 

@@ -7,7 +7,7 @@ use native.Mathlib.Decide.{ℕ-discrete, decLt}
 use lib.ListN.{length, getD, drop}
 use Rattle.blocks.specs.Kinds.{secretKind, goodKind, badKind}
 use Rattle.terms.specs.declared.valid.Found.{Found}
-use Rattle.terms.specs.Term.{Sort, plain, marked}
+use Rattle.terms.specs.Term.{Sort, sort, plain, marked}
 use Rattle.terms.specs.Tag.{atomTag, pairTag, encryptionTag, sortTag, variables, Tagged, anAtom, aPair, aWrapping, aVariable, noTag, tagged, wrapping-tag}
 use Rattle.terms.specs.Tag.{sort-tagged}
 use Rattle.terms.specs.Entry.{tagAt, valueAt}
@@ -18,13 +18,14 @@ use Rattle.terms.specs.First.{firstNot}
 use Rattle.terms.specs.Each.{EntryIs}
 
 -- Where a variable of this sort may stand. "Secrets have no variables"; 5, a marked variable, is for good patterns, and for
--- bad ones (02, No. 2).
+-- bad ones (02, No. 2). "Tag 6 is allowed where tag 4 is, tag 7 where tag 5 is" (02, No. 3).
 unfoldable pub MayStand : Sort → ℕ → Type 0
-MayStand plain kind = kind ≡ secretKind → ⊥
-MayStand marked kind = (kind ≡ goodKind) ⊎ (kind ≡ badKind)
+MayStand (sort plain r) kind = kind ≡ secretKind → ⊥
+MayStand (sort marked r) kind = (kind ≡ goodKind) ⊎ (kind ≡ badKind)
 
 -- Tags: 1 atom (its number); 2 pair (0); 3 encryption (a key's number); 4 plain variable (0 to 7); 5 marked variable
--- (0 to 7, good and bad only). Secrets have no variables. Kinds: 2 secret, 3 good, 4 bad, 5 rule.
+-- (0 to 7, good and bad only); 6 plain nonce variable, 7 marked one (0 to 7; 02, No. 3). Secrets have no variables. Kinds:
+-- 2 secret, 3 good, 4 bad, 5 rule.
 pub data TagRight (atoms : List Atom) (kind tag value : ℕ) : Type 0 where
   atomEntry : tag ≡ atomTag → value < length atoms → TagRight atoms kind tag value
   pairEntry : tag ≡ pairTag → value ≡ 0 → TagRight atoms kind tag value
@@ -39,8 +40,8 @@ pub record EntryRight (atoms : List Atom) (kind tag zeroByte value : ℕ) : Type
 -- The same, decided by the tag.
 unfoldable pub mayStand? : (s : Sort) (kind : ℕ) → Dec (MayStand s kind)
 unfolding MayStand ℕ-discrete dec-not dec-or
-mayStand? plain kind = dec-not (ℕ-discrete kind secretKind)
-mayStand? marked kind = dec-or (ℕ-discrete kind goodKind) (λ n. ℕ-discrete kind badKind)
+mayStand? (sort plain r) kind = dec-not (ℕ-discrete kind secretKind)
+mayStand? (sort marked r) kind = dec-or (ℕ-discrete kind goodKind) (λ n. ℕ-discrete kind badKind)
 
 module _ (atoms : List Atom) (kind value : ℕ) where
   -- What an entry of this tag has to have.

@@ -1,5 +1,5 @@
 -- The graph of two terms: the entries of one from node 0, of the other from node 64, and the variables of each side as
--- nodes of their own from 128 and from 144. The entry of a variable is found at its variable's node.
+-- nodes of their own from 128 and from 160. The entry of a variable is found at its variable's node.
 use mathlib.Core.List.{List}
 use mathlib.Core.Logic.{_⊎_}
 use mathlib.Core.Path.{_≡_}

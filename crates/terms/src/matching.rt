@@ -4,18 +4,23 @@ ghost use mathlib.Core.Bool.{true};
 ghost use Prim.Native.Nat.{_*_, _<_, _≤_};
 ghost use lib.ListN.{length, set};
 ghost use Rattle.blocks.specs.Limits.{mostTermBytes};
-ghost use Rattle.terms.specs.Term.{variable};
+ghost use Rattle.terms.specs.Term.{variable, rangeOf};
 ghost use Rattle.terms.specs.Entry.{Begins, termOf, from};
-ghost use Rattle.terms.specs.Instance.{Share};
+ghost use mathlib.Core.List.{List};
+ghost use Rattle.terms.specs.declared.atom.Atom.{Atom};
+ghost use Rattle.terms.specs.Nonces.{NoncesIn};
+ghost use Rattle.terms.specs.Instance.{NonceTerm};
+ghost use Rattle.terms.specs.Apart.{Common};
 ghost use Rattle.terms.specs.Decisions.{Says};
 ghost use Rattle.terms.specs.Decide.{answer, variable?, term?, match?};
 ghost use Rattle.terms.specs.Slot.{slotCount, slotOf};
-ghost use Rattle.terms.specs.Front.{SameFirst, Word, Comparable, Bindable, Front, Takes, Ready, Made, Ran, Goes};
+ghost use Rattle.terms.specs.Front.{SameFirst, Word, Comparable, Bindable, Front, Takes, Ready, NoncesBound, MayTake, Made, Ran, Goes};
+use crate::atom;
 use crate::entry;
-use crate::tag::MARKED;
-use crate::tag::PLAIN;
+use crate::tag::ANY_SLOTS;
+use crate::tag::ATOM;
 use crate::tag::SLOTS;
-use crate::tag::VARIABLES;
+use crate::tag::first_slot;
 use crate::tag::is_variable;
 use blocks::wide;
 
@@ -109,18 +114,43 @@ pub fn same(s: &[u8], t: &[u8]) -> bool
     same_front(&s[at..], &t[at..], run.left)
 }
 
-// The slot of the variable that stands first: 0 to 7 plain, 8 to 15 marked; 16 where none does.
+// The slot of the variable that stands first, eight for each sort; 32 where none does.
 pub fn slot(p: &[u8]) -> usize
     requires { ⌜ Begins (now p) ⌝ }
     ensures { λ r. ⌜ r ≡ slotOf (termOf (now (p .entry))) ⌝ }
 {
-    if p[0] == PLAIN {
-        entry::value(p)
-    } else if p[0] == MARKED {
-        VARIABLES + entry::value(p)
+    let tag = p[0];
+    if is_variable(tag) {
+        first_slot(tag) + entry::value(p)
     } else {
         SLOTS
     }
+}
+
+// May the term that stands first be put at a nonce variable? It is a nonce, or a nonce variable.
+fn is_nonce_term(e: &[u8], nonces: &[u8]) -> bool
+    requires { ⌜ Begins (now e) ⌝ }
+    ensures { λ r. ⌜ ((atoms : List Atom) → NoncesIn atoms (now (nonces .entry)) → Says r (NonceTerm atoms rangeOf (termOf (now (e .entry))))) ⌝ }
+{
+    let x = slot(e);
+    if x < SLOTS {
+        return ANY_SLOTS <= x;
+    }
+    if e[0] != ATOM {
+        return false;
+    }
+    atom::is_nonce(nonces, entry::value(e))
+}
+
+// May the term at entry `at` be put at the variable of this slot?
+fn may_take(x: usize, t: &[u8], at: usize, nonces: &[u8]) -> bool
+    requires { ⌜ Begins (from (4 * at) (now t)) × (4 * at ≤ length (now t)) × (length (now t) ≤ mostTermBytes) ⌝ }
+    ensures { λ r. ⌜ ((atoms : List Atom) → NoncesIn atoms (now (nonces .entry)) → Says r (MayTake atoms x (now (t .entry)) at)) ⌝ }
+{
+    if x < ANY_SLOTS {
+        return true;
+    }
+    is_nonce_term(&t[4 * at..], nonces)
 }
 
 // The entry of a variable that is not bound, and as a byte of the bindings.
@@ -151,26 +181,44 @@ fn bind(bound: [u8; SLOTS], slot: usize, at: usize) -> [u8; SLOTS]
 }
 
 // Can the first `need` terms of p become those of t from its entry `at` on, with its variables replaced as `bound` says?
-fn match_front(p: &[u8], t: &[u8], at: usize, need: usize, bound: [u8; SLOTS]) -> bool
+fn match_front(
+    p: &[u8],
+    t: &[u8],
+    at: usize,
+    need: usize,
+    bound: [u8; SLOTS],
+    nonces: &[u8],
+) -> bool
     requires { ⌜ Ready (now p) (now t) at need bound ⌝ }
-    ensures { λ r. ⌜ Says r (Made (now (p .entry)) (now (t .entry)) at need bound) ⌝ }
+    ensures { λ r. ⌜ ((atoms : List Atom) → NoncesIn atoms (now (nonces .entry)) → NoncesBound atoms (now (t .entry)) bound
+        → Says r (Made atoms (now (p .entry)) (now (t .entry)) at need bound)) ⌝ }
 {
     if need == 0 {
         return true;
     }
     let x = slot(p);
     if x < SLOTS {
+        if !may_take(x, t, at, nonces) {
+            return false;
+        }
         if bindable(t, bound[x] as usize, at) {
             if need == 1 {
                 return true;
             }
             let past = at + entry::term_size(&t[4 * at..]);
-            match_front(&p[4..], t, past, need - 1, bind(bound, x, at))
+            match_front(&p[4..], t, past, need - 1, bind(bound, x, at), nonces)
         } else {
             false
         }
     } else if same_entry(p, &t[4 * at..]) {
-        match_front(&p[4..], t, at + 1, need - 1 + entry::children(p[0]), bound)
+        match_front(
+            &p[4..],
+            t,
+            at + 1,
+            need - 1 + entry::children(p[0]),
+            bound,
+            nonces,
+        )
     } else {
         false
     }
@@ -179,7 +227,7 @@ fn match_front(p: &[u8], t: &[u8], at: usize, need: usize, bound: [u8; SLOTS]) -
 // Do different symbols follow what both terms begin with?
 pub fn differs(p: &[u8], t: &[u8], run: Run) -> bool
     requires { ⌜ Begins (now p) × Begins (now t) × (length (now t) ≤ mostTermBytes) × Ran 1 (now p) (now t) (run .count) (run .left) × ¬ Goes (now p) (now t) (run .count) (run .left) ⌝ }
-    ensures { λ r. ⌜ (r ≡ true → ¬ Share (termOf (now (p .entry))) (termOf (now (t .entry)))) ⌝ }
+    ensures { λ r. ⌜ (r ≡ true → ¬ Common (termOf (now (p .entry))) (termOf (now (t .entry)))) ⌝ }
 {
     if run.left == 0 {
         return false;
@@ -192,23 +240,24 @@ pub fn differs(p: &[u8], t: &[u8], run: Run) -> bool
 }
 
 // Is the term the pattern with its variables replaced by terms, behind what both begin with?
-pub fn matches_behind(p: &[u8], t: &[u8], run: Run) -> bool
+pub fn matches_behind(p: &[u8], t: &[u8], run: Run, nonces: &[u8]) -> bool
     requires { ⌜ Begins (now p) × Begins (now t) × (length (now t) ≤ mostTermBytes) × Ran 1 (now p) (now t) (run .count) (run .left) ⌝ }
-    ensures { λ r. ⌜ r ≡ answer (match? variable? variable? (termOf (now (p .entry))) (termOf (now (t .entry)))) ⌝ }
+    ensures { λ r. ⌜ ((atoms : List Atom) → NoncesIn atoms (now (nonces .entry)) → r ≡ answer (match? atoms (termOf (now (p .entry))) (termOf (now (t .entry))))) ⌝ }
 {
     let at = run.count;
-    match_front(&p[4 * at..], t, at, run.left, [UNBOUND_BYTE; SLOTS])
+    match_front(&p[4 * at..], t, at, run.left, [UNBOUND_BYTE; SLOTS], nonces)
 }
 
-// Is the term the pattern with its variables replaced by terms? Most tests end where the two first differ.
-pub fn matches(p: &[u8], t: &[u8]) -> bool
+// Is the term the pattern with its variables replaced by terms? Most tests end where the two first differ. `nonces` tells which
+// atoms are nonces.
+pub fn matches(p: &[u8], t: &[u8], nonces: &[u8]) -> bool
     requires { ⌜ Begins (now p) × Begins (now t) × (length (now t) ≤ mostTermBytes) ⌝ }
-    ensures { λ r. ⌜ r ≡ answer (match? variable? variable? (termOf (now (p .entry))) (termOf (now (t .entry)))) ⌝ }
+    ensures { λ r. ⌜ ((atoms : List Atom) → NoncesIn atoms (now (nonces .entry)) → r ≡ answer (match? atoms (termOf (now (p .entry))) (termOf (now (t .entry))))) ⌝ }
 {
     let run = same_run(p, t);
     if differs(p, t, run) {
         false
     } else {
-        matches_behind(p, t, run)
+        matches_behind(p, t, run, nonces)
     }
 }

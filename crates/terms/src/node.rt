@@ -1,10 +1,11 @@
 // Two terms as one graph: the entries of the first from node 0, of the second from node 64, and the variables of each
-// side as nodes of their own, from 128 and from 144. `zs` and `zt` have the sizes of the terms at the entries of each side.
+// side as nodes of their own, from 128 and from 160. `zs` and `zt` have the sizes of the terms at the entries of each side.
 use crate::entry::value;
-use crate::tag::MARKED;
-use crate::tag::PLAIN;
+use crate::tag::LAST;
 use crate::tag::SLOTS;
 use crate::tag::VARIABLES;
+use crate::tag::first_slot;
+use crate::tag::is_variable;
 use blocks::wide;
 ghost use mathlib.Core.Path.{_≡_};
 ghost use Prim.Native.Nat.{_+_, _*_, _≤_, _<_};
@@ -29,13 +30,14 @@ pub fn home(e: &[u8], k: usize, base: usize, slots: usize) -> usize
     ensures { λ r. ⌜ (r ≡ graph.home (now (e .entry)) base slots k) × (r < graph.allNodes) ⌝ }
 {
     let tag = e[4 * k];
-    if tag == PLAIN {
-        return slots + value(&e[4 * k..]) % VARIABLES;
+    if !is_variable(tag) {
+        return base + k;
     }
-    if tag == MARKED {
-        return slots + VARIABLES + value(&e[4 * k..]) % VARIABLES;
+    // No tag: the entry stands for itself.
+    if LAST < wide(tag) {
+        return base + k;
     }
-    base + k
+    slots + first_slot(tag) + value(&e[4 * k..]) % VARIABLES
 }
 
 // The tag of the entry at a node.

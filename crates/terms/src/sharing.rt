@@ -1,8 +1,11 @@
 // Shared instances: two terms are walked side by side, by recursion over the entries left; where a variable stands on either
 // side, the two entries are noted. The terms share an instance if messages for the variables make the noted entries equal,
-// two and two: classes of nodes that must get equal messages are united, and at the end every way down over the classes must
-// come to an end. `zs` and `zt` have the sizes of the terms at the entries of each side.
+// two and two: classes of nodes that must get equal messages are united; a class that holds a nonce variable must hold no pair,
+// no encryption and no atom but a nonce; and every way down over the classes must come to an end. `zs` and `zt` have the sizes
+// of the terms at the entries of each side, and `nonces` tells which atoms are nonces.
+use crate::atom::is_nonce;
 use crate::classes::alone;
+use crate::classes::find;
 use crate::classes::unite;
 use crate::ending::is_finite;
 use crate::entry::children;
@@ -14,6 +17,10 @@ use crate::node::RIGHT_NODES;
 use crate::node::RIGHT_VARIABLES;
 use crate::node::VARIABLE_NODES;
 use crate::node::home;
+use crate::node::tag_at;
+use crate::node::value_at;
+use crate::tag::ANY_SLOTS;
+use crate::tag::ATOM;
 use crate::tag::SLOTS;
 use crate::tag::is_variable;
 use blocks::wide;
@@ -24,11 +31,15 @@ ghost use lib.ListN.{length};
 ghost use Rattle.blocks.specs.Limits.{mostTermBytes};
 ghost use Rattle.terms.specs.Entry.{Begins, termOf};
 ghost use Rattle.terms.specs.Tag.{childrenOf};
-ghost use Rattle.terms.specs.Decide.{answer, share?, variable?};
-ghost use Rattle.terms.specs.Graph.{Outcome, Any};
-ghost use Rattle.terms.specs.TermGraph.{TwoTerms, SizesOf, nodeOf};
+ghost use mathlib.Core.List.{List};
+ghost use Rattle.terms.specs.declared.atom.Atom.{Atom};
+ghost use Rattle.terms.specs.Nonces.{NoncesIn};
+ghost use Rattle.terms.specs.Decisions.{Says};
+ghost use Rattle.terms.specs.Decide.{answer, share?};
+ghost use Rattle.terms.specs.Graph.{Outcome, Any, NonceNode};
+ghost use Rattle.terms.specs.TermGraph.{allNodes, variableNodes, rightVariables, TwoTerms, SizesOf, nodeOf, AtHome};
 ghost use Rattle.terms.specs.Names.{nameOf, Linked};
-ghost use Rattle.terms.specs.Meetings.{RootsDiffer, Noted, NotedIn, Walking, Reduced, WalkSays, Stops, Distinct, AllEqual};
+ghost use Rattle.terms.specs.Meetings.{RootsDiffer, Noted, NotedIn, Walking, Reduced, WalkSays, Stops, Distinct, AllEqual, SideKeeps, NoncesKept, NoncesAlone};
 
 // Room for the entries noted: those of the first term from 0, those of the second from 64.
 const NOTES: usize = 128;
@@ -189,30 +200,113 @@ fn unite_noted(
     true
 }
 
-// Do messages for the variables make the noted entries equal?
-fn have_solution(s: &[u8], t: &[u8], zs: &[u8], zt: &[u8], m: &[u8; NOTES], n: usize) -> bool
-    requires { ⌜ TwoTerms (now s) (now t) × SizesOf (now s) (now zs) × SizesOf (now t) (now zt) × Reduced (now s) (now t) (now m) n ⌝ }
-    ensures { λ r. ⌜ r ≡ answer (share? variable? variable? (termOf (now (s .entry))) (termOf (now (t .entry)))) ⌝ }
+// May a class of this name hold a nonce variable? It is named by a variable, or by a nonce.
+fn may_be_nonce(s: &[u8], t: &[u8], a: usize, nonces: &[u8]) -> bool
+    requires { ⌜ TwoTerms (now s) (now t) × AtHome (now s) (now t) a ⌝ }
+    ensures { λ r. ⌜ ((atoms : List Atom) → NoncesIn atoms (now (nonces .entry)) → Says r (NonceNode atoms (nodeOf (now (s .entry)) (now (t .entry)) a))) ⌝ }
 {
-    let mut c = alone();
-    if unite_noted(s, t, zs, zt, m, n, &mut c) {
-        is_finite(s, t, zs, zt, &c)
+    if VARIABLE_NODES <= a {
+        return true;
+    }
+    if tag_at(s, t, a) != ATOM {
+        return false;
+    }
+    is_nonce(nonces, value_at(s, t, a))
+}
+
+// May the classes of all nonce variables hold one, on the side whose variables begin at this node?
+fn side_keeps(s: &[u8], t: &[u8], c: &[u8; ALL_NODES], slots: usize, nonces: &[u8]) -> bool
+    requires { ⌜ TwoTerms (now s) (now t) × Linked (now s) (now t) (now c) × (variableNodes ≤ slots) × (slots ≤ rightVariables) ⌝ }
+    ensures { λ r. ⌜ ((atoms : List Atom) → NoncesIn atoms (now (nonces .entry))
+        → Says r (SideKeeps atoms (now (s .entry)) (now (t .entry)) (nameOf (now (c .entry))) slots)) ⌝ }
+{
+    let mut k = ANY_SLOTS;
+    while k < SLOTS {
+        if !may_be_nonce(s, t, find(c, slots + k), nonces) {
+            return false;
+        }
+        k += 1;
+    }
+    true
+}
+
+// Are the two numbers the same, and was the answer yes before?
+fn and_same(before: bool, a: u8, b: u8) -> bool
+    ensures { λ r. ⌜ (r ≡ true → (before ≡ true) × (a ≡ b)) ⌝ }
+{
+    if before { a == b } else { false }
+}
+
+// Is every nonce variable a class by itself, as in terms that have none? All are asked, which the compiler does many at a time.
+fn nonces_alone(c: &[u8; ALL_NODES]) -> bool
+    requires { ⌜ length (now c) ≡ allNodes ⌝ }
+    ensures { λ r. ⌜ (r ≡ true → NoncesAlone (nameOf (now (c .entry)))) ⌝ }
+{
+    let mut alone = true;
+    let mut k = ANY_SLOTS;
+    while k < SLOTS {
+        let left = VARIABLE_NODES + k;
+        let right = RIGHT_VARIABLES + k;
+        alone = and_same(alone, c[left], left as u8);
+        alone = and_same(alone, c[right], right as u8);
+        k += 1;
+    }
+    alone
+}
+
+// And on both sides?
+fn keep_nonces(s: &[u8], t: &[u8], c: &[u8; ALL_NODES], nonces: &[u8]) -> bool
+    requires { ⌜ TwoTerms (now s) (now t) × Linked (now s) (now t) (now c) ⌝ }
+    ensures { λ r. ⌜ ((atoms : List Atom) → NoncesIn atoms (now (nonces .entry))
+        → Says r (NoncesKept atoms (now (s .entry)) (now (t .entry)) (nameOf (now (c .entry))))) ⌝ }
+{
+    if nonces_alone(c) {
+        return true;
+    }
+    if side_keeps(s, t, c, VARIABLE_NODES, nonces) {
+        side_keeps(s, t, c, RIGHT_VARIABLES, nonces)
     } else {
         false
     }
 }
 
-// Is a variable noted at each of the n entries of s, and each time another one? Then these can take what stands opposite.
+// Do messages for the variables make the noted entries equal, nonces for the nonce variables?
+fn have_solution(
+    s: &[u8],
+    t: &[u8],
+    zs: &[u8],
+    zt: &[u8],
+    m: &[u8; NOTES],
+    n: usize,
+    nonces: &[u8],
+) -> bool
+    requires { ⌜ TwoTerms (now s) (now t) × SizesOf (now s) (now zs) × SizesOf (now t) (now zt) × Reduced (now s) (now t) (now m) n ⌝ }
+    ensures { λ r. ⌜ ((atoms : List Atom) → NoncesIn atoms (now (nonces .entry)) → r ≡ answer (share? atoms (termOf (now (s .entry))) (termOf (now (t .entry))))) ⌝ }
+{
+    let mut c = alone();
+    if unite_noted(s, t, zs, zt, m, n, &mut c) {
+        if keep_nonces(s, t, &c, nonces) {
+            is_finite(s, t, zs, zt, &c)
+        } else {
+            false
+        }
+    } else {
+        false
+    }
+}
+
+// Is a variable for any message noted at each of the n entries of s, and each time another one? Then these can take what stands
+// opposite.
 fn is_free_match(s: &[u8], m: &[u8; NOTES], n: usize) -> bool
     requires { ⌜ Begins (now s) × (length (now s) ≤ mostTermBytes) × NotedIn (now s) (now m) n ⌝ }
     ensures { λ r. ⌜ (r ≡ true → Distinct (now (s .entry)) (now (m .entry)) n) ⌝ }
 {
-    let mut seen = [0u8; SLOTS];
+    let mut seen = [0u8; ANY_SLOTS];
     let mut k = 0;
     while k < n {
         let at = wide(m[k]);
         let x = slot(&s[4 * at..]);
-        if SLOTS <= x {
+        if ANY_SLOTS <= x {
             return false;
         }
         if seen[x] == 1 {
@@ -240,9 +334,9 @@ fn roots_differ(s: &[u8], t: &[u8]) -> bool
 
 // Two terms share an instance: some finite message is an instance of both, each term with variables of its own. Most
 // tests end where the two first differ, or as the first one's variables can take what stands opposite.
-pub fn shares(s: &[u8], t: &[u8], zs: &[u8], zt: &[u8]) -> bool
+pub fn shares(s: &[u8], t: &[u8], zs: &[u8], zt: &[u8], nonces: &[u8]) -> bool
     requires { ⌜ TwoTerms (now s) (now t) × SizesOf (now s) (now zs) × SizesOf (now t) (now zt) ⌝ }
-    ensures { λ r. ⌜ r ≡ answer (share? variable? variable? (termOf (now (s .entry))) (termOf (now (t .entry)))) ⌝ }
+    ensures { λ r. ⌜ ((atoms : List Atom) → NoncesIn atoms (now (nonces .entry)) → r ≡ answer (share? atoms (termOf (now (s .entry))) (termOf (now (t .entry))))) ⌝ }
 {
     if roots_differ(s, t) {
         return false;
@@ -255,7 +349,7 @@ pub fn shares(s: &[u8], t: &[u8], zs: &[u8], zt: &[u8]) -> bool
             if is_free_match(s, &m, n) {
                 true
             } else {
-                have_solution(s, t, zs, zt, &m, n)
+                have_solution(s, t, zs, zt, &m, n, nonces)
             }
         }
     }

@@ -96,14 +96,14 @@ fn listed_kind(atoms: &[u8], more: &[u8], n: usize) -> u8
     if kind <= SYMMETRIC { kind } else { 0 }
 }
 
-// How many plain variables a block of this kind may have: a secret none.
+// How many plain variables a block of this kind may have, and plain nonce variables: a secret none.
 fn plain_limit(kind: u8) -> usize
     ensures { λ r. ⌜ r ≡ plainLimit kind ⌝ }
 {
     if kind == SECRET { 0 } else { VARIABLES }
 }
 
-// How many marked variables a block of this kind may have: any but a pattern none.
+// How many marked variables a block of this kind may have, and marked nonce variables: any but a pattern none.
 fn marked_limit(kind: u8) -> usize
     ensures { λ r. ⌜ r ≡ markedLimit kind ⌝ }
 {
@@ -120,7 +120,9 @@ fn marked_limit(kind: u8) -> usize
 fn limits(kind: u8, count: usize) -> [usize; LAST + 1]
     ensures { λ r. ⌜ r ≡ limitsOf kind count ⌝ }
 {
-    [0, count, 1, count, plain_limit(kind), marked_limit(kind)]
+    let plain = plain_limit(kind);
+    let marked = marked_limit(kind);
+    [0, count, 1, count, plain, marked, plain, marked]
 }
 
 // The term entry that stands first is right by the tables: its value is below its tag's limit, and the atom of that
@@ -132,7 +134,7 @@ fn right_entry(
     least: &[u8; LAST + 1],
     e: &[u8],
 ) -> bool
-    requires { ⌜ (4 ≤ length (now e)) × (length (now limits) ≡ 6) × (length (now least) ≡ 6) ⌝ }
+    requires { ⌜ (4 ≤ length (now e)) × (length (now limits) ≡ 8) × (length (now least) ≡ 8) ⌝ }
     ensures { λ r. ⌜ Says r (ByTables (joinedAtoms (now (atoms .entry)) (now (more .entry))) (now (limits .entry)) (now (least .entry)) (now (e .entry))) ⌝ }
 {
     if e[1] != 0 {
@@ -159,7 +161,7 @@ pub fn wrong_entry(atoms: &[u8], more: &[u8], kind: u8, e: &[u8]) -> Found
     let count = e.len() / 4;
     let limits = limits(kind, atoms.len() / 4 + more.len() / 4);
     // The value of an encryption is the number of a key: an atom of kind 3 or more.
-    let least = [0u8, 0, 0, PUBLIC, 0, 0];
+    let least = [0u8, 0, 0, PUBLIC, 0, 0, 0, 0];
     let mut i = 0;
     while i < count {
         if right_entry(atoms, more, &limits, &least, &e[4 * i..]) {

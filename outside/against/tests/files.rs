@@ -46,11 +46,12 @@ fn deep_files() {
 }
 
 /// One byte of a bench file changed, and the block sealed again. After the first
-/// come files with marks in bad patterns; the last have two atom blocks.
+/// come files with marks in bad patterns and with nonce variables; the last have
+/// two atom blocks.
 #[test]
 fn changed_bytes() {
     let all = certificates("../bench/files");
-    for path in all[..6].iter().chain(&all[all.len() - 2..]) {
+    for path in all[..10].iter().chain(&all[all.len() - 2..]) {
         let (name, file) = (files::name(path), bytes(path));
         let mut random = generate::random::Random::new(7);
         for _ in 0..100 {

@@ -1,5 +1,6 @@
 //! Pairs of terms of 63 entries, made as text, with known answers.
 
+use crate::atoms::all_keys;
 use crate::chains;
 use crate::vectors::Vector;
 use crate::words::text_of;
@@ -14,10 +15,11 @@ const RENAMED: [bool; 4] = [true, true, true, false];
 const SHARES: [bool; 4] = [true, false, false, false];
 
 pub fn vectors() -> Result<Vec<Vector>, String> {
+    let keys = all_keys();
     let pairs = [lists(), trees(), nests(), many_variables(), chains()].concat();
     pairs
         .iter()
-        .map(|(first, second, answers)| Vector::new(first, second, *answers))
+        .map(|(first, second, answers)| Vector::new(&keys, first, second, *answers))
         .collect()
 }
 

@@ -1,6 +1,7 @@
 //! The proved archive of the term layer, held against known answers and
 //! against the outside reference.
 
+pub mod atoms;
 pub mod chains;
 pub mod large;
 pub mod no_terms;
@@ -64,11 +65,12 @@ impl fmt::Display for Question {
 /// The line for an answer that is not as it should be.
 pub fn disagreement(
     question: Question,
+    atoms: &[u8],
     s: &[u8],
     t: &[u8],
     expected: Answer,
     found: Answer,
 ) -> String {
-    let (s, t) = (words::shown(s), words::shown(t));
-    format!("{question}: {s} and {t}: expected {expected}, the archive says {found}")
+    let asked = words::asked(question, atoms, s, t);
+    format!("{asked}: expected {expected}, the archive says {found}")
 }

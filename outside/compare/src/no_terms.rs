@@ -1,14 +1,61 @@
-//! Bytes that are no term of at most 63 entries, with what is wrong in words.
+//! Bytes that are no term of at most 63 entries over some atoms, with what is
+//! wrong in words.
 
+use crate::atoms::{all_keys, of_kinds};
 use crate::words::entries;
+use literal::numbers::atom_kind::{NONCE, PRINCIPAL, SYMMETRIC};
 use literal::numbers::{tag, ENTRY, MOST_ATOMS};
 
 const ATOM: [u8; ENTRY] = [tag::ATOM, 0, 0, 0];
 const PAIR: [u8; ENTRY] = [tag::PAIR, 0, 0, 0];
 const ENCRYPTION: [u8; ENTRY] = [tag::ENCRYPTION, 0, 2, 0];
 
-pub fn all() -> Vec<(&'static str, Vec<u8>)> {
-    [lengths(), shapes(), single_entries()].concat()
+pub struct NoTerm {
+    pub what: &'static str,
+    pub atoms: Vec<u8>,
+    pub bytes: Vec<u8>,
+}
+
+pub fn all() -> Vec<NoTerm> {
+    let over_keys = [lengths(), shapes(), single_entries()].concat();
+    let of = |(what, bytes)| NoTerm {
+        what,
+        atoms: all_keys(),
+        bytes,
+    };
+    over_keys.into_iter().map(of).chain(by_atoms()).collect()
+}
+
+/// What is a term over other atoms.
+fn by_atoms() -> Vec<NoTerm> {
+    let of = |what, atoms, bytes: &[u8]| NoTerm {
+        what,
+        atoms,
+        bytes: bytes.to_vec(),
+    };
+    let one = of_kinds(&[SYMMETRIC]);
+    let kinds = of_kinds(&[PRINCIPAL, NONCE, SYMMETRIC, 0, 6]);
+    let under = |key: u8| [[tag::ENCRYPTION, 0, key, 0], ATOM].concat();
+    vec![
+        of("an atom without any", vec![], &ATOM),
+        of(
+            "an atom of an entry that is not whole",
+            one[..3].to_vec(),
+            &ATOM,
+        ),
+        of("the second atom of one", one.clone(), &[tag::ATOM, 0, 1, 0]),
+        of("the second key of one", one, &under(1)),
+        of("a principal as a key", kinds.clone(), &under(0)),
+        of("a nonce as a key", kinds.clone(), &under(1)),
+        of("an atom of kind 0 as a key", kinds.clone(), &under(3)),
+        of("an atom of kind 6 as a key", kinds, &under(4)),
+        of("253 atoms", [all_keys(), vec![5, 1, 0, 0]].concat(), &ATOM),
+        of(
+            "252 atoms and a byte",
+            [all_keys(), vec![5]].concat(),
+            &ATOM,
+        ),
+    ]
 }
 
 /// So many encryptions of one atom.
@@ -65,7 +112,7 @@ fn shapes() -> Vec<(&'static str, Vec<u8>)> {
 fn single_entries() -> Vec<(&'static str, Vec<u8>)> {
     vec![
         ("tag 0", vec![0, 0, 0, 0]),
-        ("tag 6", vec![6, 0, 0, 0]),
+        ("tag 8", vec![8, 0, 0, 0]),
         ("tag 255", vec![255, 0, 0, 0]),
         ("an atom with second byte 1", vec![1, 1, 0, 0]),
         ("a plain variable with second byte 1", vec![4, 1, 0, 0]),
@@ -76,6 +123,12 @@ fn single_entries() -> Vec<(&'static str, Vec<u8>)> {
         ("plain variable 256", vec![4, 0, 0, 1]),
         ("marked variable 8", vec![5, 0, 8, 0]),
         ("marked variable 256", vec![5, 0, 0, 1]),
+        ("plain nonce variable 8", vec![6, 0, 8, 0]),
+        ("plain nonce variable 256", vec![6, 0, 0, 1]),
+        ("plain nonce variable with second byte 1", vec![6, 1, 0, 0]),
+        ("marked nonce variable 8", vec![7, 0, 8, 0]),
+        ("marked nonce variable 256", vec![7, 0, 0, 1]),
+        ("marked nonce variable with second byte 1", vec![7, 1, 0, 0]),
         ("a pair with value 1", with_root([2, 0, 1, 0], 2)),
         ("a pair with value 256", with_root([2, 0, 0, 1], 2)),
         ("a pair with second byte 1", with_root([2, 1, 0, 0], 2)),
@@ -86,8 +139,8 @@ fn single_entries() -> Vec<(&'static str, Vec<u8>)> {
             with_root([3, 1, 2, 0], 1),
         ),
         (
-            "tag 6 deep inside",
-            [ENCRYPTION.repeat(30), vec![6, 0, 0, 0]].concat(),
+            "tag 8 deep inside",
+            [ENCRYPTION.repeat(30), vec![8, 0, 0, 0]].concat(),
         ),
     ]
 }

@@ -1,41 +1,44 @@
 //! The same questions, asked of the outside reference.
 
-use crate::{Answer, Question};
+use crate::{atoms, Answer, Question};
 use literal::numbers::{ENTRY, MOST_ATOMS, MOST_ENTRIES};
+use literal::read::Atom;
 use literal::Term;
 
-pub fn ask(question: Question, s: &[u8], t: &[u8]) -> Answer {
-    match (read(s), read(t)) {
-        (Some(s), Some(t)) => Answer::of(ask_of_terms(question, &s, &t)),
+pub fn ask(question: Question, atoms: &[u8], s: &[u8], t: &[u8]) -> Answer {
+    let listed = atoms::read(atoms);
+    match (read(atoms, s), read(atoms, t)) {
+        (Some(s), Some(t)) => Answer::of(ask_of_terms(question, &listed, &s, &t)),
         _ => Answer::NoTerm,
     }
 }
 
-fn ask_of_terms(question: Question, s: &Term, t: &Term) -> bool {
+fn ask_of_terms(question: Question, atoms: &[Atom], s: &Term, t: &Term) -> bool {
     match question {
-        Question::Shares => literal::shares(s, t),
-        Question::Matches => literal::matches(s, t),
+        Question::Shares => literal::shares(atoms, s, t),
+        Question::Matches => literal::matches(atoms, s, t),
         Question::Same => s == t,
     }
 }
 
-/// The term that the bytes are, over 252 atoms that are all keys.
-pub fn read(bytes: &[u8]) -> Option<Term> {
-    if bytes.len() > ENTRY * MOST_ENTRIES {
+/// The term that the bytes are over these atoms, as in a good pattern; none if
+/// there are too many atoms.
+pub fn read(atoms: &[u8], bytes: &[u8]) -> Option<Term> {
+    if atoms.len() > ENTRY * MOST_ATOMS || bytes.len() > ENTRY * MOST_ENTRIES {
         return None;
     }
-    literal::decode(bytes).filter(atoms_listed)
+    let atoms = atoms::read(atoms);
+    literal::decode(bytes).filter(|term| atoms_listed(&atoms, term))
 }
 
-fn atoms_listed(term: &Term) -> bool {
+fn atoms_listed(atoms: &[Atom], term: &Term) -> bool {
+    let atom = |number: u16| atoms.get(number as usize);
     match term {
-        Term::Atom(number) => is_listed(*number),
-        Term::Pair(left, right) => atoms_listed(left) && atoms_listed(right),
-        Term::Encryption(message, key) => is_listed(*key) && atoms_listed(message),
-        Term::Plain(_) | Term::Marked(_) => true,
+        Term::Atom(number) => atom(*number).is_some(),
+        Term::Pair(left, right) => atoms_listed(atoms, left) && atoms_listed(atoms, right),
+        Term::Encryption(message, key) => {
+            atom(*key).is_some_and(Atom::is_key) && atoms_listed(atoms, message)
+        }
+        _ => true,
     }
-}
-
-fn is_listed(number: u16) -> bool {
-    (number as usize) < MOST_ATOMS
 }

@@ -1,8 +1,9 @@
 //! Pairs of terms with known answers: those of `vectors.txt` and the large ones.
 
-use crate::{large, words, Answer, Question};
+use crate::{atoms, large, words, Answer, Question};
 
 pub struct Vector {
+    pub atoms: Vec<u8>,
     pub first: Vec<u8>,
     pub second: Vec<u8>,
     pub shares: Answer,
@@ -14,9 +15,15 @@ pub struct Vector {
 
 impl Vector {
     /// The answers in the order shares, matches, matches back, same.
-    pub fn new(first: &str, second: &str, answers: [bool; 4]) -> Result<Vector, String> {
+    pub fn new(
+        atoms: &[u8],
+        first: &str,
+        second: &str,
+        answers: [bool; 4],
+    ) -> Result<Vector, String> {
         let [shares, matches, matches_back, same] = answers.map(Answer::of);
         Ok(Vector {
+            atoms: atoms.to_vec(),
             first: words::entries(first)?,
             second: words::entries(second)?,
             shares,
@@ -46,20 +53,27 @@ pub fn all() -> Result<Vec<Vector>, String> {
     Ok(vectors)
 }
 
+/// The lines of `vectors.txt`, each over the atoms of the last line that gives
+/// some.
 fn small() -> Result<Vec<Vector>, String> {
-    include_str!("vectors.txt")
-        .lines()
-        .filter(|line| !line.is_empty() && !line.starts_with('#'))
-        .map(vector)
-        .collect()
+    let mut atoms = atoms::all_keys();
+    let mut vectors = Vec::new();
+    for line in include_str!("vectors.txt").lines() {
+        match line.strip_prefix("atoms ") {
+            Some(kinds) => atoms = atoms::in_words(kinds)?,
+            None if line.is_empty() || line.starts_with('#') => {}
+            None => vectors.push(vector(&atoms, line)?),
+        }
+    }
+    Ok(vectors)
 }
 
-fn vector(line: &str) -> Result<Vector, String> {
+fn vector(atoms: &[u8], line: &str) -> Result<Vector, String> {
     let parts: Vec<&str> = line.split('|').collect();
     let [answers, first, second] = parts[..] else {
         return Err(format!("`{line}` must have three parts"));
     };
-    Vector::new(first.trim(), second.trim(), yes_or_no(answers)?)
+    Vector::new(atoms, first.trim(), second.trim(), yes_or_no(answers)?)
 }
 
 fn yes_or_no(words: &str) -> Result<[bool; 4], String> {

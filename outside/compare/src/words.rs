@@ -1,11 +1,11 @@
 //! Terms in the text form. The first eight atoms have the document's names,
 //! the others are `a8` to `a251`.
 
-use crate::outside;
+use crate::{atoms, outside, Question};
 use literal::block::{entry_at, first_count};
 use literal::numbers::{BLOCK, HEADER, MOST_ATOMS};
 use literal::Term;
-use text::document;
+use text::{document, sorts};
 
 pub fn name(number: u16) -> String {
     match document::name(number as usize) {
@@ -30,14 +30,19 @@ pub fn text_of(term: &Term) -> String {
         Term::Atom(number) => name(*number),
         Term::Pair(left, right) => format!("({}, {})", text_of(left), text_of(right)),
         Term::Encryption(message, key) => format!("{{{}}}{}", text_of(message), name(*key)),
-        Term::Plain(number) => format!("?{number}"),
-        Term::Marked(number) => format!("*{number}"),
+        variable => sorts::shown(variable).expect("all other terms are variables"),
     }
 }
 
-/// The term as text, or the bytes if they are none.
+/// The question with its terms and, in short, its atoms.
+pub fn asked(question: Question, atoms: &[u8], s: &[u8], t: &[u8]) -> String {
+    let (s, t, atoms) = (shown(s), shown(t), atoms::shown(atoms));
+    format!("{question}: {s} and {t}, {atoms}")
+}
+
+/// The term as text, or the bytes if they are none, whatever the atoms are.
 pub fn shown(bytes: &[u8]) -> String {
-    match outside::read(bytes) {
+    match outside::read(&atoms::all_keys(), bytes) {
         Some(term) => text_of(&term),
         None => format!("the bytes [{}]", hex(bytes)),
     }

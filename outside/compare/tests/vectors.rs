@@ -1,28 +1,42 @@
 //! The archive and the outside reference on the known answers.
 
-use compare::{no_terms, outside, proved, vectors, words, Answer, QUESTIONS};
+use compare::no_terms::{self, NoTerm};
+use compare::{outside, proved, vectors, words, Answer, QUESTIONS};
 
 #[test]
 fn both_give_the_known_answers() {
     let vectors = vectors::all().unwrap();
     assert!(vectors.len() >= 40);
     for vector in &vectors {
+        let atoms = &vector.atoms;
         for (question, s, t, expected) in vector.questions() {
-            let asked = format!("{question}: {} and {}", words::shown(s), words::shown(t));
-            assert_eq!(outside::ask(question, s, t), expected, "literal, {asked}");
-            assert_eq!(proved::ask(question, s, t), expected, "archive, {asked}");
+            let asked = words::asked(question, atoms, s, t);
+            assert_eq!(
+                outside::ask(question, atoms, s, t),
+                expected,
+                "literal, {asked}"
+            );
+            assert_eq!(
+                proved::ask(question, atoms, s, t),
+                expected,
+                "archive, {asked}"
+            );
         }
     }
 }
 
 #[test]
 fn both_read_no_term() {
-    let term = words::entries("(?x, A)").unwrap();
-    for (what, bytes) in no_terms::all() {
+    let term = words::entries("?x").unwrap();
+    for NoTerm { what, atoms, bytes } in &no_terms::all() {
         for question in QUESTIONS {
-            for (s, t) in [(&term, &bytes), (&bytes, &term), (&bytes, &bytes)] {
-                assert_eq!(outside::ask(question, s, t), Answer::NoTerm, "{what}");
-                assert_eq!(proved::ask(question, s, t), Answer::NoTerm, "{what}");
+            for (s, t) in [(&term, bytes), (bytes, &term), (bytes, bytes)] {
+                assert_eq!(
+                    outside::ask(question, atoms, s, t),
+                    Answer::NoTerm,
+                    "{what}"
+                );
+                assert_eq!(proved::ask(question, atoms, s, t), Answer::NoTerm, "{what}");
             }
         }
     }

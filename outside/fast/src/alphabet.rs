@@ -5,19 +5,23 @@ use crate::numbers::{atom_kind, tag, ATOM_BLOCKS, ENTRIES, ENTRY, HEADER};
 use crate::numbers::{TAGS, VALUES, VALUE_BITS, VARIABLES};
 
 /// Tag x 256 + value. Variables of patterns have 256 added, so that they are
-/// never equal to those of rules.
+/// never equal to those of rules; variables for one nonce have 512 added, so
+/// that they follow all others.
 pub type Symbol = u16;
 pub const PAIR: Symbol = tag::PAIR << VALUE_BITS;
 pub const FIRST_VARIABLE: Symbol = tag::PLAIN << VALUE_BITS;
 pub const PATTERN_VARIABLE: Symbol = VALUES as Symbol;
 pub const FIRST_PATTERN_MARK: Symbol = (tag::MARKED << VALUE_BITS) + PATTERN_VARIABLE;
+pub const NONCE_VARIABLE: Symbol = 2 * VALUES as Symbol;
+/// From a variable to the one for a nonce that is of the same sort otherwise.
+pub const TO_NONCE: Symbol = ((tag::PLAIN_NONCE - tag::PLAIN) << VALUE_BITS) + NONCE_VARIABLE;
 const SYMBOLS: usize = TAGS * VALUES;
 
 // Marks of a symbol, by bits: where it is allowed, and what it is.
 pub const IN_SECRET: u32 = 0;
 pub const IN_PATTERN: u32 = 1;
 pub const IN_RULE: u32 = 2;
-pub const LEAF: u32 = 3;
+pub const FOR_NONCE: u32 = 3;
 pub const IS_PAIR: u32 = 4;
 pub const VARIABLE: u32 = 5;
 pub const ENCRYPTION: u32 = 6;
@@ -45,6 +49,7 @@ pub struct Alphabet {
     marks: [u8; SYMBOLS],
     partners: [u8; VALUES],
     known: [u128; ATOM_BLOCKS],
+    nonces: [u128; ATOM_BLOCKS],
 }
 
 impl Alphabet {
@@ -52,24 +57,27 @@ impl Alphabet {
         marks: marks_without_atoms(),
         partners: [0; VALUES],
         known: [0; ATOM_BLOCKS],
+        nonces: [0; ATOM_BLOCKS],
     };
 
     /// Adds the atoms of one of the blocks, or answers its first wrong entry.
     pub fn add_atoms(&mut self, all: &AtomBlocks, block: usize) -> Result<(), usize> {
-        let mut known = 0;
+        let (mut known, mut nonces) = (0, 0);
         for i in 0..all.counts[block] {
             let (atom, number) = (atom(all.blocks[block], i), ENTRIES * block + i);
             if !atom.is_right(all, number) {
                 return Err(i);
             }
-            self.marks[index(tag::ATOM, number)] = EVERYWHERE | 1 << LEAF;
+            self.marks[index(tag::ATOM, number)] = EVERYWHERE;
             if atom.kind >= atom_kind::PUBLIC {
                 self.marks[index(tag::ENCRYPTION, number)] = EVERYWHERE | 1 << ENCRYPTION;
             }
             self.partners[number] = atom.partner as u8;
             known |= (atom.known as u128) << i;
+            nonces |= ((atom.kind == atom_kind::NONCE) as u128) << i;
         }
         self.known[block] = known;
+        self.nonces[block] = nonces;
         Ok(())
     }
 
@@ -90,6 +98,10 @@ impl Alphabet {
 
     pub fn is_known(&self, number: usize) -> bool {
         self.known[number / ENTRIES] >> (number % ENTRIES) & 1 == 1
+    }
+
+    pub fn is_nonce(&self, number: usize) -> bool {
+        self.nonces[number / ENTRIES] >> (number % ENTRIES) & 1 == 1
     }
 
     pub fn is_secret(&self, number: usize) -> bool {
@@ -124,9 +136,12 @@ const fn marks_without_atoms() -> [u8; SYMBOLS] {
     marks[PAIR as usize] = EVERYWHERE | 1 << IS_PAIR;
     let mut i = 0;
     while i < VARIABLES {
-        let variable = 1 << IN_PATTERN | 1 << LEAF | 1 << VARIABLE;
-        marks[index(tag::PLAIN, i)] = variable | 1 << IN_RULE;
-        marks[index(tag::MARKED, i)] = variable;
+        let marked = 1 << IN_PATTERN | 1 << VARIABLE;
+        let plain = marked | 1 << IN_RULE;
+        marks[index(tag::PLAIN, i)] = plain;
+        marks[index(tag::MARKED, i)] = marked;
+        marks[index(tag::PLAIN_NONCE, i)] = plain | 1 << FOR_NONCE;
+        marks[index(tag::MARKED_NONCE, i)] = marked | 1 << FOR_NONCE;
         i += 1;
     }
     marks

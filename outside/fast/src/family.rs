@@ -33,7 +33,7 @@ impl Family {
 
     /// The terms of these blocks, two slots a block, that are no atoms.
     pub fn of(terms: &[Term; SLOTS], blocks: std::ops::Range<usize>) -> Family {
-        Family::only(terms, blocks, |term| term.length > 1)
+        Family::only(terms, blocks, |term| term.length() > 1)
     }
 
     /// The terms of these blocks that are wanted; none is an atom.
@@ -71,7 +71,7 @@ impl Family {
             let before = &terms[self.slot(place - 1)];
             self.common[place] = beginning(before, term) as u8;
         }
-        self.longest = self.longest.max(term.length);
+        self.longest = self.longest.max(term.length());
         self.watched[place] = Watched::of(term);
         if self.common[place] == 0 {
             self.ranges[root].0 = place as u8;
@@ -141,7 +141,7 @@ fn root_of(symbol: Symbol) -> usize {
 
 /// How many entries are the same from the first on.
 fn beginning(one: &Term, other: &Term) -> usize {
-    (0..one.length)
+    (0..one.length())
         .take_while(|i| one.symbol(*i) == other.symbol(*i))
         .count()
 }

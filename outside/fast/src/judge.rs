@@ -3,7 +3,7 @@
 use crate::alphabet::value_of;
 use crate::family::Family;
 use crate::fault;
-use crate::numbers::kind;
+use crate::numbers::{kind, ALL_VARIABLES, ORDINARY};
 use crate::read::Certificate;
 use crate::rule::Judge;
 use crate::term::Term;
@@ -31,15 +31,19 @@ pub fn judged(file: &[u8]) -> Result<(), u32> {
             return Err(fault(11, block, 0));
         }
     }
-    rules(&certificate, &secrets)
+    match certificate.has_nonce_variables {
+        false => rules::<ORDINARY>(&certificate, &secrets),
+        true => rules::<ALL_VARIABLES>(&certificate, &secrets),
+    }
 }
 
-fn rules(certificate: &Certificate, secrets: &Family) -> Result<(), u32> {
-    let mut judge = Judge::new(certificate, secrets);
+/// Number 12, with room for so many variables.
+fn rules<const ROOM: usize>(certificate: &Certificate, secrets: &Family) -> Result<(), u32> {
+    let mut judge = Judge::<ROOM>::new(certificate, secrets);
     for block in certificate.blocks_of(kind::RULE) {
         let premise = certificate.term(block);
         if let Some(place) = judge.first_uncovered(premise, certificate.conclusion(block)) {
-            return Err(fault(12, block, premise.length + place));
+            return Err(fault(12, block, premise.length() + place));
         }
     }
     Ok(())
@@ -52,13 +56,13 @@ fn number(term: &Term, i: usize) -> usize {
 
 fn is_known_atom(certificate: &Certificate, block: usize) -> bool {
     let secret = certificate.term(block);
-    secret.length == 1 && certificate.alphabet.is_known(number(secret, 0))
+    secret.length() == 1 && certificate.alphabet.is_known(number(secret, 0))
 }
 
 /// Weakly closed: a half of a pair, or the message or the key, is listed.
 fn is_closed(certificate: &Certificate, secrets: &Family, block: usize) -> bool {
     let secret = certificate.term(block);
-    if secret.length == 1 {
+    if secret.length() == 1 {
         return true;
     }
     let listed = |i| is_listed(certificate, secrets, secret, i);

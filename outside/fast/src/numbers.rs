@@ -30,16 +30,17 @@ pub const VALUE_BITS: u32 = 8;
 pub const VALUES: usize = 1 << VALUE_BITS;
 /// Room for tags.
 pub const TAGS: usize = 8;
-/// A rule's variables, then the plain and the marked ones of a pattern.
-pub const ALL_VARIABLES: usize = 3 * VARIABLES;
-/// Room for them, a bit for each.
-pub const VARIABLE_ROOM: usize = u32::BITS as usize;
+/// Room for the variables but those for one nonce: a rule's, then the plain and
+/// the marked ones of a pattern.
+pub const ORDINARY: usize = 4 * VARIABLES;
+/// Room for all, a bit for each: those for one nonce follow in the same order.
+pub const ALL_VARIABLES: usize = 2 * ORDINARY;
 
 const _: () = assert!(
     MOST_BLOCKS.is_power_of_two()
         && MOST_ENTRIES < PLACES
         && MOST_ATOMS < VALUES
-        && ALL_VARIABLES <= VARIABLE_ROOM
+        && ALL_VARIABLES <= u64::BITS as usize
 );
 
 /// Kinds of blocks.
@@ -67,4 +68,6 @@ pub mod tag {
     pub const ENCRYPTION: u16 = 3;
     pub const PLAIN: u16 = 4;
     pub const MARKED: u16 = 5;
+    pub const PLAIN_NONCE: u16 = 6;
+    pub const MARKED_NONCE: u16 = 7;
 }

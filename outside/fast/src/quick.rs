@@ -6,21 +6,23 @@
 //! 128.
 
 use crate::alphabet::{Symbol, FIRST_VARIABLE, PAIR};
-use crate::numbers::{PLACES, VARIABLES, VARIABLE_ROOM};
-use crate::term::{span, variable_number, Bits, Occurrences, Term};
+use crate::numbers::{ORDINARY, PLACES, VARIABLES};
+use crate::term::{is_for_nonce, span, variable_number, Bits, Occurrences, Term};
 
 const PATTERN: u8 = PLACES as u8;
 const FIRST_OF_VARIABLES: u8 = 2 * PATTERN;
 const FREE: u8 = u8::MAX;
 const STEPS: usize = 4;
-const ROOM: usize = 16;
+const MOST_WAITING: usize = 16;
+/// Seldom are more variables bound to pairs or encryptions.
+const FEW: usize = 8;
 
-pub struct Quick<'a> {
+pub struct Quick<'a, const ROOM: usize> {
     sides: [&'a Term; 2],
     /// The node that a variable is bound to.
-    bound: [u8; VARIABLE_ROOM],
+    bound: [u8; ROOM],
     /// The variables that are bound to pairs or encryptions.
-    nested: u32,
+    nested: u64,
     occurrences: &'a Occurrences,
     /// How many more pairs of nodes may be taken apart.
     steps: usize,
@@ -34,11 +36,11 @@ pub enum Stopped {
     OutOfSteps,
 }
 
-impl<'a> Quick<'a> {
-    pub fn new(term: &'a Term, occurrences: &'a Occurrences, pattern: &'a Term) -> Quick<'a> {
+impl<'a, const ROOM: usize> Quick<'a, ROOM> {
+    pub fn new(term: &'a Term, occurrences: &'a Occurrences, pattern: &'a Term) -> Self {
         Quick {
             sides: [term, pattern],
-            bound: [FREE; VARIABLE_ROOM],
+            bound: [FREE; ROOM],
             nested: 0,
             occurrences,
             steps: STEPS,
@@ -67,7 +69,7 @@ impl<'a> Quick<'a> {
 
     /// Two entries that are no variables, and what is below them.
     fn equal_nodes(&mut self, one: u8, other: u8) -> Result<(), Stopped> {
-        let mut waiting = [(one, other); ROOM];
+        let mut waiting = [(one, other); MOST_WAITING];
         let mut count = 1;
         while count > 0 {
             count -= 1;
@@ -88,7 +90,7 @@ impl<'a> Quick<'a> {
             if symbol != self.symbol(other) {
                 return Err(Stopped::Unequal);
             }
-            if self.steps == 0 || count + 2 > ROOM {
+            if self.steps == 0 || count + 2 > MOST_WAITING {
                 return Err(Stopped::OutOfSteps);
             }
             self.steps -= 1;
@@ -130,7 +132,7 @@ impl<'a> Quick<'a> {
                 }
                 variable_number(symbol) as u8
             };
-            match self.bound[number as usize & (VARIABLE_ROOM - 1)] {
+            match self.bound[number as usize & (ROOM - 1)] {
                 FREE => return FIRST_OF_VARIABLES + number,
                 next => node = next,
             }
@@ -140,7 +142,10 @@ impl<'a> Quick<'a> {
     /// Binds a free variable to a node that is none or another one.
     #[inline(always)]
     fn bind(&mut self, variable: u8, node: u8) -> Result<(), Stopped> {
-        let number = (variable - FIRST_OF_VARIABLES) as usize & (VARIABLE_ROOM - 1);
+        let number = (variable - FIRST_OF_VARIABLES) as usize & (ROOM - 1);
+        if ROOM > ORDINARY && is_for_nonce(number) {
+            return self.bind_nonce(variable, node);
+        }
         if node < FIRST_OF_VARIABLES && self.symbol(node) >= PAIR {
             if self.stands_in(number, node) {
                 return Err(Stopped::Unequal);
@@ -148,6 +153,19 @@ impl<'a> Quick<'a> {
             self.nested |= 1 << number;
         }
         self.bound[number] = node;
+        Ok(())
+    }
+
+    /// The same for a variable for one nonce: another one is bound to it.
+    fn bind_nonce(&mut self, variable: u8, node: u8) -> Result<(), Stopped> {
+        if node >= FIRST_OF_VARIABLES {
+            self.bound[(node - FIRST_OF_VARIABLES) as usize] = variable;
+            return Ok(());
+        }
+        if self.side(node).nonces >> (node % PATTERN) & 1 == 0 {
+            return Err(Stopped::Unequal);
+        }
+        self.bound[(variable - FIRST_OF_VARIABLES) as usize] = node;
         Ok(())
     }
 
@@ -160,21 +178,28 @@ impl<'a> Quick<'a> {
             && self.occurrences.places[number] & span(at, self.sides[0].end(at)) != 0
     }
 
-    /// Nothing is bound to what contains it: takes away, again and again, the
-    /// variables that are bound to something without any of those left.
+    /// Nothing is bound to what contains it.
     pub fn is_finite(&self) -> bool {
-        if self.nested == 0 {
-            return true;
+        match self.nested.count_ones() as usize {
+            0 => true,
+            1..=FEW => self.is_finite_with::<FEW>(),
+            _ => self.is_finite_with::<ROOM>(),
         }
-        let mut below = [0u32; VARIABLE_ROOM];
-        for number in Bits(self.nested as u64) {
-            below[number] = self.below(self.bound[number]);
+    }
+
+    /// With room for so many nested variables: takes away, again and again, those
+    /// that are bound to something without any of those left.
+    fn is_finite_with<const MOST: usize>(&self) -> bool {
+        let mut below = [0u64; MOST];
+        for (row, number) in Bits(self.nested).enumerate() {
+            below[row & (MOST - 1)] = self.below(self.bound[number]);
         }
         let mut left = self.nested;
         loop {
-            let stay = Bits(left as u64)
-                .filter(|number| below[*number] & left != 0)
-                .fold(0, |stay, number| stay | 1 << number);
+            let stay = Bits(self.nested)
+                .zip(&below)
+                .filter(|(number, below)| left >> number & 1 == 1 && *below & left != 0)
+                .fold(0, |stay, (number, _)| stay | 1 << number);
             if stay == left {
                 return left == 0;
             }
@@ -183,9 +208,9 @@ impl<'a> Quick<'a> {
     }
 
     /// The variables below an entry, each as the last one that it is bound to.
-    fn below(&self, node: u8) -> u32 {
+    fn below(&self, node: u8) -> u64 {
         let (side, at) = (self.side(node), node as usize & (PLACES - 1));
-        let (mut seen, mut below) = (0u32, 0);
+        let (mut seen, mut below) = (0u64, 0);
         for i in Bits(side.variables & span(at, side.end(at))) {
             let number = variable_number(side.symbol(i));
             if seen >> number & 1 == 0 {
@@ -197,8 +222,8 @@ impl<'a> Quick<'a> {
     }
 
     fn last_variable(&self, mut number: usize) -> usize {
-        while (FIRST_OF_VARIABLES..FREE).contains(&self.bound[number & (VARIABLE_ROOM - 1)]) {
-            number = (self.bound[number & (VARIABLE_ROOM - 1)] - FIRST_OF_VARIABLES) as usize;
+        while (FIRST_OF_VARIABLES..FREE).contains(&self.bound[number & (ROOM - 1)]) {
+            number = (self.bound[number & (ROOM - 1)] - FIRST_OF_VARIABLES) as usize;
         }
         number
     }

@@ -11,6 +11,7 @@ pub struct Certificate {
     pub alphabet: Alphabet,
     /// Two for a block; the first is empty for a rule without a premise.
     pub terms: [Term; SLOTS],
+    pub has_nonce_variables: bool,
     /// The first block of each kind, and the number of blocks.
     starts: [usize; kind::RULE as usize + 2],
 }
@@ -19,6 +20,7 @@ impl Certificate {
     pub const EMPTY: Certificate = Certificate {
         alphabet: Alphabet::EMPTY,
         terms: [Term::EMPTY; SLOTS],
+        has_nonce_variables: false,
         starts: [0; kind::RULE as usize + 2],
     };
 
@@ -56,6 +58,10 @@ impl Certificate {
         self.starts[kind_before as usize + 1..].fill(blocks);
         if self.blocks_of(kind::SECRET).is_empty() || self.blocks_of(kind::RULE).is_empty() {
             return Err(fault(4, blocks, 0));
+        }
+        if self.has_nonce_variables {
+            let alphabet = &self.alphabet;
+            self.terms.iter_mut().for_each(|t| t.find_nonces(alphabet));
         }
         Ok(())
     }
@@ -105,17 +111,19 @@ impl Certificate {
     /// Number 8, and what the term is needed for later.
     fn prepare(&mut self, kind: u8, i: usize) -> Result<(), usize> {
         let [term, conclusion] = [self.term(i), self.conclusion(i)];
-        let is_missing = kind == kind::RULE && term.length == 0;
+        let is_missing = kind == kind::RULE && term.length() == 0;
         let is_no_pattern = matches!(kind, kind::GOOD | kind::BAD) && term.encryptions & 1 == 0;
         if !(is_missing || term.is_whole()) || is_no_pattern {
             return Err(0);
         }
         if kind == kind::RULE && !conclusion.is_whole() {
-            return Err(term.length);
+            return Err(term.length());
         }
+        let for_nonces = term.nonce_variables() | conclusion.nonce_variables();
+        self.has_nonce_variables |= for_nonces != 0;
         let term = &mut self.terms[slot(i)];
         match kind {
-            kind::SECRET if term.length == 1 => {
+            kind::SECRET if term.length() == 1 => {
                 self.alphabet.add_secret_atom(value_of(term.symbol(0)))
             }
             kind::SECRET => term.put_end(),

@@ -3,14 +3,15 @@
 //! still counts.
 
 use crate::family::Family;
-use crate::numbers::{kind, SLOTS};
+use crate::numbers::{kind, ORDINARY, SLOTS};
 use crate::read::Certificate;
 use crate::term::{variable_bit, Bits, Occurrences, Term};
 use crate::unify::{have_solution, Room};
 use crate::walk::{instance, instance_without_variables, same_term};
 use crate::walk::{side_by_side, Meetings, Parts, Shared, Watched};
 
-pub struct Judge<'a> {
+/// With room for so many variables: the ordinary ones, or all.
+pub struct Judge<'a, const ROOM: usize> {
     terms: &'a [Term; SLOTS],
     /// Secrets that are no atoms.
     secrets: &'a Family,
@@ -18,18 +19,18 @@ pub struct Judge<'a> {
     /// Bad patterns without marks.
     bads: Family,
     marked_bads: Family,
-    work: Work,
+    work: Work<ROOM>,
 }
 
 /// Room for sharing tests.
-struct Work {
+struct Work<const ROOM: usize> {
     parts: Parts,
     meetings: Meetings,
     room: Room,
 }
 
-impl<'a> Judge<'a> {
-    pub fn new(certificate: &'a Certificate, secrets: &'a Family) -> Judge<'a> {
+impl<'a, const ROOM: usize> Judge<'a, ROOM> {
+    pub fn new(certificate: &'a Certificate, secrets: &'a Family) -> Judge<'a, ROOM> {
         let terms = &certificate.terms;
         let bads = certificate.blocks_of(kind::BAD);
         Judge {
@@ -50,7 +51,7 @@ impl<'a> Judge<'a> {
     pub fn first_uncovered(&mut self, premise: &Term, conclusion: &Term) -> Option<usize> {
         let nested = self.sharing_with_nested_secret(conclusion);
         let mut risky = conclusion.variables | conclusion.secret_atoms | nested;
-        if premise.length > 0 && risky != 0 {
+        if premise.length() > 0 && risky != 0 {
             let secrets = premise.secret_atoms | self.nested_secrets(premise);
             let same = variables_of_both(premise, conclusion) | twins(conclusion, nested, premise);
             let open = self.open_places(premise, secrets | same);
@@ -66,7 +67,7 @@ impl<'a> Judge<'a> {
     /// The places whose subterm shares an instance with a nested secret.
     fn sharing_with_nested_secret(&self, conclusion: &Term) -> u64 {
         self.with_nested_secret(conclusion, |i, secret| {
-            instance_without_variables(conclusion, i, secret)
+            instance_without_variables::<ROOM>(conclusion, i, secret)
         })
     }
 
@@ -106,7 +107,7 @@ impl<'a> Judge<'a> {
             encryptions &= encryptions - 1;
             let below = premise.below(i);
             if places & below != 0 && self.closes(premise, i) {
-                let exposed = marked(self.terms, &self.marked_bads, premise, i);
+                let exposed = marked::<ROOM>(self.terms, &self.marked_bads, premise, i);
                 places &= !below | exposed;
                 if exposed == 0 {
                     encryptions &= !below;
@@ -128,7 +129,7 @@ impl<'a> Judge<'a> {
         work.shares(terms, goods, premise, i)
             && !bads.any(premise.symbol(i), |member| {
                 let pattern = &terms[bads.slot(member)];
-                instance(pattern, bads.watched(member), premise, i).map(|_| ())
+                instance::<ROOM>(pattern, bads.watched(member), premise, i).map(|_| ())
             })
     }
 
@@ -141,7 +142,7 @@ impl<'a> Judge<'a> {
             if places & conclusion.below(i) == 0 {
                 continue;
             }
-            let covered = places & marked(self.terms, &self.goods, conclusion, i);
+            let covered = places & marked::<ROOM>(self.terms, &self.goods, conclusion, i);
             let Judge {
                 terms,
                 bads,
@@ -159,17 +160,17 @@ impl<'a> Judge<'a> {
 
 /// The places at or below a mark of a pattern that the subterm at `i` is, with
 /// its variables replaced.
-fn marked(terms: &[Term; SLOTS], family: &Family, term: &Term, i: usize) -> u64 {
+fn marked<const ROOM: usize>(terms: &[Term; SLOTS], family: &Family, term: &Term, i: usize) -> u64 {
     let mut all = 0;
     family.any(term.symbol(i), |member| {
         let pattern = &terms[family.slot(member)];
-        all |= instance(pattern, family.watched(member), term, i)?;
+        all |= instance::<ROOM>(pattern, family.watched(member), term, i)?;
         Err(usize::MAX)
     });
     all
 }
 
-impl Work {
+impl<const ROOM: usize> Work<ROOM> {
     /// The subterm at `i` shares an instance with some member.
     fn shares(&mut self, terms: &[Term; SLOTS], family: &Family, term: &Term, i: usize) -> bool {
         let mut known = None;
@@ -221,11 +222,17 @@ impl Work {
         pattern: &Term,
         watched: Watched,
     ) -> Result<(), usize> {
+        if ROOM > ORDINARY {
+            self.parts.nonces_fit(term, pattern)?;
+        }
         if watched.repeated == 0 && !self.parts.term_is_replaced(term, pattern) {
             return Ok(());
         }
         let occurrences = known.get_or_insert_with(|| term.occurrences(i));
-        match self.parts.share(term, occurrences, pattern, watched) {
+        let shared = self
+            .parts
+            .share::<ROOM>(term, occurrences, pattern, watched);
+        match shared {
             Shared::Some => Ok(()),
             Shared::Never(last) => Err(last),
             Shared::Open => self.shares_by_classes(term, i, pattern),
@@ -234,20 +241,21 @@ impl Work {
 
     fn shares_by_classes(&mut self, term: &Term, i: usize, pattern: &Term) -> Result<(), usize> {
         side_by_side(term, i, pattern, &mut self.meetings)?;
-        match have_solution(term, pattern, &self.meetings, &mut self.room) {
+        let meetings = &self.meetings;
+        match have_solution::<ROOM>(term, pattern, meetings, &mut self.room) {
             true => Ok(()),
-            false => Err(pattern.length - 1),
+            false => Err(pattern.length() - 1),
         }
     }
 }
 
 /// The set of the variables at these places.
-fn variables_at(term: &Term, places: u64) -> u32 {
+fn variables_at(term: &Term, places: u64) -> u64 {
     Bits(term.variables & places).fold(0, |set, i| set | variable_bit(term.symbol(i)))
 }
 
 /// The places of these variables.
-fn places_of(term: &Term, variables: u32) -> u64 {
+fn places_of(term: &Term, variables: u64) -> u64 {
     Bits(term.variables).fold(0, |places, i| {
         let here = variable_bit(term.symbol(i)) & variables != 0;
         places | (here as u64) << i

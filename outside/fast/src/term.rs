@@ -2,22 +2,24 @@
 //! of entries as bits.
 
 use crate::alphabet::*;
-use crate::numbers::{ALL_VARIABLES, PLACES, VALUE_BITS, VARIABLES};
+use crate::numbers::{ORDINARY, PLACES, VALUE_BITS, VARIABLES};
 
 /// Symbols that are compared at once.
 pub const STRIDE: usize = 4;
 /// So that as many symbols can be read from any entry on.
-const PADDED: usize = PLACES + STRIDE;
+const PADDED: usize = PLACES + STRIDE - 1;
 
 #[derive(Clone, Copy)]
 pub struct Term {
     symbols: [Symbol; PADDED],
     ends: [u8; PLACES],
-    pub length: usize,
+    length: u16,
     pub variables: u64,
     pub encryptions: u64,
     pub pairs: u64,
     pub secret_atoms: u64,
+    /// The variables for one nonce and, in files that have some, the nonces.
+    pub nonces: u64,
 }
 
 /// The entries from `from` up to but not including `to`.
@@ -64,6 +66,7 @@ impl Term {
         encryptions: 0,
         pairs: 0,
         secret_atoms: 0,
+        nonces: 0,
     };
 
     /// Reads the first `length` entries, none of which has a bit set that none
@@ -89,18 +92,49 @@ impl Term {
             }
         }
         let used = span(0, length);
-        self.length = length;
+        self.length = length as u16;
         self.variables = used & marks.entries_with(VARIABLE);
         self.encryptions = used & marks.entries_with(ENCRYPTION);
         self.pairs = used & marks.entries_with(IS_PAIR);
         self.secret_atoms = used & marks.entries_with(SECRET_ATOM);
+        if marks.has_some(FOR_NONCE) {
+            self.find_nonce_variables(used & marks.entries_with(FOR_NONCE));
+        }
         self.find_ends();
         used & !marks.entries_with(place) == 0
     }
 
+    /// These variables are for one nonce.
+    #[cold]
+    fn find_nonce_variables(&mut self, entries: u64) {
+        self.nonces = entries;
+        for i in Bits(entries) {
+            self.symbols[i] += NONCE_VARIABLE;
+        }
+    }
+
+    /// Adds the nonces, in a file with variables for one.
+    pub fn find_nonces(&mut self, alphabet: &Alphabet) {
+        let atoms = !(self.variables | self.pairs | self.encryptions) & span(0, self.length());
+        self.nonces = Bits(atoms)
+            .filter(|i| alphabet.is_nonce(value_of(self.symbol(*i))))
+            .fold(self.nonces, |nonces, i| nonces | 1 << i);
+    }
+
+    /// The number of entries.
+    #[inline(always)]
+    pub fn length(&self) -> usize {
+        self.length as usize
+    }
+
+    #[inline(always)]
+    pub fn nonce_variables(&self) -> u64 {
+        self.variables & self.nonces
+    }
+
     /// The entries are exactly one term.
     pub fn is_whole(&self) -> bool {
-        self.length > 0 && self.end(0) == self.length
+        self.length() > 0 && self.end(0) == self.length()
     }
 
     /// Where pairs and encryptions end, from the last to the first. `later`
@@ -108,7 +142,7 @@ impl Term {
     /// the end: a leaf puts one more before them, a pair takes one away.
     fn find_ends(&mut self) {
         let mut later = 0u64;
-        let mut reached = 1u64 << self.length;
+        let mut reached = 1u64 << self.length();
         for from_last in Bits((self.pairs | self.encryptions).reverse_bits()) {
             let i = PLACES - 1 - from_last;
             let bit = 1u64 << i;
@@ -130,7 +164,7 @@ impl Term {
 
     /// A symbol that no term has, right after the last one.
     pub fn put_end(&mut self) {
-        self.symbols[self.length] = Symbol::MAX;
+        self.symbols[self.length()] = Symbol::MAX;
     }
 
     #[inline(always)]
@@ -188,14 +222,27 @@ impl Term {
             .fold(places & below, |found, i| found | 1 << i)
     }
 
-    /// Where the variables of the subterm at `i` stand.
+    /// The entries with a variable that stands at more than one.
+    pub fn repeated(&self) -> u64 {
+        let bit = |i: usize| variable_bit(self.symbol(i));
+        let (mut once, mut again) = (0, 0);
+        for i in Bits(self.variables) {
+            again |= once & bit(i);
+            once |= bit(i);
+        }
+        Bits(self.variables)
+            .filter(|i| again & bit(*i) != 0)
+            .fold(0, |repeated, i| repeated | 1 << i)
+    }
+
+    /// Where the variables of a rule's subterm at `i` stand.
     pub fn occurrences(&self, i: usize) -> Occurrences {
         let mut occurrences = Occurrences {
-            places: [0; ALL_VARIABLES],
+            places: [0; OF_A_RULE],
             repeated: 0,
         };
         for at in Bits(self.variables & span(i, self.end(i))) {
-            let here = &mut occurrences.places[variable_number(self.symbol(at))];
+            let here = &mut occurrences.places[of_a_rule(self.symbol(at))];
             if *here != 0 {
                 occurrences.repeated |= *here | 1 << at;
             }
@@ -207,12 +254,13 @@ impl Term {
 
 pub struct Occurrences {
     /// The entries of each variable.
-    pub places: [u64; ALL_VARIABLES],
+    pub places: [u64; OF_A_RULE],
     /// The entries with a variable that stands there more than once.
     pub repeated: u64,
 }
 
-/// A rule's variables, then the plain and the marked ones of a pattern.
+/// A rule's variables, then the plain and the marked ones of a pattern; then
+/// those for one nonce in the same order.
 #[inline(always)]
 pub fn variable_number(symbol: Symbol) -> usize {
     let sort = (symbol - FIRST_VARIABLE) >> VALUE_BITS;
@@ -220,16 +268,43 @@ pub fn variable_number(symbol: Symbol) -> usize {
 }
 
 #[inline(always)]
-pub fn variable_bit(symbol: Symbol) -> u32 {
+pub fn variable_bit(symbol: Symbol) -> u64 {
     1 << variable_number(symbol)
 }
 
+/// The variable of this number is for one nonce.
+#[inline(always)]
+pub fn is_for_nonce(number: usize) -> bool {
+    number >= ORDINARY
+}
+
+/// Room for a rule's variables, the ordinary ones and those for one nonce.
+pub const OF_A_RULE: usize = 3 * VARIABLES;
+
+/// The number of a rule's variable among them.
+#[inline(always)]
+pub fn of_a_rule(symbol: Symbol) -> usize {
+    const ONE_SORT: usize = VARIABLES - 1;
+    let number = variable_number(symbol);
+    number & ONE_SORT | (number & ORDINARY) >> 1
+}
+
 /// A marked variable of a pattern.
+#[inline(always)]
 pub fn is_marked(symbol: Symbol) -> bool {
-    symbol >> VALUE_BITS == FIRST_PATTERN_MARK >> VALUE_BITS
+    let first = FIRST_PATTERN_MARK >> VALUE_BITS;
+    let sort = symbol >> VALUE_BITS;
+    sort == first || sort == first + (TO_NONCE >> VALUE_BITS)
 }
 
 impl Marks {
+    /// Bit `mark` of some byte is set.
+    #[inline(always)]
+    fn has_some(&self, mark: u32) -> bool {
+        let any = self.0.iter().fold(0, |any, eight| any | eight);
+        any & 0x0101_0101_0101_0101 << mark != 0
+    }
+
     /// Bit `mark` of each byte, gathered.
     #[inline(always)]
     fn entries_with(&self, mark: u32) -> u64 {

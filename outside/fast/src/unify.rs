@@ -2,11 +2,12 @@
 //! nothing contains itself. Each step but a bounded few unites two classes.
 //!
 //! Nodes: entries of the term from 0, of the pattern from 64, variables from
-//! 128. The head of a class is a variable only if all its nodes are.
+//! 128. The head of a class is a variable only if all its nodes are; it is a
+//! nonce or a variable for one if any of them is.
 
 use crate::alphabet::{FIRST_VARIABLE, PAIR};
-use crate::numbers::{ALL_VARIABLES, PLACES};
-use crate::term::{span, variable_bit, variable_number, Bits, Term};
+use crate::numbers::{ALL_VARIABLES, ORDINARY, PLACES};
+use crate::term::{is_for_nonce, span, variable_bit, variable_number, Bits, Term};
 use crate::walk::Meetings;
 
 const FIRST_OF_VARIABLES: usize = 2 * PLACES;
@@ -39,16 +40,21 @@ impl Room {
     };
 }
 
-struct Classes<'a> {
+struct Classes<'a, const ROOM: usize> {
     sides: [&'a Term; 2],
     room: &'a mut Room,
     waiting: usize,
 }
 
 /// Some finite replacement makes both sides of every meeting equal.
-pub fn have_solution(term: &Term, pattern: &Term, meetings: &Meetings, room: &mut Room) -> bool {
+pub fn have_solution<const ROOM: usize>(
+    term: &Term,
+    pattern: &Term,
+    meetings: &Meetings,
+    room: &mut Room,
+) -> bool {
     room.heads = ITSELF;
-    let mut classes = Classes {
+    let mut classes = Classes::<ROOM> {
         sides: [term, pattern],
         room,
         waiting: 0,
@@ -61,7 +67,7 @@ pub fn have_solution(term: &Term, pattern: &Term, meetings: &Meetings, room: &mu
     classes.are_finite(meetings.seen)
 }
 
-impl Classes<'_> {
+impl<const ROOM: usize> Classes<'_, ROOM> {
     /// Unites two nodes and, from there on down, what must be equal then.
     fn unite_all(&mut self, one: usize, other: usize) -> bool {
         self.wait(one, other);
@@ -87,13 +93,16 @@ impl Classes<'_> {
         if one == other {
             return true;
         }
-        if one >= FIRST_OF_VARIABLES {
+        if one >= FIRST_OF_VARIABLES && self.takes(one, other) {
             self.room.heads[one] = other as u8;
             return true;
         }
-        if other >= FIRST_OF_VARIABLES {
+        if other >= FIRST_OF_VARIABLES && self.takes(other, one) {
             self.room.heads[other] = one as u8;
             return true;
+        }
+        if ROOM > ORDINARY && one.max(other) >= FIRST_OF_VARIABLES {
+            return false;
         }
         let symbol = self.side(one).symbol(one);
         if symbol != self.side(other).symbol(other) {
@@ -102,6 +111,18 @@ impl Classes<'_> {
         self.room.heads[one] = other as u8;
         self.wait_for_children(one, other, symbol);
         true
+    }
+
+    /// The variable may be what the other head is.
+    #[inline(always)]
+    fn takes(&self, variable: usize, other: usize) -> bool {
+        if ROOM == ORDINARY || !is_for_nonce(variable - FIRST_OF_VARIABLES) {
+            return true;
+        }
+        match other.checked_sub(FIRST_OF_VARIABLES) {
+            Some(number) => is_for_nonce(number),
+            None => self.side(other).nonces >> (other & (PLACES - 1)) & 1 == 1,
+        }
     }
 
     #[inline(always)]
@@ -151,12 +172,12 @@ impl Classes<'_> {
 
     /// No variable contains itself. Goes down from each variable that was met;
     /// what is bound further down is below one of these.
-    fn are_finite(&mut self, met: u32) -> bool {
-        let mut below = [0u32; ALL_VARIABLES];
-        let mut path = [0u8; ALL_VARIABLES];
-        let (mut on_path, mut finite) = (0u32, 0u32);
-        for start in Bits(met as u64) {
-            let (mut depth, mut next) = (0, 1u32 << start & !finite);
+    fn are_finite(&mut self, met: u64) -> bool {
+        let mut below = [0u64; ROOM];
+        let mut path = [0u8; ROOM];
+        let (mut on_path, mut finite) = (0u64, 0u64);
+        for start in Bits(met) {
+            let (mut depth, mut next) = (0, 1u64 << start & !finite);
             while next != 0 || depth > 0 {
                 if next & on_path != 0 {
                     return false;
@@ -180,7 +201,7 @@ impl Classes<'_> {
     }
 
     /// The variables below the head of a variable's class.
-    fn below_variable(&mut self, number: usize) -> u32 {
+    fn below_variable(&mut self, number: usize) -> u64 {
         let head = self.head(FIRST_OF_VARIABLES + number);
         if head >= FIRST_OF_VARIABLES {
             return 0;

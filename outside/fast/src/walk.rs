@@ -1,18 +1,17 @@
 //! Two terms side by side, up to the first clash.
 
 use crate::alphabet::{Symbol, FIRST_VARIABLE};
-use crate::numbers::{ALL_VARIABLES, PLACES, VARIABLES};
+use crate::numbers::{ORDINARY, PLACES};
 use crate::quick::{Quick, Stopped};
-use crate::term::{
-    is_marked, span, variable_bit, variable_number, Bits, Occurrences, Term, STRIDE,
-};
+use crate::term::{is_for_nonce, of_a_rule, Occurrences, OF_A_RULE};
+use crate::term::{is_marked, span, variable_bit, variable_number, Bits, Term, STRIDE};
 
 /// Where a variable stands beside something, entry of either side.
 pub struct Meetings {
     pub list: [(u8, u8); PLACES],
     pub count: usize,
     /// The variables met.
-    pub seen: u32,
+    pub seen: u64,
     /// Some variable was met twice.
     pub repeated: bool,
 }
@@ -77,18 +76,18 @@ fn not_zero(four: u64) -> u64 {
 #[inline(always)]
 fn even_run(term: &Term, i: usize, pattern: &Term, j: usize, free: u64) -> usize {
     let mut run = 0;
-    while j + run < pattern.length {
+    while j + run < pattern.length() {
         let other = term.four(i + run) ^ pattern.four(j + run);
         if other != 0 {
             let wrong = not_zero(other) & !(free >> run);
             if wrong != 0 {
                 run += wrong.trailing_zeros() as usize;
-                return run.min(pattern.length - j);
+                return run.min(pattern.length() - j);
             }
         }
         run += STRIDE;
     }
-    pattern.length - j
+    pattern.length() - j
 }
 
 /// What is known of a pattern's variables.
@@ -111,7 +110,7 @@ impl Watched {
             .filter(|j| is_marked(pattern.symbol(*j)))
             .fold(0, |marked, j| marked | 1 << j);
         Watched {
-            repeated: pattern.occurrences(0).repeated,
+            repeated: pattern.repeated(),
             marked,
         }
     }
@@ -137,22 +136,22 @@ impl Parts {
         // Most clash at their first difference.
         let run = equal_run(term, at, pattern, 0);
         let (one, other) = (term.symbol(at + run), pattern.symbol(run));
-        if run < pattern.length && !is_variable(one) && !is_variable(other) {
+        if run < pattern.length() && !is_variable(one) && !is_variable(other) {
             return Err(run);
         }
         let leaves = !(term.pairs | term.encryptions);
         let pattern_leaves = !(pattern.pairs | pattern.encryptions);
         self.count = 0;
         let (mut i, mut j) = (at, 0);
-        while j < pattern.length {
+        while j < pattern.length() {
             let free = (pattern.variables >> j) & (leaves >> i)
                 | (term.variables >> i) & (pattern_leaves >> j);
             let run = even_run(term, i, pattern, j, free);
             self.list[self.count & (PLACES - 1)] =
-                (i as u8, j as u8, (j + run + 1).min(pattern.length) as u8);
+                (i as u8, j as u8, (j + run + 1).min(pattern.length()) as u8);
             self.count += 1;
             (i, j) = (i + run, j + run);
-            if j >= pattern.length {
+            if j >= pattern.length() {
                 break;
             }
             (i, j) = if pattern.variables >> j & 1 == 1 {
@@ -166,7 +165,24 @@ impl Parts {
         Ok(())
     }
 
+    /// With the parts found: no variable for one nonce meets what never is one,
+    /// or the pattern's first entry where one does.
+    pub fn nonces_fit(&self, term: &Term, pattern: &Term) -> Result<(), usize> {
+        let never = !(term.variables | term.nonces);
+        let pattern_never = !(pattern.variables | pattern.nonces);
+        for (i, j, end) in &self.list[..self.count] {
+            let clash = (term.nonce_variables() >> i << j) & pattern_never
+                | (never >> i << j) & pattern.nonce_variables();
+            let here = clash & span(*j as usize, *end as usize);
+            if here != 0 {
+                return Err(here.trailing_zeros() as usize);
+            }
+        }
+        Ok(())
+    }
+
     /// Some variable of the term meets what is no variable.
+    #[inline(always)]
     pub fn term_is_replaced(&self, term: &Term, pattern: &Term) -> bool {
         self.list[..self.count].iter().any(|(i, j, end)| {
             let met = (term.variables >> i << j) & !pattern.variables;
@@ -191,21 +207,26 @@ impl Parts {
 
     /// With the parts found: some instance is shared; none is, with the last
     /// entry of the pattern that was needed to see it; or it took too many steps.
-    pub fn share(
+    pub fn share<const ROOM: usize>(
         &self,
         term: &Term,
         occurrences: &Occurrences,
         pattern: &Term,
         watched: Watched,
     ) -> Shared {
-        let mut quick = Quick::new(term, occurrences, pattern);
+        let mut quick = Quick::<ROOM>::new(term, occurrences, pattern);
         for (i, j, end) in &self.list[..self.count] {
             let (i, j) = (*i as usize, *j as usize);
             let repeated = occurrences.repeated >> i << j;
-            let variables = term.variables >> i << j;
-            // A variable that stands at one place only takes what it meets.
-            let counts = watched.repeated & !(variables & !repeated)
-                | repeated & !(pattern.variables & !watched.repeated);
+            let (mut free, mut pattern_free) = (term.variables >> i << j, pattern.variables);
+            if ROOM > ORDINARY {
+                free &= !(term.nonce_variables() >> i << j);
+                pattern_free &= !pattern.nonce_variables();
+            }
+            // A variable that stands at one place only takes what it meets; one for
+            // a nonce still says what the other side is.
+            let counts = watched.repeated & !(free & !repeated)
+                | repeated & !(pattern_free & !watched.repeated);
             for k in Bits(counts & span(j, *end as usize)) {
                 match quick.equal(i + k - j, k) {
                     Ok(()) => {}
@@ -216,7 +237,7 @@ impl Parts {
         }
         match quick.is_finite() {
             true => Shared::Some,
-            false => Shared::Never(pattern.length - 1),
+            false => Shared::Never(pattern.length() - 1),
         }
     }
 }
@@ -240,7 +261,7 @@ pub fn side_by_side(
     loop {
         let run = equal_run(term, i, pattern, j);
         (i, j) = (i + run, j + run);
-        if j >= pattern.length {
+        if j >= pattern.length() {
             return Ok(());
         }
         if is_variable(pattern.symbol(j)) {
@@ -257,55 +278,73 @@ pub fn side_by_side(
 
 /// The subterm at `at` as the pattern with its variables replaced: the entries
 /// at or below a mark, or the pattern's entry of the first clash.
-pub fn instance(pattern: &Term, watched: Watched, term: &Term, at: usize) -> Result<u64, usize> {
+pub fn instance<const ROOM: usize>(
+    pattern: &Term,
+    watched: Watched,
+    term: &Term,
+    at: usize,
+) -> Result<u64, usize> {
     let leaves = !(term.pairs | term.encryptions);
-    let mut replaced = Replaced::NONE;
+    let mut replaced = Replaced::<ROOM>::NONE;
     let (mut i, mut j) = (at, 0);
     loop {
         let free = (pattern.variables >> j) & (leaves >> i);
         let end = j + even_run(term, i, pattern, j, free);
-        let watch = watched.repeated | watched.marked;
-        for k in Bits(watch & span(j, (end + 1).min(pattern.length))) {
-            replaced.put(pattern, k, term, i + k - j)?;
+        let here = span(j, (end + 1).min(pattern.length()));
+        if ROOM > ORDINARY {
+            let wrong = pattern.nonce_variables() & !(term.nonces >> i << j) & here;
+            if wrong != 0 {
+                return Err(wrong.trailing_zeros() as usize);
+            }
+        }
+        for k in Bits((watched.repeated | watched.marked) & here) {
+            let is_marked = watched.marked >> k & 1 == 1;
+            replaced.put(pattern, k, term, i + k - j, is_marked)?;
         }
         i += end - j;
-        if end >= pattern.length {
+        if end >= pattern.length() {
             return Ok(replaced.marked);
         }
         if pattern.variables >> end & 1 == 0 {
             return Err(end);
         }
         (i, j) = (term.end(i), end + 1);
-        if j >= pattern.length {
+        if j >= pattern.length() {
             return Ok(replaced.marked);
         }
     }
 }
 
 /// What the variables of a pattern are replaced by.
-struct Replaced {
-    starts: [u8; ALL_VARIABLES],
+struct Replaced<const ROOM: usize> {
+    starts: [u8; ROOM],
     /// The entries at or below a mark.
     marked: u64,
 }
 
-impl Replaced {
-    const NONE: Replaced = Replaced {
-        starts: [u8::MAX; ALL_VARIABLES],
+impl<const ROOM: usize> Replaced<ROOM> {
+    const NONE: Replaced<ROOM> = Replaced {
+        starts: [u8::MAX; ROOM],
         marked: 0,
     };
 
     /// The variable at `j` by the subterm at `i`, or `j` if it was another.
     #[inline(always)]
-    fn put(&mut self, pattern: &Term, j: usize, term: &Term, i: usize) -> Result<(), usize> {
-        let symbol = pattern.symbol(j);
-        let start = &mut self.starts[variable_number(symbol)];
+    fn put(
+        &mut self,
+        pattern: &Term,
+        j: usize,
+        term: &Term,
+        i: usize,
+        is_marked: bool,
+    ) -> Result<(), usize> {
+        let start = &mut self.starts[variable_number(pattern.symbol(j)) & (ROOM - 1)];
         if *start == u8::MAX {
             *start = i as u8;
         } else if !term.is_same(*start as usize, i) {
             return Err(j);
         }
-        if is_marked(symbol) {
+        if is_marked {
             self.marked |= span(i, term.end(i));
         }
         Ok(())
@@ -317,7 +356,7 @@ impl Replaced {
 #[inline(always)]
 pub fn same_term(term: &Term, at: usize, ground: &Term) -> Result<(), usize> {
     let run = equal_run(term, at, ground, 0);
-    if run < ground.length {
+    if run < ground.length() {
         return Err(run);
     }
     Ok(())
@@ -326,25 +365,32 @@ pub fn same_term(term: &Term, at: usize, ground: &Term) -> Result<(), usize> {
 /// A term without variables as an instance of the subterm at `at`, or the
 /// entry of the first clash.
 #[inline]
-pub fn instance_without_variables(term: &Term, at: usize, ground: &Term) -> Result<(), usize> {
-    const OF_A_RULE: usize = VARIABLES.next_power_of_two();
+pub fn instance_without_variables<const ROOM: usize>(
+    term: &Term,
+    at: usize,
+    ground: &Term,
+) -> Result<(), usize> {
     let mut starts = [u8::MAX; OF_A_RULE];
     let (mut i, mut j) = (at, 0);
     loop {
         let run = equal_run(term, i, ground, j);
         (i, j) = (i + run, j + run);
-        if j >= ground.length {
+        if j >= ground.length() {
             return Ok(());
         }
         let symbol = term.symbol(i);
         if !is_variable(symbol) {
             return Err(j);
         }
-        let start = &mut starts[variable_number(symbol) & (OF_A_RULE - 1)];
+        let is_nonce = ground.nonces >> j & 1 == 1;
+        if ROOM > ORDINARY && is_for_nonce(variable_number(symbol)) && !is_nonce {
+            return Err(j);
+        }
+        let start = &mut starts[of_a_rule(symbol)];
         if *start == u8::MAX {
             *start = j as u8;
         } else if ground.subterm(*start as usize) != ground.subterm(j) {
-            return Err(ground.length);
+            return Err(ground.length());
         }
         (i, j) = (i + 1, ground.end(j));
     }

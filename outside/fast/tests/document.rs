@@ -1,5 +1,5 @@
-//! The document's certificates to try, its lengths, marks in bad patterns, and two
-//! atom blocks.
+//! The document's certificates to try, its lengths, marks in bad patterns, nonce
+//! variables, and two atom blocks.
 
 use fast::check;
 use text::document::{joined_atoms, ATOMS, GOOD, SECRETS};
@@ -105,6 +105,75 @@ fn marks_of_bad_patterns_for_open_places() {
     assert_eq!(pair("{(I, (?x, *m))}KA"), refused(12, 6, 6));
     assert_eq!(usual("bad *m\nrule -> T"), refused(8, 4, 0));
     assert_eq!(usual("rule *m -> T"), refused(7, 4, 0));
+}
+
+/// With these secrets' good pattern.
+fn with_good(good: &str, rule: &str) -> u32 {
+    answer(&format!("{SECRETS}good {good}\nrule {rule}"))
+}
+
+#[test]
+fn nonce_variables_of_patterns_match_nonces() {
+    let one = "{*n!n}KA";
+    assert_eq!(with_good(one, "-> {N}KA"), 0);
+    assert_eq!(with_good(one, "{?n!x}KA -> {?n!x}KA"), 0);
+    assert_eq!(with_good(one, "{?x}KA -> {?x}KA"), refused(12, 4, 3));
+    assert_eq!(with_good(one, "-> {KAi}KA"), refused(12, 4, 1));
+    assert_eq!(with_good(one, "-> {(N, T)}KA"), refused(12, 4, 2));
+    let after = "{(?n!x, *s)}KA";
+    assert_eq!(with_good(after, "-> {(T, N)}KA"), 0);
+    assert_eq!(with_good(after, "-> {(A, N)}KA"), refused(12, 4, 3));
+    let rule = "?n!y -> {(?n!y, (T, N))}KA";
+    assert_eq!(with_good("{(?n!x, (?n!y, *s))}KA", rule), 0);
+    let twice = with_good("{(?n!x, (?n!x, *s))}KA", rule);
+    assert_eq!(twice, refused(12, 4, 6));
+}
+
+#[test]
+fn nonce_variables_share_nonces() {
+    let after = "{(?n!x, *s)}KA";
+    for field in ["A", "KI", "(T, T)", "{T}KI"] {
+        let rule = format!("{{({field}, ?y)}}KA -> ?y");
+        assert_eq!(with_good(after, &rule), 0, "{field}");
+    }
+    for field in ["T", "N", "?n!x", "?x"] {
+        let rule = format!("{{({field}, ?y)}}KA -> ?y");
+        assert_eq!(with_good(after, &rule), refused(12, 4, 4), "{field}");
+    }
+    let tied = "{(?x, (?x, *s))}KA";
+    for (one, other) in [("?n!x", "KI"), ("A", "?n!x"), ("?n!x", "{?z}KI")] {
+        for rule in [
+            format!("{{({one}, ({other}, ?y))}}KA -> ?y"),
+            format!("{{({other}, ({one}, ?y))}}KA -> ?y"),
+        ] {
+            assert_eq!(with_good(tied, &rule), 0, "{rule}");
+        }
+    }
+    let rule = "{(?x, (?x, ?y))}KA -> ?y";
+    assert_eq!(with_good("{(?n!x, ({?z}KI, *s))}KA", rule), 0);
+    let with_nonce = with_good("{(?n!x, (T, *s))}KA", rule);
+    assert_eq!(with_nonce, refused(12, 4, 6));
+}
+
+#[test]
+fn places_of_nonce_variables() {
+    assert_eq!(usual("rule -> ?n!x"), refused(12, 4, 0));
+    assert_eq!(usual("rule ?n!0 -> ?n!0"), 0);
+    assert_eq!(usual("rule ?0 -> ?n!0"), refused(12, 4, 1));
+    assert_eq!(usual("rule ?n!0 -> ?0"), refused(12, 4, 1));
+    let pair = |secret: &str| {
+        let rule = "rule ?n!x -> (?n!x, T)";
+        answer(&format!("{SECRETS}secret {secret}\n{GOOD}{rule}"))
+    };
+    assert_eq!(pair("(N, T)"), refused(12, 5, 1));
+    assert_eq!(pair("(KAi, T)"), 0);
+    let bad = "{(?x, *n!y)}KA";
+    assert_eq!(with_bads(&[bad], "-> {(N, T)}KA"), 0);
+    assert_eq!(with_bads(&[bad], "-> {(T, N)}KA"), refused(12, 5, 3));
+    assert_eq!(with_bads(&[bad], "-> {(T, (N, T))}KA"), 0);
+    assert_eq!(usual("rule -> {*n!x}KA"), refused(7, 4, 1));
+    let in_secret = answer(&format!("secret (N, ?n!x)\n{SECRETS}{GOOD}rule -> T"));
+    assert_eq!(in_secret, refused(7, 1, 2));
 }
 
 #[test]

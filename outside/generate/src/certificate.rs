@@ -9,6 +9,10 @@ use literal::read::Atom;
 use literal::{matches, Term};
 
 mod exceptions;
+mod nonces;
+
+/// Of a hundred certificates, so many may have nonce variables.
+const NONCE_VARIABLES: usize = 40;
 
 /// A certificate of the generator, not yet bytes.
 pub fn sketch(random: &mut Random) -> Sketch {
@@ -16,7 +20,7 @@ pub fn sketch(random: &mut Random) -> Sketch {
     maker.make_secrets();
     maker.make_goods();
     maker.make_bads();
-    for _ in 0..maker.random.weighted(&[0, 14, 22, 22, 18, 14, 10]) {
+    for _ in 0..maker.rule_count() {
         maker.make_rule();
     }
     if maker.random.chance(16) {
@@ -36,11 +40,17 @@ struct Maker<'r> {
     hat_keys: Vec<u16>,
     /// The variables that the present rule draws from.
     variables: Vec<u8>,
+    /// Whether patterns and rules have nonce variables.
+    has_nonce_variables: bool,
 }
 
 impl<'r> Maker<'r> {
     fn new(random: &'r mut Random) -> Maker<'r> {
-        let atoms = atoms(random);
+        let has_nonce_variables = random.chance(NONCE_VARIABLES);
+        let mut atoms = atoms(random);
+        if has_nonce_variables && random.chance(6) {
+            atoms = nonces::without_nonces(&atoms);
+        }
         let mut maker = Maker {
             random,
             sketch: Sketch {
@@ -49,6 +59,7 @@ impl<'r> Maker<'r> {
             },
             hat_keys: Vec::new(),
             variables: vec![0, 1],
+            has_nonce_variables,
         };
         maker.choose_hat_keys();
         maker
@@ -169,10 +180,16 @@ impl<'r> Maker<'r> {
     // Patterns.
 
     fn make_goods(&mut self) {
+        if self.has_nonce_variables && self.random.chance(45) {
+            return self.make_nonce_goods();
+        }
         for _ in 0..self.random.weighted(&[4, 46, 35, 15]) {
             let body = self.good_body();
             let key = self.hat_key();
             self.sketch.goods.push(Term::encryption(body, key));
+        }
+        if self.has_nonce_variables {
+            self.make_nonce_goods();
         }
     }
 
@@ -201,13 +218,21 @@ impl<'r> Maker<'r> {
         }
     }
 
-    /// Mostly few numbers, so that plain and marked ones meet.
+    /// Mostly few numbers, so that those of different sorts meet.
     fn mark(&mut self) -> Term {
-        Term::Marked(*self.random.pick(&[0, 0, 0, 1, VARIABLES - 1]))
+        let number = *self.random.pick(&[0, 0, 0, 1, VARIABLES - 1]);
+        match self.wants_nonce_variable() {
+            true => Term::MarkedNonce(number),
+            false => Term::Marked(number),
+        }
     }
 
     fn plain(&mut self) -> Term {
-        Term::Plain(*self.random.pick(&[0, 0, 0, 1, 1, VARIABLES - 1]))
+        let number = *self.random.pick(&[0, 0, 0, 1, 1, VARIABLES - 1]);
+        match self.wants_nonce_variable() {
+            true => Term::PlainNonce(number),
+            false => Term::Plain(number),
+        }
     }
 
     fn random_pattern(&mut self, depth: usize, marked: bool) -> Term {
@@ -263,7 +288,13 @@ impl<'r> Maker<'r> {
     fn narrower(&mut self, good: &Term) -> Term {
         let bodies: Vec<(Term, Term)> = variables_of(good)
             .into_iter()
-            .map(|variable| (variable, self.narrow_body()))
+            .map(|variable| {
+                let body = match variable.is_nonce_variable() {
+                    true => self.nonce_in_pattern(),
+                    false => self.narrow_body(),
+                };
+                (variable, body)
+            })
             .collect();
         replace(good, &bodies)
     }
@@ -280,6 +311,14 @@ impl<'r> Maker<'r> {
     }
 
     // Rules.
+
+    /// Fewer where more of them do not pass.
+    fn rule_count(&mut self) -> usize {
+        match self.has_nonce_variables {
+            true => self.random.weighted(&[0, 30, 30, 20, 10, 6, 4]),
+            false => self.random.weighted(&[0, 14, 22, 22, 18, 14, 10]),
+        }
+    }
 
     fn make_rule(&mut self) {
         loop {
@@ -307,6 +346,9 @@ impl<'r> Maker<'r> {
     fn next_rule(&mut self) -> (Option<Term>, Term) {
         if self.wants_exception() {
             return self.exception_rule();
+        }
+        if self.wants_nonce_rule() {
+            return self.nonce_rule();
         }
         let premise = self.next_premise();
         let open = self.seemingly_open(premise.as_ref());
@@ -355,7 +397,10 @@ impl<'r> Maker<'r> {
     }
 
     fn variable(&mut self) -> Term {
-        Term::Plain(*self.random.pick(&self.variables))
+        match self.wants_nonce_variable() {
+            true => self.nonce_variable(),
+            false => Term::Plain(*self.random.pick(&self.variables)),
+        }
     }
 
     /// A small rule term.
@@ -418,7 +463,10 @@ impl<'r> Maker<'r> {
         let pattern = self.random.pick(patterns).clone();
         let bodies: Vec<(Term, Term)> = variables_of(&pattern)
             .into_iter()
-            .map(|variable| (variable, self.small(1)))
+            .map(|variable| {
+                let body = self.body_of(&variable, 1);
+                (variable, body)
+            })
             .collect();
         replace(&pattern, &bodies)
     }
@@ -440,7 +488,8 @@ impl<'r> Maker<'r> {
                 self.add_open(right, open);
             }
             Term::Encryption(message, key) => {
-                let bad = self.sketch.bads.iter().any(|bad| matches(bad, term));
+                let atoms = &self.sketch.atoms;
+                let bad = self.sketch.bads.iter().any(|bad| matches(atoms, bad, term));
                 if bad || !self.hat_keys.contains(key) {
                     self.add_open(message, open);
                 }
@@ -481,8 +530,9 @@ impl<'r> Maker<'r> {
             .into_iter()
             .map(|variable| {
                 let body = match variable {
-                    Term::Marked(_) => self.small(2),
-                    _ => self.conclusion(depth - 1, open),
+                    Term::Plain(_) => self.conclusion(depth - 1, open),
+                    Term::PlainNonce(_) => self.nonce_among(open),
+                    _ => self.body_of(&variable, 2),
                 };
                 (variable, body)
             })
@@ -581,13 +631,12 @@ pub fn variables_of(term: &Term) -> Vec<Term> {
 /// The term with each listed variable replaced by the term beside it.
 pub fn replace(term: &Term, by: &[(Term, Term)]) -> Term {
     match term {
-        Term::Plain(_) | Term::Marked(_) => match by.iter().find(|(v, _)| v == term) {
+        Term::Pair(left, right) => Term::pair(replace(left, by), replace(right, by)),
+        Term::Encryption(message, key) => Term::encryption(replace(message, by), *key),
+        _ => match by.iter().find(|(v, _)| v == term) {
             Some((_, body)) => body.clone(),
             None => term.clone(),
         },
-        Term::Pair(left, right) => Term::pair(replace(left, by), replace(right, by)),
-        Term::Encryption(message, key) => Term::encryption(replace(message, by), *key),
-        Term::Atom(_) => term.clone(),
     }
 }
 

@@ -287,6 +287,9 @@ pub(crate) fn some_entry(random: &mut Random, blocks: &[Vec<u8>]) -> Option<(usi
 }
 
 fn wrong_entry(random: &mut Random, blocks: &mut [Vec<u8>]) {
+    if random.chance(30) {
+        return misplaced_nonce_variable(random, blocks);
+    }
     let Some((number, entry)) = some_entry(random, blocks) else {
         return;
     };
@@ -342,10 +345,45 @@ fn other_value(random: &mut Random, block: &mut [u8], tag: u8, atoms: usize) {
 }
 
 fn mark_a_variable(random: &mut Random, block: &mut [u8]) {
-    let possible = entries_with(block, tag::PLAIN);
+    let plain = entries_with(block, tag::PLAIN);
+    let nonces = entries_with(block, tag::PLAIN_NONCE);
+    let possible = [plain, nonces].concat();
     if !possible.is_empty() {
-        block[entry_at(*random.pick(&possible))] = tag::MARKED;
+        let tag = &mut block[entry_at(*random.pick(&possible))];
+        *tag = if *tag == tag::PLAIN {
+            tag::MARKED
+        } else {
+            tag::MARKED_NONCE
+        };
     }
+}
+
+/// For a leaf: a nonce variable in a secret, a marked one in a rule, or one with
+/// a number that is too large by little.
+fn misplaced_nonce_variable(random: &mut Random, blocks: &mut [Vec<u8>]) {
+    let leaves = |block: &[u8]| {
+        let tags = [tag::ATOM]
+            .into_iter()
+            .chain(tag::PLAIN..=tag::MARKED_NONCE);
+        tags.flat_map(|tag| entries_with(block, tag))
+            .collect::<Vec<_>>()
+    };
+    let with_leaves: Vec<usize> = (0..blocks.len())
+        .filter(|i| holds_terms(&blocks[*i]) && !leaves(&blocks[*i]).is_empty())
+        .collect();
+    if with_leaves.is_empty() {
+        return;
+    }
+    let block = &mut blocks[*random.pick(&with_leaves)];
+    let entry = *random.pick(&leaves(block));
+    let either = *random.pick(&[tag::PLAIN_NONCE, tag::MARKED_NONCE]);
+    let number = random.below(VARIABLES as usize) as u16;
+    match block[0] {
+        kind::SECRET => set_entry(block, entry, either, number),
+        kind::RULE if random.chance(50) => set_entry(block, entry, tag::MARKED_NONCE, number),
+        _ => set_entry(block, entry, either, VARIABLES as u16 + number),
+    }
+    seal(block);
 }
 
 fn set_entry(block: &mut [u8], entry: usize, tag: u8, value: u16) {

@@ -2,23 +2,20 @@
 //! variables.
 
 use crate::certificate::{replace, variables_of};
-use crate::pairs::term_pair;
+use crate::pairs::{self, term_pair, KEYS};
 use crate::random::Random;
 use crate::sketch::Sketch;
 use crate::spread::onto_two_blocks;
-use literal::numbers::atom_kind::{NONCE, PRINCIPAL, PRIVATE, PUBLIC};
 use literal::numbers::MOST_ENTRIES;
-use literal::read::Atom;
 use literal::Term;
 
-const KEYS: [u16; 4] = [2, 3, 4, 5];
 const SECRET: u16 = 6;
 
 /// A well-formed file whose patterns and rules come from the generator's pairs
 /// of terms: chains, deep pairs, instances.
 pub fn sketch(random: &mut Random) -> Sketch {
     let mut sketch = Sketch {
-        atoms: atoms(),
+        atoms: pairs::atoms(),
         secrets: secrets(random),
         ..Sketch::default()
     };
@@ -33,26 +30,6 @@ pub fn sketch(random: &mut Random) -> Sketch {
         return onto_two_blocks(random, &sketch);
     }
     sketch
-}
-
-/// The document's atoms, but no key is known, so that each may be a root key.
-fn atoms() -> Vec<Atom> {
-    let rows = [
-        (PRINCIPAL, 1, 0),
-        (PRINCIPAL, 1, 0),
-        (PUBLIC, 0, 3),
-        (PRIVATE, 0, 2),
-        (PUBLIC, 0, 5),
-        (PRIVATE, 0, 4),
-        (NONCE, 0, 0),
-        (NONCE, 1, 0),
-    ];
-    rows.map(|(kind, known, partner)| Atom {
-        kind,
-        known,
-        partner,
-    })
-    .to_vec()
 }
 
 /// The nonce, the keys, and at times nested ones, all weakly closed.
@@ -112,6 +89,7 @@ fn without_marks(term: &Term) -> Term {
         .into_iter()
         .filter_map(|variable| match variable {
             Term::Marked(number) => Some((variable, Term::Plain(number))),
+            Term::MarkedNonce(number) => Some((variable, Term::PlainNonce(number))),
             _ => None,
         })
         .collect();

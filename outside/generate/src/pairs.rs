@@ -1,12 +1,39 @@
-//! Pairs of terms for sharing and matching, as entry bytes. Atoms 0 to 7 and
-//! the keys 2 to 5, as in the document's cases.
+//! Pairs of terms for sharing and matching, as entry bytes. Atoms 0 to 7 of
+//! every kind, the keys 2 to 5.
 
 use crate::certificate::{replace, replace_at, variables_of};
 use crate::random::Random;
+use literal::numbers::atom_kind::{NONCE, PRINCIPAL, PRIVATE, PUBLIC, SYMMETRIC};
 use literal::numbers::{MOST_ENTRIES, VARIABLES};
+use literal::read::Atom;
 use literal::{encode, Term};
 
-/// A pattern, which may hold marked variables, and a rule term.
+pub const KEYS: [u16; 4] = [2, 3, 4, 5];
+const NONCES: [u16; 2] = [6, 7];
+
+/// Two principals, a public and a private key, two symmetric ones, two nonces.
+/// No key is known, so that each may be a root key.
+pub fn atoms() -> Vec<Atom> {
+    let rows = [
+        (PRINCIPAL, 1, 0),
+        (PRINCIPAL, 1, 0),
+        (PUBLIC, 0, 3),
+        (PRIVATE, 0, 2),
+        (SYMMETRIC, 0, 4),
+        (SYMMETRIC, 0, 5),
+        (NONCE, 0, 0),
+        (NONCE, 1, 0),
+    ];
+    rows.map(|(kind, known, partner)| Atom {
+        kind,
+        known,
+        partner,
+    })
+    .to_vec()
+}
+
+/// A pattern, which may hold marked variables, and a rule term. Either may hold
+/// nonce variables.
 #[derive(Clone, Debug)]
 pub struct TermPair {
     pub pattern: Vec<u8>,
@@ -47,9 +74,48 @@ pub fn small_term_pair(seed: u64) -> (Term, Term) {
 struct Shape {
     depth: usize,
     variables: u8,
-    atoms: usize,
+    atoms: Vec<u16>,
     keys: usize,
     marks: bool,
+    /// Of a hundred variables so many are for one nonce.
+    nonces: usize,
+}
+
+impl Shape {
+    /// The same for a rule.
+    fn without_marks(&self) -> Shape {
+        Shape {
+            marks: false,
+            atoms: self.atoms.clone(),
+            ..*self
+        }
+    }
+
+    fn variable(&self, random: &mut Random) -> Term {
+        let number = random.below(self.variables as usize) as u8;
+        match (self.marks && random.chance(40), random.chance(self.nonces)) {
+            (false, false) => Term::Plain(number),
+            (true, false) => Term::Marked(number),
+            (false, true) => Term::PlainNonce(number),
+            (true, true) => Term::MarkedNonce(number),
+        }
+    }
+}
+
+/// Few of the atoms, mostly a nonce among them.
+fn some_atoms(random: &mut Random, count: usize) -> Vec<u16> {
+    let mut all: Vec<u16> = (0..atoms().len() as u16).collect();
+    random.shuffle(&mut all);
+    all.truncate(count);
+    if random.chance(70) {
+        all[0] = *random.pick(&NONCES);
+    }
+    all
+}
+
+/// Often none.
+fn share_of_nonces(random: &mut Random) -> usize {
+    *random.pick(&[0, 0, 20, 40, 70])
 }
 
 fn random_term(random: &mut Random, shape: &Shape, depth: usize) -> Term {
@@ -63,15 +129,8 @@ fn random_term(random: &mut Random, shape: &Shape, depth: usize) -> Term {
             let key = 2 + random.below(shape.keys) as u16;
             Term::encryption(random_term(random, shape, depth - 1), key)
         }
-        2 => Term::Atom(random.below(shape.atoms) as u16),
-        _ => {
-            let number = random.below(shape.variables as usize) as u8;
-            if shape.marks && random.chance(40) {
-                Term::Marked(number)
-            } else {
-                Term::Plain(number)
-            }
-        }
+        2 => Term::Atom(*random.pick(&shape.atoms)),
+        _ => shape.variable(random),
     }
 }
 
@@ -86,31 +145,29 @@ fn fitting_term(random: &mut Random, shape: &Shape) -> Term {
 }
 
 fn small_pair(random: &mut Random) -> (Term, Term) {
-    let mut shape = Shape {
+    let shape = Shape {
         depth: random.between(1, 4),
         variables: random.between(1, 3) as u8,
-        atoms: 2,
+        atoms: some_atoms(random, 2),
         keys: 1,
         marks: true,
+        nonces: share_of_nonces(random),
     };
     let pattern = fitting_term(random, &shape);
-    shape.marks = false;
-    (pattern, fitting_term(random, &shape))
+    (pattern, fitting_term(random, &shape.without_marks()))
 }
 
 /// The same spine on both sides, with other terms hung on it.
 fn deep_pair(random: &mut Random) -> (Term, Term) {
-    let shape = Shape {
+    let marked = Shape {
         depth: 3,
         variables: random.between(2, VARIABLES as usize) as u8,
-        atoms: 3,
+        atoms: some_atoms(random, 3),
         keys: 2,
-        marks: false,
-    };
-    let marked = Shape {
         marks: true,
-        ..shape
+        nonces: share_of_nonces(random) / 2,
     };
+    let shape = marked.without_marks();
     let mut left = random_term(random, &marked, 2);
     let mut right = random_term(random, &shape, 2);
     loop {
@@ -139,31 +196,43 @@ fn deep_pair(random: &mut Random) -> (Term, Term) {
 
 /// The term is the pattern with its variables replaced, at times changed.
 fn instance_pair(random: &mut Random) -> (Term, Term) {
-    let mut shape = Shape {
+    let marked = Shape {
         depth: random.between(2, 4),
         variables: random.between(1, 4) as u8,
-        atoms: 3,
+        atoms: some_atoms(random, 3),
         keys: 2,
         marks: true,
+        nonces: share_of_nonces(random),
     };
+    let shape = marked.without_marks();
     loop {
-        let pattern = fitting_term(random, &shape);
-        shape.marks = false;
+        let pattern = fitting_term(random, &marked);
         let by: Vec<(Term, Term)> = variables_of(&pattern)
             .into_iter()
-            .map(|v| (v, random_term(random, &shape, 2)))
+            .map(|variable| {
+                let body = body_of(random, &variable, &shape);
+                (variable, body)
+            })
             .collect();
-        shape.marks = true;
         let mut term = replace(&pattern, &by);
         if random.chance(40) {
-            shape.marks = false;
             let other = random_term(random, &shape, 1);
-            shape.marks = true;
             term = replace_at(&term, random.below(term.size()), &other);
         }
         if term.size() <= MOST_ENTRIES {
             return (pattern, term);
         }
+    }
+}
+
+/// A term to put for the variable; for one nonce mostly a nonce.
+fn body_of(random: &mut Random, variable: &Term, shape: &Shape) -> Term {
+    if !variable.is_nonce_variable() || random.chance(12) {
+        return random_term(random, shape, 2);
+    }
+    match random.chance(50) {
+        true => Term::Atom(*random.pick(&NONCES)),
+        false => Term::PlainNonce(random.below(shape.variables as usize) as u8),
     }
 }
 
@@ -185,12 +254,42 @@ fn chain_pair(random: &mut Random) -> (Term, Term) {
         1 | 2 => two_chains(random),
         _ => open_chain(random),
     };
+    if random.chance(50) {
+        tie_to_nonces(random, &mut equations);
+    }
     if random.chance(40) {
         random.shuffle(&mut equations);
     } else if random.chance(50) {
         equations.reverse();
     }
     spine(equations)
+}
+
+/// Some of the variables made equal to nonce variables of the other side, and
+/// these at times to atoms, before or behind the chain.
+fn tie_to_nonces(random: &mut Random, equations: &mut Equations) {
+    for _ in 0..random.between(1, 3) {
+        let (left, right) = random.pick(equations).clone();
+        let number = random.below(3) as u8;
+        let plain = Term::PlainNonce(number);
+        let either = match random.chance(50) {
+            true => Term::MarkedNonce(number),
+            false => plain.clone(),
+        };
+        let tie = match random.below(5) {
+            0 => (either, some_atom(random)),
+            1 => (either, plain),
+            2 => (last_variable(&left), plain),
+            _ => (either, last_variable(&right)),
+        };
+        let at = random.below(equations.len() + 1);
+        equations.insert(at, tie);
+    }
+}
+
+/// The last variable of the term, or the first one of all if it has none.
+fn last_variable(term: &Term) -> Term {
+    variables_of(term).pop().unwrap_or(Term::Plain(0))
 }
 
 fn open_chain(random: &mut Random) -> Equations {
@@ -232,7 +331,7 @@ fn two_chains(random: &mut Random) -> Equations {
 }
 
 fn some_atom(random: &mut Random) -> Term {
-    Term::Atom(random.below(2) as u16)
+    Term::Atom(*random.pick(&[0, 4, NONCES[0], NONCES[0], NONCES[1]]))
 }
 
 /// Links that change sides at every step. `from` picks the variables: 0 up for

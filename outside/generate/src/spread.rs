@@ -46,7 +46,7 @@ fn moved(term: &Term, to: &impl Fn(u16) -> u16) -> Term {
         Term::Atom(number) => Term::Atom(to(*number)),
         Term::Pair(left, right) => Term::pair(moved(left, to), moved(right, to)),
         Term::Encryption(message, key) => Term::encryption(moved(message, to), to(*key)),
-        Term::Plain(_) | Term::Marked(_) => term.clone(),
+        _ => term.clone(),
     }
 }
 

@@ -2,13 +2,14 @@
 //! where these stand.
 
 mod common;
+mod judged;
 
-use common::all_rules_pass;
 use generate::certificate::{replace, variables_of};
+use judged::judged;
 use literal::hats::{closings, is_listed, is_risky, sure_hats, Closing, Exception, SureHat};
-use literal::read::{read, Certificate, Rule};
+use literal::read::{Certificate, Rule};
 use literal::term::{at_or_above, places, strictly_above, Place};
-use literal::{Term, Verdict};
+use literal::Term;
 
 const FILES: u64 = 100_000;
 
@@ -38,9 +39,10 @@ struct Uses {
     several: u64,
 }
 
+/// Of either sort.
 fn marked_variables(pattern: &Term) -> Vec<Term> {
     let mut variables = variables_of(pattern);
-    variables.retain(|variable| matches!(variable, Term::Marked(_)));
+    variables.retain(Term::is_mark);
     variables
 }
 
@@ -55,6 +57,7 @@ fn with_plain_bads(certificate: &Certificate) -> Certificate {
     for bad in &mut changed.bads {
         let plain = |variable: Term| match variable {
             Term::Marked(number) => (variable, Term::Plain(number + 100)),
+            Term::MarkedNonce(number) => (variable, Term::PlainNonce(number + 100)),
             _ => unreachable!("only marked ones"),
         };
         let by: Vec<_> = marked_variables(&bad.term).into_iter().map(plain).collect();
@@ -206,14 +209,9 @@ fn files_rest_on_marks_of_bad_patterns() {
     let mut uses = Uses::default();
     let mut with_bads = 0;
     for seed in 0..FILES {
-        let file = generate::file(seed);
-        let verdict = literal::verdict(&file);
-        let accepted = matches!(verdict, Verdict::Accepted(_));
-        if !accepted && !matches!(verdict, Verdict::Refused(r) if r.number == 12) {
+        let Some((certificate, accepted)) = judged(seed) else {
             continue;
-        }
-        let certificate = read(&file).expect("judged to the end");
-        assert_eq!(accepted, all_rules_pass(&certificate));
+        };
         with_bads += u64::from(!certificate.bads.is_empty());
         if has_marked_bad(&certificate) {
             uses.add(&certificate, accepted);

@@ -54,7 +54,7 @@ fn numbers(term: &Term, found: &mut Vec<u16>) {
             found.push(*key);
             numbers(message, found);
         }
-        Term::Plain(_) | Term::Marked(_) => {}
+        _ => {}
     }
 }
 

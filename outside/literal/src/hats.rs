@@ -1,6 +1,6 @@
 //! Hats and cover, definition by definition.
 
-use crate::read::{Certificate, Listed, Rule};
+use crate::read::{Atom, Certificate, Listed, Rule};
 use crate::share::shares;
 #[cfg(test)]
 use crate::slip::{self, Slip};
@@ -12,15 +12,15 @@ pub fn is_listed(term: &Term, list: &[Listed]) -> bool {
 }
 
 /// Whether the term shares an instance with one of the listed ones.
-pub fn shares_with_some(term: &Term, list: &[Listed]) -> bool {
-    list.iter().any(|listed| shares(&listed.term, term))
+pub fn shares_with_some(atoms: &[Atom], term: &Term, list: &[Listed]) -> bool {
+    list.iter().any(|listed| shares(atoms, &listed.term, term))
 }
 
 /// Whether the term is one of the listed patterns with its variables replaced
 /// by terms.
 #[cfg(test)]
-fn matches_some(term: &Term, list: &[Listed]) -> bool {
-    list.iter().any(|listed| matches(&listed.term, term))
+fn matches_some(atoms: &[Atom], term: &Term, list: &[Listed]) -> bool {
+    list.iter().any(|listed| matches(atoms, &listed.term, term))
 }
 
 /// What a bad pattern that meets a subterm takes from its hat: all of it, or
@@ -78,7 +78,7 @@ pub fn sure_hats(certificate: &Certificate, conclusion: &Term) -> Vec<SureHat> {
     let mut hats = Vec::new();
     for place in places(conclusion) {
         for good in &certificate.goods {
-            if matches(&good.term, place.subterm) {
+            if matches(&certificate.atoms, &good.term, place.subterm) {
                 hats.push(SureHat {
                     path: place.path.clone(),
                     marks: marks_below(&place.path, &good.term),
@@ -94,6 +94,10 @@ pub fn sure_hats(certificate: &Certificate, conclusion: &Term) -> Vec<SureHat> {
 
 /// The places of the pattern's marks when its root stands at `path`.
 pub(crate) fn marks_below(path: &Path, pattern: &Term) -> Vec<Path> {
+    #[cfg(test)]
+    if slip::is(Slip::MarkedNonceNoMark) {
+        return slip::nonces::marks_but_nonces(path, pattern);
+    }
     let marks = marks(pattern);
     marks.iter().map(|mark| joined(path, mark)).collect()
 }
@@ -104,20 +108,19 @@ fn exceptions_by_sharing(certificate: &Certificate, place: &Place) -> Vec<Except
     if let Some(other) = slip::bads::of_hat(certificate, place) {
         return other;
     }
-    exceptions(&certificate.bads, place, shares)
+    exceptions(certificate, place, shares)
 }
 
 /// By those of the bad patterns that meet the subterm at this place.
-fn exceptions(
-    bads: &[Listed],
-    place: &Place,
-    meets: impl Fn(&Term, &Term) -> bool,
-) -> Vec<Exception> {
-    bads.iter()
-        .filter(|bad| meets(&bad.term, place.subterm))
+fn exceptions(certificate: &Certificate, place: &Place, meets: Meets) -> Vec<Exception> {
+    let bads = certificate.bads.iter();
+    bads.filter(|bad| meets(&certificate.atoms, &bad.term, place.subterm))
         .map(|bad| Exception::of(&place.path, bad))
         .collect()
 }
+
+/// Sharing or matching: over these atoms, the pattern and the subterm.
+pub(crate) type Meets = fn(&[Atom], &Term, &Term) -> bool;
 
 /// Sure hat for a place: one strictly above the place, a mark of it at or
 /// above the place, and no bad pattern that may expose the place.
@@ -181,9 +184,9 @@ pub fn closings(certificate: &Certificate, premise: &Term) -> Vec<Closing> {
 fn is_closing(certificate: &Certificate, place: &Place) -> bool {
     #[cfg(test)]
     if slip::is(Slip::GoodAsInstanceForOpen) {
-        return matches_some(place.subterm, &certificate.goods);
+        return matches_some(&certificate.atoms, place.subterm, &certificate.goods);
     }
-    shares_with_some(place.subterm, &certificate.goods)
+    shares_with_some(&certificate.atoms, place.subterm, &certificate.goods)
 }
 
 /// What the bad patterns let through at this place.
@@ -192,7 +195,7 @@ fn exceptions_by_matching(certificate: &Certificate, place: &Place) -> Vec<Excep
     if let Some(other) = slip::bads::of_open(certificate, place) {
         return other;
     }
-    exceptions(&certificate.bads, place, matches)
+    exceptions(certificate, place, matches)
 }
 
 /// Open place of a premise: every encryption strictly above it either shares
@@ -229,7 +232,12 @@ pub fn is_risky(certificate: &Certificate, place: &Place) -> bool {
     if slip::is(Slip::VariableNotRisky) && place.subterm.is_variable() {
         return false;
     }
-    place.subterm.is_variable() || shares_with_some(place.subterm, &certificate.secrets)
+    #[cfg(test)]
+    if let Some(answer) = slip::nonces::is_risky_otherwise(certificate, place) {
+        return answer;
+    }
+    place.subterm.is_variable()
+        || shares_with_some(&certificate.atoms, place.subterm, &certificate.secrets)
 }
 
 /// Covered: there is a sure hat for the place, or the same subterm, symbol for
@@ -238,6 +246,10 @@ pub fn is_covered(hats: &[SureHat], open: &[&Term], place: &Place) -> bool {
     #[cfg(test)]
     if slip::is(Slip::PremiseNotRead) {
         return has_sure_hat(hats, place);
+    }
+    #[cfg(test)]
+    if slip::nonces::is_shown_otherwise(open, place.subterm) {
+        return true;
     }
     has_sure_hat(hats, place) || open.contains(&place.subterm)
 }
@@ -252,7 +264,7 @@ pub fn is_dead(certificate: &Certificate, open: &[&Term]) -> bool {
     if slip::is(Slip::DeadBySharing) {
         return open
             .iter()
-            .any(|term| shares_with_some(term, &certificate.secrets));
+            .any(|term| shares_with_some(&certificate.atoms, term, &certificate.secrets));
     }
     open.iter()
         .any(|term| is_listed(term, &certificate.secrets))

@@ -1,6 +1,7 @@
 //! The pairing certificate checker, written from the document's words.
 //! Plain rather than fast: terms are trees, places are paths.
 
+pub mod atom;
 pub mod block;
 pub mod hats;
 pub mod judge;

@@ -19,7 +19,10 @@ pub const MOST_ATOM_BLOCKS: usize = 2;
 pub const MOST_ATOMS: usize = MOST_ATOM_BLOCKS * ENTRIES;
 /// The most entries of a term.
 pub const MOST_ENTRIES: usize = 63;
-/// Variables of either sort are numbered from 0 up to but not including this.
+/// Foreign atoms are numbered from this on. They are in no file, and all are
+/// nonces.
+pub const FIRST_FOREIGN: u16 = 1_000;
+/// Variables of each sort are numbered from 0 up to but not including this.
 pub const VARIABLES: u8 = 8;
 
 /// Kinds of blocks.
@@ -47,4 +50,6 @@ pub mod tag {
     pub const ENCRYPTION: u8 = 3;
     pub const PLAIN: u8 = 4;
     pub const MARKED: u8 = 5;
+    pub const PLAIN_NONCE: u8 = 6;
+    pub const MARKED_NONCE: u8 = 7;
 }

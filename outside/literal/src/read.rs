@@ -1,6 +1,7 @@
 //! Reading a file into a certificate: the numbers 1 to 8, in the document's
 //! order.
 
+pub use crate::atom::Atom;
 use crate::block::{self, Entry};
 use crate::numbers::{atom_kind, kind, tag};
 use crate::numbers::{BLOCK, CHECKED, ENTRIES, MOST_ATOM_BLOCKS, MOST_BYTES};
@@ -9,23 +10,6 @@ use crate::numbers::{MOST_ENTRIES, VARIABLES};
 use crate::slip::{self, Slip};
 use crate::term::{term_of, Term};
 use crate::verdict::Refusal;
-
-/// An atom entry: kind, known, partner.
-#[derive(Clone, Copy, Debug, PartialEq, Eq)]
-pub struct Atom {
-    pub kind: u8,
-    pub known: u8,
-    pub partner: u16,
-}
-
-impl Atom {
-    pub fn is_key(&self) -> bool {
-        matches!(
-            self.kind,
-            atom_kind::PUBLIC | atom_kind::PRIVATE | atom_kind::SYMMETRIC
-        )
-    }
-}
 
 /// A secret or a pattern, and its block.
 #[derive(Clone, Debug)]
@@ -308,6 +292,10 @@ fn entries_right(
 
 /// Tag, zero byte and value, and whether a variable may stand here.
 fn entry_right(atoms: &[Atom], kind: u8, entry: &Entry) -> bool {
+    #[cfg(test)]
+    if let Some(answer) = slip::nonces::entry_right_otherwise(kind, entry) {
+        return answer;
+    }
     let atom = atoms.get(entry.value as usize);
     #[cfg(test)]
     let atom = slip::atom_reached(atom, entry.value);
@@ -320,8 +308,8 @@ fn entry_right(atoms: &[Atom], kind: u8, entry: &Entry) -> bool {
         tag::MARKED if slip::is(Slip::MarkRefusedInBad) => is_variable && kind == kind::GOOD,
         tag::PAIR => entry.value == 0,
         tag::ENCRYPTION => atom.is_some_and(Atom::is_key),
-        tag::PLAIN => is_variable && kind != kind::SECRET,
-        tag::MARKED => is_variable && matches!(kind, kind::GOOD | kind::BAD),
+        tag::PLAIN | tag::PLAIN_NONCE => is_variable && kind != kind::SECRET,
+        tag::MARKED | tag::MARKED_NONCE => is_variable && matches!(kind, kind::GOOD | kind::BAD),
         _ => false,
     };
     entry.second == 0 && tag_and_value_right

@@ -1,16 +1,25 @@
 //! Whether two terms share an instance: unification on a shared graph, the
 //! variables of the two sides kept apart, and no variable inside itself.
 
+use crate::atom::{is_nonce, Atom};
 #[cfg(test)]
 use crate::slip::{self, Slip};
 use crate::term::Term;
 
 /// Whether some finite message is an instance of both terms. The variables of
-/// the two are different variables, and so are a plain and a marked one.
-pub fn shares(left: &Term, right: &Term) -> bool {
-    let mut graph = Graph::default();
+/// the two are different variables, and so are those of two tags.
+pub fn shares(atoms: &[Atom], left: &Term, right: &Term) -> bool {
+    let mut graph = Graph {
+        atoms,
+        nodes: Vec::new(),
+        variables: Vec::new(),
+    };
     let l = graph.add(Side::Left, left);
     let r = graph.add(Side::Right, right);
+    #[cfg(test)]
+    if slip::nonces::lacks_a_nonce(atoms) {
+        return graph.unite(l, r) && graph.is_finite(l) && !graph.has_free_nonce();
+    }
     graph.unite(l, r) && graph.is_finite(l)
 }
 
@@ -21,8 +30,9 @@ enum Side {
 }
 
 #[derive(Clone, Copy, PartialEq, Eq)]
-enum Symbol {
+pub(crate) enum Symbol {
     Variable,
+    NonceVariable,
     Atom(u16),
     Pair,
     Encryption(u16),
@@ -43,16 +53,19 @@ enum Seen {
 }
 
 /// One node for each variable of a side, one for each other place.
-#[derive(Default)]
-struct Graph {
+struct Graph<'a> {
+    atoms: &'a [Atom],
     nodes: Vec<Node>,
     variables: Vec<(Side, Term, usize)>,
 }
 
-impl Graph {
+impl Graph<'_> {
     fn add(&mut self, side: Side, term: &Term) -> usize {
         match term {
-            Term::Plain(_) | Term::Marked(_) => self.variable(side, term),
+            Term::Plain(_) | Term::Marked(_) => self.variable(side, term, Symbol::Variable),
+            Term::PlainNonce(_) | Term::MarkedNonce(_) => {
+                self.variable(side, term, Symbol::NonceVariable)
+            }
             Term::Atom(number) => self.node(Symbol::Atom(*number), vec![]),
             Term::Pair(left, right) => {
                 let children = vec![self.add(side, left), self.add(side, right)];
@@ -65,7 +78,9 @@ impl Graph {
         }
     }
 
-    fn variable(&mut self, side: Side, term: &Term) -> usize {
+    fn variable(&mut self, side: Side, term: &Term, symbol: Symbol) -> usize {
+        #[cfg(test)]
+        let term = &slip::nonces::variable_read(term);
         #[cfg(test)]
         let side = if slip::is(Slip::VariablesNotApart) {
             Side::Left
@@ -76,7 +91,7 @@ impl Graph {
         if let Some((_, _, node)) = known {
             return *node;
         }
-        let node = self.node(Symbol::Variable, vec![]);
+        let node = self.node(symbol, vec![]);
         self.variables.push((side, term.clone(), node));
         node
     }
@@ -92,7 +107,8 @@ impl Graph {
     }
 
     /// The node that stands for all that `node` was united with. If any of
-    /// those is no variable, it is none either.
+    /// those is no variable, it is none either; if any is a nonce variable, it
+    /// is a nonce variable or a nonce.
     fn leader(&self, node: usize) -> usize {
         let mut at = node;
         while self.nodes[at].leader != at {
@@ -108,21 +124,50 @@ impl Graph {
         if one == other {
             return true;
         }
-        if self.nodes[one].symbol == Symbol::Variable {
+        let (mine, theirs) = (self.nodes[one].symbol, self.nodes[other].symbol);
+        if self.follows(mine, theirs) {
             self.nodes[one].leader = other;
             return true;
         }
-        if self.nodes[other].symbol == Symbol::Variable {
+        if self.follows(theirs, mine) {
             self.nodes[other].leader = one;
             return true;
         }
-        if self.nodes[one].symbol != self.nodes[other].symbol {
+        #[cfg(test)]
+        if slip::nonces::clash_otherwise(mine, theirs) {
+            return false;
+        }
+        if mine != theirs {
             return false;
         }
         self.nodes[one].leader = other;
         let mine = self.nodes[one].children.clone();
         let theirs = self.nodes[other].children.clone();
         mine.iter().zip(&theirs).all(|(a, b)| self.unite(*a, *b))
+    }
+
+    /// Whether the first is a variable that takes what the second stands for: a
+    /// variable anything, a nonce variable one nonce.
+    fn follows(&self, variable: Symbol, other: Symbol) -> bool {
+        #[cfg(test)]
+        if let Some(answer) = slip::nonces::follows_otherwise(self.atoms, variable, other) {
+            return answer;
+        }
+        match (variable, other) {
+            (Symbol::Variable, _) => true,
+            (Symbol::NonceVariable, Symbol::NonceVariable) => true,
+            (Symbol::NonceVariable, Symbol::Atom(number)) => is_nonce(self.atoms, number),
+            _ => false,
+        }
+    }
+
+    /// Whether some nonce variable was united with variables only.
+    #[cfg(test)]
+    fn has_free_nonce(&self) -> bool {
+        let leaders = (0..self.nodes.len()).map(|node| self.leader(node));
+        leaders
+            .into_iter()
+            .any(|node| self.nodes[node].symbol == Symbol::NonceVariable)
     }
 
     /// Whether no node below `node` contains itself.

@@ -10,6 +10,7 @@ use crate::verdict::Refusal;
 use std::cell::Cell;
 
 pub mod bads;
+pub mod nonces;
 
 #[derive(Clone, Copy, Debug, PartialEq, Eq)]
 pub enum Slip {
@@ -50,6 +51,36 @@ pub enum Slip {
     MarkBelowCountedForOpen,
     BadMarkCovers,
     RootKeyOfBadAsked,
+    // Nonce variables.
+    NonceMatchesPrincipal,
+    NonceMatchesKey,
+    NonceMatchesPair,
+    NonceMatchesEncryption,
+    NonceMatchesVariable,
+    NonceVariableNotMatched,
+    ListedNonceNotMatched,
+    KnownNonceOnlyMatched,
+    NonceSharesPrincipal,
+    NonceSharesKey,
+    NonceSharesPair,
+    NonceSharesEncryption,
+    NonceVariablesNotShared,
+    ListedNonceNotShared,
+    KnownNonceOnlyShared,
+    ListedNoncesOnly,
+    RangeForgotten,
+    NonceAsPlain,
+    MarkedNonceAsMarked,
+    MarkedNonceAsNonce,
+    MarkedNonceNoMark,
+    MarkedNonceNoMarkInBad,
+    NonceVariableNotRisky,
+    NonceVariableRiskyBySharing,
+    ShownByItsNumber,
+    NonceInSecret,
+    MarkedNonceInRule,
+    MarkedNonceRefusedInBad,
+    NonceValuesToFifteen,
     // Places and rules.
     KeysAsPlaces,
     VariableAtFirstOccurrenceOnly,
@@ -120,7 +151,7 @@ pub fn add_key_place(path: &Path, entry: usize, key: u16, found: &mut Vec<Place<
 pub fn variable_read(variable: &Term) -> Term {
     match variable {
         Term::Marked(number) if is(Slip::MarkedAsPlain) => Term::Plain(*number),
-        _ => variable.clone(),
+        _ => nonces::variable_read(variable),
     }
 }
 
@@ -299,7 +330,7 @@ pub fn atom_reached(atom: Option<&Atom>, number: u16) -> Option<&Atom> {
     atom.filter(|_| kept)
 }
 
-const ALL: [Slip; 66] = [
+const ALL: [Slip; 95] = [
     Slip::BadAsInstanceForHat,
     Slip::MarkNotAsked,
     Slip::MarkStrictlyAbove,
@@ -333,6 +364,35 @@ const ALL: [Slip; 66] = [
     Slip::MarkBelowCountedForOpen,
     Slip::BadMarkCovers,
     Slip::RootKeyOfBadAsked,
+    Slip::NonceMatchesPrincipal,
+    Slip::NonceMatchesKey,
+    Slip::NonceMatchesPair,
+    Slip::NonceMatchesEncryption,
+    Slip::NonceMatchesVariable,
+    Slip::NonceVariableNotMatched,
+    Slip::ListedNonceNotMatched,
+    Slip::KnownNonceOnlyMatched,
+    Slip::NonceSharesPrincipal,
+    Slip::NonceSharesKey,
+    Slip::NonceSharesPair,
+    Slip::NonceSharesEncryption,
+    Slip::NonceVariablesNotShared,
+    Slip::ListedNonceNotShared,
+    Slip::KnownNonceOnlyShared,
+    Slip::ListedNoncesOnly,
+    Slip::RangeForgotten,
+    Slip::NonceAsPlain,
+    Slip::MarkedNonceAsMarked,
+    Slip::MarkedNonceAsNonce,
+    Slip::MarkedNonceNoMark,
+    Slip::MarkedNonceNoMarkInBad,
+    Slip::NonceVariableNotRisky,
+    Slip::NonceVariableRiskyBySharing,
+    Slip::ShownByItsNumber,
+    Slip::NonceInSecret,
+    Slip::MarkedNonceInRule,
+    Slip::MarkedNonceRefusedInBad,
+    Slip::NonceValuesToFifteen,
     Slip::KeysAsPlaces,
     Slip::VariableAtFirstOccurrenceOnly,
     Slip::VariableNotRisky,

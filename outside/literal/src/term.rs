@@ -1,5 +1,6 @@
 //! Terms, their entries, their places, and matching.
 
+use crate::atom::{is_nonce, Atom};
 use crate::block::Entry;
 use crate::numbers::{tag, ENTRY, VARIABLES};
 #[cfg(test)]
@@ -13,6 +14,9 @@ pub enum Term {
     Encryption(Box<Term>, u16),
     Plain(u8),
     Marked(u8),
+    /// Variables for one nonce.
+    PlainNonce(u8),
+    MarkedNonce(u8),
 }
 
 impl Term {
@@ -25,7 +29,16 @@ impl Term {
     }
 
     pub fn is_variable(&self) -> bool {
-        matches!(self, Term::Plain(_) | Term::Marked(_))
+        matches!(self, Term::Plain(_) | Term::Marked(_)) || self.is_nonce_variable()
+    }
+
+    pub fn is_nonce_variable(&self) -> bool {
+        matches!(self, Term::PlainNonce(_) | Term::MarkedNonce(_))
+    }
+
+    /// A marked variable of either sort.
+    pub fn is_mark(&self) -> bool {
+        matches!(self, Term::Marked(_) | Term::MarkedNonce(_))
     }
 
     pub fn is_encryption(&self) -> bool {
@@ -54,6 +67,8 @@ pub fn encode(term: &Term) -> Vec<u8> {
         }
         Term::Plain(number) => entry_bytes(tag::PLAIN, *number as u16),
         Term::Marked(number) => entry_bytes(tag::MARKED, *number as u16),
+        Term::PlainNonce(number) => entry_bytes(tag::PLAIN_NONCE, *number as u16),
+        Term::MarkedNonce(number) => entry_bytes(tag::MARKED_NONCE, *number as u16),
     }
 }
 
@@ -80,7 +95,7 @@ fn readable(entry: &Entry) -> bool {
         && match entry.first {
             tag::ATOM | tag::ENCRYPTION => true,
             tag::PAIR => entry.value == 0,
-            tag::PLAIN | tag::MARKED => entry.value < VARIABLES as u16,
+            tag::PLAIN..=tag::MARKED_NONCE => entry.value < VARIABLES as u16,
             _ => false,
         }
 }
@@ -107,6 +122,8 @@ fn first_term(entries: &[Entry]) -> Option<(Term, &[Entry])> {
         }
         tag::PLAIN => Some((Term::Plain(entry.value as u8), rest)),
         tag::MARKED => Some((Term::Marked(entry.value as u8), rest)),
+        tag::PLAIN_NONCE => Some((Term::PlainNonce(entry.value as u8), rest)),
+        tag::MARKED_NONCE => Some((Term::MarkedNonce(entry.value as u8), rest)),
         _ => None,
     }
 }
@@ -156,7 +173,7 @@ fn add_places<'a>(subterm: &'a Term, path: Path, entry: usize, found: &mut Vec<P
 pub fn marks(pattern: &Term) -> Vec<Path> {
     places(pattern)
         .into_iter()
-        .filter(|place| matches!(place.subterm, Term::Marked(_)))
+        .filter(|place| place.subterm.is_mark())
         .map(|place| place.path)
         .collect()
 }
@@ -182,38 +199,62 @@ pub fn strictly_above(upper: &[u8], lower: &[u8]) -> bool {
 
 /// Whether the term is the pattern with its variables replaced by terms, each
 /// by the same one at all its occurrences. The term's own variables stay.
-pub fn matches(pattern: &Term, term: &Term) -> bool {
-    matches_with(pattern, term, &mut Vec::new())
+pub fn matches(atoms: &[Atom], pattern: &Term, term: &Term) -> bool {
+    let mut matching = Matching {
+        atoms,
+        replaced: Vec::new(),
+    };
+    matching.goes_on(pattern, term)
 }
 
-/// The replacement so far: pattern variable, term put there.
-type Replacement<'a> = Vec<(Term, &'a Term)>;
+/// What the pattern's variables are replaced by so far.
+struct Matching<'a> {
+    atoms: &'a [Atom],
+    replaced: Vec<(Term, &'a Term)>,
+}
 
-fn matches_with<'a>(pattern: &Term, term: &'a Term, so_far: &mut Replacement<'a>) -> bool {
-    match (pattern, term) {
-        (Term::Plain(_) | Term::Marked(_), _) => put(pattern, term, so_far),
-        (Term::Atom(a), Term::Atom(b)) => a == b,
-        (Term::Pair(l, r), Term::Pair(l2, r2)) => {
-            matches_with(l, l2, so_far) && matches_with(r, r2, so_far)
+impl<'a> Matching<'a> {
+    fn goes_on(&mut self, pattern: &Term, term: &'a Term) -> bool {
+        match (pattern, term) {
+            (variable, _) if variable.is_variable() => {
+                self.may_replace(variable, term) && self.put(variable, term)
+            }
+            (Term::Atom(a), Term::Atom(b)) => a == b,
+            (Term::Pair(l, r), Term::Pair(l2, r2)) => self.goes_on(l, l2) && self.goes_on(r, r2),
+            (Term::Encryption(m, k), Term::Encryption(m2, k2)) => k == k2 && self.goes_on(m, m2),
+            _ => false,
         }
-        (Term::Encryption(m, k), Term::Encryption(m2, k2)) => {
-            k == k2 && matches_with(m, m2, so_far)
+    }
+
+    /// At a nonce variable a nonce atom or a nonce variable, elsewhere anything.
+    fn may_replace(&self, variable: &Term, term: &Term) -> bool {
+        #[cfg(test)]
+        if let Some(answer) = slip::nonces::replaces_otherwise(self.atoms, variable, term) {
+            return answer;
         }
-        _ => false,
+        !variable.is_nonce_variable() || is_one_nonce(self.atoms, term)
+    }
+
+    /// Puts the term for the variable, or sees that it is there already.
+    fn put(&mut self, variable: &Term, term: &'a Term) -> bool {
+        #[cfg(test)]
+        let variable = &slip::variable_read(variable);
+        match self.replaced.iter().find(|(v, _)| v == variable) {
+            #[cfg(test)]
+            Some(_) if slip::is(Slip::RepeatedVariableFree) => true,
+            Some((_, there)) => *there == term,
+            None => {
+                self.replaced.push((variable.clone(), term));
+                true
+            }
+        }
     }
 }
 
-/// Puts the term for the variable, or sees that it is there already.
-fn put<'a>(variable: &Term, term: &'a Term, so_far: &mut Replacement<'a>) -> bool {
-    #[cfg(test)]
-    let variable = &slip::variable_read(variable);
-    match so_far.iter().find(|(v, _)| v == variable) {
-        #[cfg(test)]
-        Some(_) if slip::is(Slip::RepeatedVariableFree) => true,
-        Some((_, there)) => *there == term,
-        None => {
-            so_far.push((variable.clone(), term));
-            true
-        }
+/// Whether every instance of the term is one nonce.
+pub fn is_one_nonce(atoms: &[Atom], term: &Term) -> bool {
+    match term {
+        Term::Atom(number) => is_nonce(atoms, *number),
+        _ => term.is_nonce_variable(),
     }
 }

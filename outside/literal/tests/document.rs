@@ -130,8 +130,8 @@ fn cases_h_i_and_j() {
 fn cases_k_and_l() {
     let k = usual(Some(N), Term::Atom(3));
     assert_eq!(verdict(&k), accepted(5, 2, 1, 0, 1));
-    assert!(!shares(&two(X, X), &two(Y, two(T, Y))));
-    assert!(shares(&two(X, X), &two(Y, Y)));
+    assert!(!shares(&[], &two(X, X), &two(Y, two(T, Y))));
+    assert!(shares(&[], &two(X, X), &two(Y, Y)));
 }
 
 #[test]

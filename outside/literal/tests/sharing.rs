@@ -1,15 +1,26 @@
 //! Sharing against a naive unifier that carries a substitution, and matching
 //! against sharing with the term's variables frozen.
 
-use generate::pairs::{small_term_pair, term_pair};
-use literal::{decode, encode, matches, shares, Term};
+use generate::pairs::{atoms, small_term_pair, term_pair};
+use literal::term::is_one_nonce;
+use literal::{decode, encode, Term};
 use std::time::Instant;
 
-/// Plain variables of the right side get other numbers.
+fn shares(left: &Term, right: &Term) -> bool {
+    literal::shares(&atoms(), left, right)
+}
+
+fn matches(pattern: &Term, term: &Term) -> bool {
+    literal::matches(&atoms(), pattern, term)
+}
+
+/// Variables of the right side get other numbers.
 fn moved_apart(term: &Term) -> Term {
     match term {
         Term::Plain(n) => Term::Plain(n + 100),
         Term::Marked(n) => Term::Marked(n + 100),
+        Term::PlainNonce(n) => Term::PlainNonce(n + 100),
+        Term::MarkedNonce(n) => Term::MarkedNonce(n + 100),
         Term::Pair(l, r) => Term::pair(moved_apart(l), moved_apart(r)),
         Term::Encryption(m, k) => Term::encryption(moved_apart(m), *k),
         Term::Atom(_) => term.clone(),
@@ -56,11 +67,10 @@ fn naive_answer(left: &Term, right: &Term) -> Result<Option<Substitution>, ()> {
         }
         match (&l, &r) {
             _ if l == r => {}
-            (Term::Plain(_) | Term::Marked(_), _) | (_, Term::Plain(_) | Term::Marked(_)) => {
-                let (v, body) = if l.is_variable() { (&l, &r) } else { (&r, &l) };
-                if contains(body, v) {
+            _ if l.is_variable() || r.is_variable() => {
+                let Some((v, body)) = solved_for(&l, &r) else {
                     return Ok(None);
-                }
+                };
                 for (a, b) in &mut equations {
                     *a = replaced(a, v, body);
                     *b = replaced(b, v, body);
@@ -83,22 +93,47 @@ fn naive_answer(left: &Term, right: &Term) -> Result<Option<Substitution>, ()> {
     Ok(Some(solved))
 }
 
+/// Which of two different terms is a variable, and what it must be: any term
+/// without it, for a nonce variable a nonce atom or a nonce variable.
+fn solved_for<'a>(l: &'a Term, r: &'a Term) -> Option<(&'a Term, &'a Term)> {
+    let may_be = |variable: &Term, body: &Term| match variable {
+        Term::Plain(_) | Term::Marked(_) => !contains(body, variable),
+        Term::PlainNonce(_) | Term::MarkedNonce(_) => is_one_nonce(&atoms(), body),
+        _ => false,
+    };
+    [(l, r), (r, l)]
+        .into_iter()
+        .find(|(v, body)| may_be(v, body))
+}
+
 /// The message that a solution makes, a foreign atom for each variable left.
 fn message(term: &Term, solved: &Substitution) -> Term {
     let mut whole = term.clone();
     for (variable, body) in solved {
         whole = replaced(&whole, variable, body);
     }
-    frozen(&whole)
+    with_atoms(&whole, FOREIGN)
 }
 
-/// Each variable as a foreign atom of its own.
+/// Numbers that are no nonces', and foreign ones.
+const NO_NONCES: u16 = 300;
+const FOREIGN: u16 = 1_000;
+
+/// Each variable as an atom of its own, for one nonce a foreign one.
 fn frozen(term: &Term) -> Term {
+    with_atoms(term, NO_NONCES)
+}
+
+/// Each variable as an atom of its own: a nonce variable as a foreign one, the
+/// others from this number on.
+fn with_atoms(term: &Term, others: u16) -> Term {
     match term {
-        Term::Plain(n) => Term::Atom(1000 + *n as u16),
-        Term::Marked(n) => Term::Atom(2000 + *n as u16),
-        Term::Pair(l, r) => Term::pair(frozen(l), frozen(r)),
-        Term::Encryption(m, k) => Term::encryption(frozen(m), *k),
+        Term::Plain(n) => Term::Atom(others + *n as u16),
+        Term::Marked(n) => Term::Atom(others + 300 + *n as u16),
+        Term::PlainNonce(n) => Term::Atom(2_000 + *n as u16),
+        Term::MarkedNonce(n) => Term::Atom(3_000 + *n as u16),
+        Term::Pair(l, r) => Term::pair(with_atoms(l, others), with_atoms(r, others)),
+        Term::Encryption(m, k) => Term::encryption(with_atoms(m, others), *k),
         Term::Atom(_) => term.clone(),
     }
 }
@@ -188,5 +223,54 @@ fn terms_come_back_from_their_entries() {
             decode(&[pair.term.clone(), vec![4, 0, 0, 0]].concat()),
             None
         );
+    }
+}
+
+/// Nonce variables decide: many pairs share or match only if they are taken for
+/// ordinary ones, and many do so though they are not.
+#[test]
+fn nonce_variables_decide() {
+    let (mut with, mut shared, mut not_shared, mut matched, mut not_matched) = (0, 0, 0, 0, 0);
+    for seed in 0..20_000 {
+        let (pattern, term) = term_pair(seed);
+        let ordinary = (ordinary(&pattern), ordinary(&term));
+        if ordinary == (pattern.clone(), term.clone()) {
+            assert_eq!(
+                shares(&pattern, &term),
+                literal::shares(&[], &pattern, &term)
+            );
+            continue;
+        }
+        with += 1;
+        let answers = [shares(&pattern, &term), matches(&pattern, &term)];
+        let otherwise = [
+            shares(&ordinary.0, &ordinary.1),
+            matches(&ordinary.0, &ordinary.1),
+        ];
+        assert!(
+            answers.iter().zip(&otherwise).all(|(a, b)| !a || *b),
+            "seed {seed}"
+        );
+        shared += u32::from(answers[0]);
+        matched += u32::from(answers[1]);
+        not_shared += u32::from(otherwise[0] && !answers[0]);
+        not_matched += u32::from(otherwise[1] && !answers[1]);
+    }
+    println!(
+        "{with} pairs with nonce variables: {shared} share, {not_shared} not because of them; \
+         {matched} match, {not_matched} not because of them"
+    );
+    assert!(with > 5_000 && shared > 1_000 && not_shared > 500);
+    assert!(matched > 300 && not_matched > 300);
+}
+
+/// Every nonce variable as an ordinary one of a number of its own.
+fn ordinary(term: &Term) -> Term {
+    match term {
+        Term::PlainNonce(n) => Term::Plain(n + 8),
+        Term::MarkedNonce(n) => Term::Marked(n + 8),
+        Term::Pair(l, r) => Term::pair(ordinary(l), ordinary(r)),
+        Term::Encryption(m, k) => Term::encryption(ordinary(m), *k),
+        _ => term.clone(),
     }
 }

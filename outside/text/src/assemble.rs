@@ -231,8 +231,7 @@ impl Terms<'_> {
         }
         match self.next("a term")? {
             Token::Name(name) => Ok(Term::Atom(number_of(&name, self.names)?)),
-            Token::Plain(name) => Ok(Term::Plain(self.variables.plain.number(&name)?)),
-            Token::Marked(name) => Ok(Term::Marked(self.variables.marked.number(&name)?)),
+            Token::Variable(sort, name) => Ok(sort.variable(self.variables.number(sort, &name)?)),
             Token::Sign('(') => {
                 let left = self.term(depth + 1)?;
                 self.expect(Token::Sign(','))?;

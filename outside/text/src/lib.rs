@@ -5,6 +5,7 @@ pub mod document;
 pub mod level;
 mod names;
 mod print;
+pub mod sorts;
 mod tokens;
 
 pub use assemble::{assemble, Error};

@@ -1,5 +1,6 @@
 //! Which number a variable's name stands for.
 
+use crate::sorts::{Sort, SORTS};
 use crate::tokens::Token;
 use literal::numbers::VARIABLES;
 
@@ -49,25 +50,27 @@ fn digit(name: &str) -> Option<u8> {
     }
 }
 
-/// The plain and the marked variables of one block.
+/// The variables of one block, each sort apart.
 pub struct BlockVariables {
-    pub plain: Variables,
-    pub marked: Variables,
+    by_sort: [Variables; SORTS.len()],
 }
 
 impl BlockVariables {
     pub fn of(tokens: &[Token]) -> BlockVariables {
-        let plain = tokens.iter().filter_map(|t| match t {
-            Token::Plain(name) => Some(name),
-            _ => None,
-        });
-        let marked = tokens.iter().filter_map(|t| match t {
-            Token::Marked(name) => Some(name),
-            _ => None,
-        });
+        let of_sort = |wanted: Sort| {
+            let names = tokens.iter().filter_map(move |token| match token {
+                Token::Variable(sort, name) if *sort == wanted => Some(name),
+                _ => None,
+            });
+            Variables::with_digits(names)
+        };
         BlockVariables {
-            plain: Variables::with_digits(plain),
-            marked: Variables::with_digits(marked),
+            by_sort: SORTS.map(of_sort),
         }
+    }
+
+    /// The number that the name stands for among those of its sort.
+    pub fn number(&mut self, sort: Sort, name: &str) -> Result<u8, String> {
+        self.by_sort[sort as usize].number(name)
     }
 }

@@ -1,6 +1,7 @@
 //! Bytes to text, as far as they can be read. What cannot be read is told in
 //! notes, which are comments.
 
+use crate::sorts;
 use literal::block::{self, Entry};
 use literal::numbers::{atom_kind, kind, tag, BLOCK, ENTRIES, ENTRY, VARIABLES};
 use literal::numbers::{MOST_ATOM_BLOCKS, MOST_BLOCKS, MOST_BYTES, MOST_ENTRIES};
@@ -287,8 +288,7 @@ impl Printer {
             Term::Encryption(message, key) => {
                 format!("{{{}}}{}", self.shown(message), self.name(*key as usize))
             }
-            Term::Plain(number) => format!("?{number}"),
-            Term::Marked(number) => format!("*{number}"),
+            variable => sorts::shown(variable).expect("all other terms are variables"),
         }
     }
 
@@ -306,12 +306,14 @@ impl Printer {
             }
             (tag::PAIR, _) if value == 0 => Ok("pair".to_string()),
             (tag::PAIR, _) => Err(format!("a pair with value {value}")),
-            (tag::PLAIN | tag::MARKED, _) if value >= VARIABLES as u16 => {
+            (tag::PLAIN..=tag::MARKED_NONCE, _) if value >= VARIABLES as u16 => {
                 Err(format!("a variable with number {value}"))
             }
             (tag::PLAIN, _) => Ok(format!("plain variable {value}")),
             (tag::MARKED, _) => Ok(format!("marked variable {value}")),
-            (tag, _) => Err(format!("tag {tag} is none of 1 to 5")),
+            (tag::PLAIN_NONCE, _) => Ok(format!("plain nonce variable {value}")),
+            (tag::MARKED_NONCE, _) => Ok(format!("marked nonce variable {value}")),
+            (tag, _) => Err(format!("tag {tag} is none of 1 to 7")),
         }
     }
 
@@ -332,8 +334,10 @@ impl Printer {
             let entry = block::entry(block, i);
             let words = match entry.first {
                 tag::ENCRYPTION if !self.is_key(entry.value) => "is no key",
-                tag::PLAIN | tag::MARKED if kind == kind::SECRET => "a variable in a secret",
-                tag::MARKED if kind == kind::RULE => "a marked variable in a rule",
+                tag::PLAIN..=tag::MARKED_NONCE if kind == kind::SECRET => "a variable in a secret",
+                tag::MARKED | tag::MARKED_NONCE if kind == kind::RULE => {
+                    "a marked variable in a rule"
+                }
                 _ => continue,
             };
             self.note(number, &format!("entry {i}: {words}"));

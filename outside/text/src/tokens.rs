@@ -1,13 +1,15 @@
 //! The words of one line.
 
+use crate::sorts::Sort;
+
 #[derive(Clone, Debug, PartialEq, Eq)]
 pub enum Token {
     /// One of ( ) { } ,
     Sign(char),
     Arrow,
     Name(String),
-    Plain(String),
-    Marked(String),
+    /// A variable and its name.
+    Variable(Sort, String),
 }
 
 impl Token {
@@ -17,8 +19,7 @@ impl Token {
             Token::Sign(sign) => format!("`{sign}`"),
             Token::Arrow => "`->`".to_string(),
             Token::Name(name) => format!("`{name}`"),
-            Token::Plain(name) => format!("`?{name}`"),
-            Token::Marked(name) => format!("`*{name}`"),
+            Token::Variable(sort, name) => format!("`{}{name}`", sort.sign()),
         }
     }
 }
@@ -41,22 +42,7 @@ fn first_token(sign: char, rest: &str) -> Result<(Token, usize), String> {
     match sign {
         '(' | ')' | '{' | '}' | ',' => Ok((Token::Sign(sign), 1)),
         '-' if rest.starts_with("->") => Ok((Token::Arrow, 2)),
-        '?' | '*' => {
-            let name = name_at(&rest[1..]);
-            if name.is_empty() {
-                return Err(format!("`{sign}` needs a variable's name"));
-            }
-            let length = 1 + name.len();
-            if rest[length..].starts_with('!') {
-                return Err("nonce variables (with `!`) are not in the base".to_string());
-            }
-            let token = if sign == '?' {
-                Token::Plain
-            } else {
-                Token::Marked
-            };
-            Ok((token(name.to_string()), length))
-        }
+        '?' | '*' => variable(sign, rest),
         '<' | '>' => Err("flat tuples (`<` and `>`) are not in the base".to_string()),
         _ => {
             let name = name_at(rest);
@@ -70,6 +56,27 @@ fn first_token(sign: char, rest: &str) -> Result<(Token, usize), String> {
             Ok((Token::Name(name.to_string()), name.len()))
         }
     }
+}
+
+/// The variable at the front and how many bytes it takes.
+fn variable(sign: char, rest: &str) -> Result<(Token, usize), String> {
+    let is_nonce = name_at(&rest[1..]) == "n" && rest[2..].starts_with('!');
+    let sort = match (sign, is_nonce) {
+        ('?', false) => Sort::Plain,
+        ('?', true) => Sort::PlainNonce,
+        (_, false) => Sort::Marked,
+        (_, true) => Sort::MarkedNonce,
+    };
+    let sign = sort.sign();
+    let name = name_at(&rest[sign.len()..]);
+    if name.is_empty() {
+        return Err(format!("`{sign}` needs a variable's name"));
+    }
+    let length = sign.len() + name.len();
+    if rest[length..].starts_with('!') {
+        return Err(format!("`!` cannot stand after `{sign}{name}`"));
+    }
+    Ok((Token::Variable(sort, name.to_string()), length))
 }
 
 /// Letters, digits, `_` and `'` at the front.

@@ -86,12 +86,62 @@ fn marks_in_bad_patterns() {
     assert!(in_rule.contains("# block 1: entry 1: a marked variable in a rule\n"));
 }
 
+/// Each of the four sorts is numbered apart, and is written and printed.
+#[test]
+fn nonce_variables() {
+    let lines =
+        "good {(?x, (*x, (?n!x, (*n!x, (?n!y, (?n!7, *n!y))))))}KA\nrule ?n!y -> (?x, ?n!y)";
+    let file = assemble(&format!("{ATOMS}{SECRETS}{lines}")).unwrap();
+    let tags_and_numbers = |block: usize, from: usize, count: usize| {
+        let entries = file[512 * block + 4..].chunks(4).map(|e| (e[0], e[2]));
+        entries.skip(from).take(count).collect::<Vec<_>>()
+    };
+    let good: Vec<_> = tags_and_numbers(3, 1, 13)
+        .into_iter()
+        .filter(|e| e.0 > 3)
+        .collect();
+    let expected = [(4, 0), (5, 0), (6, 0), (7, 0), (6, 1), (6, 7), (7, 1)];
+    assert_eq!(good, expected);
+    assert_eq!(tags_and_numbers(4, 0, 4), [(6, 0), (2, 0), (4, 0), (6, 0)]);
+    let printed = print(&file);
+    let good = "\ngood {(?0, (*0, (?n!0, (*n!0, (?n!1, (?n!7, *n!1))))))}k2\n";
+    assert!(printed.contains(good), "{printed}");
+    assert!(printed.ends_with("\nrule ?n!0 -> (?0, ?n!0)\n"));
+    assert!(!printed.contains('#'));
+    assert_eq!(assemble(&printed), Ok(file));
+}
+
+/// A variable whose name is n is none for a nonce.
+#[test]
+fn variables_named_n() {
+    let file = assemble(&format!("{ATOMS}rule ?n -> (?n, (?n!n, ?m))")).unwrap();
+    let printed = print(&file);
+    assert!(
+        printed.ends_with("\nrule ?0 -> (?0, (?n!0, ?1))\n"),
+        "{printed}"
+    );
+}
+
+#[test]
+fn notes_on_nonce_variables() {
+    let printed = |line: &str| print(&assemble(&format!("{ATOMS}{line}")).unwrap());
+    let in_rule = printed("rule -> {*n!x}KA");
+    assert!(in_rule.contains("# block 1: entry 1: a marked variable in a rule\n"));
+    let in_secret = printed("secret (N, ?n!x)");
+    assert!(in_secret.contains("# block 1: entry 2: a variable in a secret\n"));
+    let mut file = assemble(&format!("{ATOMS}good {{(?n!x, *n!x)}}KA")).unwrap();
+    file[512 + 4 + 8 + 2] = 8;
+    let too_large = print(&file);
+    assert!(too_large.contains("entry 2: not read, a variable with number 8\n"));
+    assert!(too_large.contains("entry 3: marked nonce variable 0\n"));
+}
+
 fn error_of(text: &str) -> String {
     assemble(text).unwrap_err().to_string()
 }
 
 /// Lines that cannot be read, and what is said of them after the line's number.
-const WRONG_LINES: [(&str, &str); 12] = [
+const WRONG_LINES: [(&str, &str); 16] = [
     ("secret (N, T", "the line ends where `)` must stand"),
     ("secret (N T)", "`,` must stand for `T`"),
     ("secret N T", "the line must end before `T`"),
@@ -99,6 +149,13 @@ const WRONG_LINES: [(&str, &str); 12] = [
     ("rule N ->", "the line ends where a term must stand"),
     ("good {*s}?x", "a key's name must stand for `?x`"),
     ("good {*s}%", "`%` has no meaning here"),
+    ("good {?n!}KA", "`?n!` needs a variable's name"),
+    ("good {*m!x}KA", "`!` cannot stand after `*m`"),
+    ("good {*s}*n!x", "a key's name must stand for `*n!x`"),
+    (
+        "bad {(*n!7, *n!9)}KA",
+        "a variable's number is 0 to 7, not `9`",
+    ),
     ("atom N nonce known", "a second atom `N`"),
     (
         "atom M nonce maybe",
@@ -203,7 +260,6 @@ fn notes_on_atom_blocks() {
 
 #[test]
 fn later_tags_are_told() {
-    assert!(error_of("rule -> ?n!x").contains("nonce variables"));
     assert!(error_of("rule -> h(?x)").contains("hashes"));
     assert!(error_of("rule -> sig(?x)K").contains("signatures"));
     assert!(error_of("rule -> <?x, ?y, ?z>").contains("flat tuples"));
@@ -289,8 +345,8 @@ fn notes_in_words() {
     for words in [
         "# the last 3 bytes are no whole block",
         "# block 0: the check is ",
-        "# block 1: a secret block that is not read whole: entry 0, tag 9 is none of 1 to 5",
-        "# block 1: entry 0: not read, tag 9 is none of 1 to 5",
+        "# block 1: a secret block that is not read whole: entry 0, tag 9 is none of 1 to 7",
+        "# block 1: entry 0: not read, tag 9 is none of 1 to 7",
         "# block 2: unused entry 9 is not zero",
         "good {*0}k2",
         "# block 3: kind 77 is none of 1 to 5, not read",

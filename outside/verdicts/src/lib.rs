@@ -7,6 +7,7 @@ pub mod known;
 pub mod lent;
 pub mod marked_bad;
 pub mod more_atoms;
+pub mod nonce_variables;
 pub mod proved;
 
 use std::fmt::{self, Display};

@@ -4,7 +4,7 @@ use generate::random::Random;
 use literal::{Refusal, Verdict};
 use verdicts::compare::differences;
 use verdicts::known::{self, Known};
-use verdicts::{cases, marked_bad, more_atoms, proved, Checker, Spot};
+use verdicts::{cases, marked_bad, more_atoms, nonce_variables, proved, Checker, Spot};
 
 const FILES: u64 = 300;
 
@@ -149,7 +149,12 @@ fn bytes_around_are_noticed() {
 
 /// The answers that are written down by hand.
 fn by_hand() -> Vec<Known> {
-    let lists = [cases::all(), more_atoms::all(), marked_bad::all()];
+    let lists = [
+        cases::all(),
+        more_atoms::all(),
+        marked_bad::all(),
+        nonce_variables::all(),
+    ];
     lists.into_iter().flat_map(Result::unwrap).collect()
 }
 

@@ -12,8 +12,9 @@ use lib.ListN.{length, getD, set, drop, length-set}
 use lib.Seq.{getD-set-same, getD-set-other}
 use Rattle.blocks.specs.Kinds.{badKind}
 use Rattle.blocks.specs.Block.{blockAt, kindOf}
-use Rattle.terms.specs.Term.{Term, Variable, variable, pair, encrypted, Sort, plain, marked, named, wrapped, Wrapping, encryption}
-use Rattle.terms.specs.Tag.{pairTag, encryptionTag, markedTag, sortTag, wrapping-tag}
+use Rattle.terms.specs.Term.{Term, Variable, variable, pair, encrypted, Range, sort, marked, wrapped, Wrapping, encryption}
+use Rattle.terms.specs.Tag.{pairTag, encryptionTag, MarkedTag, sortTag, wrapping-tag}
+use Rattle.terms.proofs.TagLaws.{marked-sort, mark-tagged, marked-variable}
 use Rattle.terms.specs.Place.{Turn, Place, left, right, inside, subtermAt}
 use Rattle.terms.specs.Entry.{size, termOf, tagAt, valueAt, Reads, Begins, from, entryAt}
 use Rattle.terms.specs.Reading.{First, first-atom, first-pair, first-wrapped, first-variable, first}
@@ -21,10 +22,10 @@ use Rattle.terms.specs.Decisions.{Says, says-same}
 use Rattle.terms.specs.TermGraph.{rightIn}
 use Rattle.terms.proofs.EntryLaws.{from-start, termOf-reads, term-reads, begins, fits, size-positive, pair-first, encryption-first, from-from, from-length, reads-pair, reads-variable, reads-wrapped}
 use Rattle.terms.proofs.TermGraphLaws.{pair-in, wrapped-in, tag-from, right-in}
-use Rattle.terms.proofs.SizeLaws.{size-at, tag-inside}
+use Rattle.terms.proofs.SizeLaws.{size-at, marked-inside}
 use Rattle.terms.proofs.PlaceLaws.{Composite, composite, isPair, isWrapped}
 use Rattle.terms.proofs.PlacedLaws.{placed, placed-within, placed-begins, spotted, subterm-at}
-use Rattle.judge.specs.Hat.{MarkAt, Marked}
+use Rattle.judge.specs.Hat.{markNamed, MarkAt, Marked}
 use Rattle.judge.specs.File.{patternOf}
 use Rattle.judge.specs.Listed.{MarkTag, LastMark, Noted, TermPart}
 use Rattle.judge.specs.CoverEntries.{subAt, On, Bits, either, putOn, Painted, Raised, MarkOver, MarkUnder, MarkAround, LayingAround}
@@ -35,26 +36,26 @@ use Rattle.judge.proofs.Covering.Marks.{mark-marked, mark-pair, mark-en
 
 -- A mark around is a mark.
 pub around-marked : {p u : Term Variable} {h k : ℕ} → MarkAround p u h k → Marked p
-around-marked (inl m) = record { number = m .number; place = m .place; stands = m .stands }
-around-marked (inr m) = record { number = m .number; place = m .place ++ m .rest; stands = m .stands }
+around-marked (inl m) = record { name = m .name; place = m .place; stands = m .stands }
+around-marked (inr m) = record { name = m .name; place = m .place ++ m .rest; stands = m .stands }
 
 -- Any mark lies at or below the root.
 root-under : {p : Term Variable} (u : Term Variable) {h k : ℕ} → Marked p → k ≡ h → MarkAround p u h k
 unfolding subtermAt entryAt
-root-under u m is = inr (record { number = m .number; place = []; rest = m .place; subterm = u; stands = m .stands; under = refl; entry = omega arith })
+root-under u m is = inr (record { name = m .name; place = []; rest = m .place; subterm = u; stands = m .stands; under = refl; entry = omega arith })
 
 -- A marked variable: all entries of the term are at or below it.
-marked-around : (x : ℕ) (u : Term Variable) {h k : ℕ} → MarkAround (variable (named marked x)) u h k ↔ ((h ≤ k) × (k < h + size u))
+marked-around : (x : Range × ℕ) (u : Term Variable) {h k : ℕ} → MarkAround (variable (markNamed x)) u h k ↔ ((h ≤ k) × (k < h + size u))
 unfolding subtermAt entryAt
 marked-around x u {h} {k} = (to, λ w. inl (mark-marked {h = h} {k = k} x u .1 w))
   where
-    root : (q r : Place) {n : ℕ} → MarkAt (variable (named marked x)) (q ++ r) n → h + entryAt q u ≡ k → (h ≤ k) × (k < h + size u)
+    root : (q r : Place) {n : Range × ℕ} → MarkAt (variable (markNamed x)) (q ++ r) n → h + entryAt q u ≡ k → (h ≤ k) × (k < h + size u)
     root [] r e is = (omega arith, omega (arith, size-positive u))
     root (left ∷ q) r e is = absurd (Option·none-ne-some _ e)
     root (right ∷ q) r e is = absurd (Option·none-ne-some _ e)
     root (inside ∷ q) r e is = absurd (Option·none-ne-some _ e)
 
-    to : MarkAround (variable (named marked x)) u h k → (h ≤ k) × (k < h + size u)
+    to : MarkAround (variable (markNamed x)) u h k → (h ≤ k) × (k < h + size u)
     to (inl m) = mark-marked {h = h} {k = k} x u .0 m
     to (inr m) = root (m .place) (m .rest) (m .stands) (m .entry)
 
@@ -80,16 +81,16 @@ same-shape t q r p u e f = go (composite t q p e) (composite t r u f)
     go (isWrapped a) (isPair b) = absurd (pair-no-wrapper t r q _ _ _ _ _ (rw b at f) (rw a at e))
 
 -- Other symbols: only the root has marks below it.
-differ-around : {p u : Term Variable} {h k : ℕ} → ((x : ℕ) → ¬ (p ≡ variable (named marked x))) → ¬ SameShape p u
+differ-around : {p u : Term Variable} {h k : ℕ} → ((x : Range × ℕ) → ¬ (p ≡ variable (markNamed x))) → ¬ SameShape p u
     → MarkAround p u h k ↔ (Marked p × (k ≡ h))
 unfolding subtermAt entryAt
 differ-around {p} {u} {h} {k} no-mark other = (λ m. (around-marked m, root m), λ w. root-under u (w .0) (w .1))
   where
-    over : (q : Place) {n : ℕ} {s : Term Variable} → MarkAt p q n → subtermAt q u ≡ some s → k ≡ h
-    over [] {n} e f = absurd (no-mark n (let same : p ≡ variable (named marked n) = cc in same))
+    over : (q : Place) {n : Range × ℕ} {s : Term Variable} → MarkAt p q n → subtermAt q u ≡ some s → k ≡ h
+    over [] {n} e f = absurd (no-mark n (let same : p ≡ variable (markNamed n) = cc in same))
     over (t ∷ q) e f = absurd (other (same-shape t q q p u e f))
 
-    under : (q r : Place) {n : ℕ} {s : Term Variable} → MarkAt p (q ++ r) n → subtermAt q u ≡ some s → h + entryAt q u ≡ k → k ≡ h
+    under : (q r : Place) {n : Range × ℕ} {s : Term Variable} → MarkAt p (q ++ r) n → subtermAt q u ≡ some s → h + entryAt q u ≡ k → k ≡ h
     under [] r e f is = omega arith
     under (t ∷ q) r e f is = absurd (other (same-shape t (q ++ r) q p u e f))
 
@@ -102,7 +103,7 @@ turned : (t : Turn) {at h k : ℕ} {p u below over : Term Variable} → ((q : Pl
     → ((q : Place) → subtermAt (t ∷ q) u ≡ subtermAt q over) → ((q : Place) → at + entryAt q over ≡ h + entryAt (t ∷ q) u)
     → MarkUnder below over at k → MarkUnder p u h k
 turned t stands under number m = record {
-  number = m .number;
+  name = m .name;
   place = t ∷ m .place;
   rest = m .rest;
   subterm = m .subterm;
@@ -124,10 +125,10 @@ module _ {h k : ℕ} where
       over (inl m) = inl (inl (inl m))
       over (inr m) = inl (inr (inl m))
 
-      under : (q r : Place) {n : ℕ} {s : Term Variable} → MarkAt (pair a b) (q ++ r) n → subtermAt q (pair c d) ≡ some s → h + entryAt q (pair c d) ≡ k → Parts
-      under [] r e f is = inr (record { number = _; place = r; stands = e }, omega arith)
-      under (left ∷ q) r e f is = inl (inl (inr (record { number = _; place = q; rest = r; subterm = _; stands = e; under = f; entry = omega arith })))
-      under (right ∷ q) r e f is = inl (inr (inr (record { number = _; place = q; rest = r; subterm = _; stands = e; under = f; entry = omega arith })))
+      under : (q r : Place) {n : Range × ℕ} {s : Term Variable} → MarkAt (pair a b) (q ++ r) n → subtermAt q (pair c d) ≡ some s → h + entryAt q (pair c d) ≡ k → Parts
+      under [] r e f is = inr (record { name = _; place = r; stands = e }, omega arith)
+      under (left ∷ q) r e f is = inl (inl (inr (record { name = _; place = q; rest = r; subterm = _; stands = e; under = f; entry = omega arith })))
+      under (right ∷ q) r e f is = inl (inr (inr (record { name = _; place = q; rest = r; subterm = _; stands = e; under = f; entry = omega arith })))
       under (inside ∷ q) r e f is = absurd (Option·none-ne-some _ f)
 
       to : MarkAround (pair a b) (pair c d) h k → Parts
@@ -149,10 +150,10 @@ module _ {h k : ℕ} where
       Parts : Type 0
       Parts = MarkAround a c (h + 1) k ⊎ (Marked (encrypted i a) × (k ≡ h))
 
-      under : (q r : Place) {n : ℕ} {s : Term Variable} → MarkAt (encrypted i a) (q ++ r) n → subtermAt q (encrypted j c) ≡ some s
+      under : (q r : Place) {n : Range × ℕ} {s : Term Variable} → MarkAt (encrypted i a) (q ++ r) n → subtermAt q (encrypted j c) ≡ some s
           → h + entryAt q (encrypted j c) ≡ k → Parts
-      under [] r e f is = inr (record { number = _; place = r; stands = e }, omega arith)
-      under (inside ∷ q) r e f is = inl (inr (record { number = _; place = q; rest = r; subterm = _; stands = e; under = f; entry = omega arith }))
+      under [] r e f is = inr (record { name = _; place = r; stands = e }, omega arith)
+      under (inside ∷ q) r e f is = inl (inr (record { name = _; place = q; rest = r; subterm = _; stands = e; under = f; entry = omega arith }))
       under (left ∷ q) r e f is = absurd (Option·none-ne-some _ f)
       under (right ∷ q) r e f is = absurd (Option·none-ne-some _ f)
 
@@ -170,61 +171,57 @@ marked-pair : {a b : Term Variable} → Marked (pair a b) ↔ (Marked a ⊎ Mark
 unfolding subtermAt
 marked-pair {a} {b} = (λ m. to (m .place) (m .stands), back)
   where
-    to : (q : Place) {n : ℕ} → MarkAt (pair a b) q n → Marked a ⊎ Marked b
+    to : (q : Place) {n : Range × ℕ} → MarkAt (pair a b) q n → Marked a ⊎ Marked b
     to [] e = let z : _≡_ {A = ℕ} 0 1 = cc in absurd (omega arith)
-    to (left ∷ q) e = inl (record { number = _; place = q; stands = e })
-    to (right ∷ q) e = inr (record { number = _; place = q; stands = e })
+    to (left ∷ q) e = inl (record { name = _; place = q; stands = e })
+    to (right ∷ q) e = inr (record { name = _; place = q; stands = e })
     to (inside ∷ q) e = absurd (Option·none-ne-some _ e)
 
     back : Marked a ⊎ Marked b → Marked (pair a b)
-    back (inl m) = record { number = m .number; place = left ∷ m .place; stands = m .stands }
-    back (inr m) = record { number = m .number; place = right ∷ m .place; stands = m .stands }
+    back (inl m) = record { name = m .name; place = left ∷ m .place; stands = m .stands }
+    back (inr m) = record { name = m .name; place = right ∷ m .place; stands = m .stands }
 
 marked-encrypted : {i : ℕ} {a : Term Variable} → Marked (encrypted i a) ↔ Marked a
 unfolding subtermAt
-marked-encrypted {i} {a} = (λ m. to (m .place) (m .stands), λ m. record { number = m .number; place = inside ∷ m .place; stands = m .stands })
+marked-encrypted {i} {a} = (λ m. to (m .place) (m .stands), λ m. record { name = m .name; place = inside ∷ m .place; stands = m .stands })
   where
-    to : (q : Place) {n : ℕ} → MarkAt (encrypted i a) q n → Marked a
+    to : (q : Place) {n : Range × ℕ} → MarkAt (encrypted i a) q n → Marked a
     to [] e = let z : _≡_ {A = ℕ} 0 1 = cc in absurd (omega arith)
-    to (inside ∷ q) e = record { number = _; place = q; stands = e }
+    to (inside ∷ q) e = record { name = _; place = q; stands = e }
     to (left ∷ q) e = absurd (Option·none-ne-some _ e)
     to (right ∷ q) e = absurd (Option·none-ne-some _ e)
 
-marked-leaf : (t : Term Variable) → ¬ Composite t → ((x : ℕ) → ¬ (t ≡ variable (named marked x))) → ¬ Marked t
+marked-leaf : (t : Term Variable) → ¬ Composite t → ((x : Range × ℕ) → ¬ (t ≡ variable (markNamed x))) → ¬ Marked t
 unfolding subtermAt
 marked-leaf t leaf no-mark m = go (m .place) (m .stands)
   where
-    go : (q : Place) {n : ℕ} → MarkAt t q n → ⊥
-    go [] {n} e = no-mark n (let same : t ≡ variable (named marked n) = cc in same)
+    go : (q : Place) {n : Range × ℕ} → MarkAt t q n → ⊥
+    go [] {n} e = no-mark n (let same : t ≡ variable (markNamed n) = cc in same)
     go (a ∷ q) e = leaf (composite a q t e)
 
 -- ---- entries
 
 -- The root by its tag.
 module _ (e : List ℕ) (h : ℕ) (b : Begins (from (4 * h) e)) where
-  marked-root : getD e (4 * h) 0 ≡ markedTag → (x : ℕ) × (subAt e h ≡ variable (named marked x))
+  marked-root : MarkedTag (getD e (4 * h) 0) → (x : Range × ℕ) × (subAt e h ≡ variable (markNamed x))
   unfolding sortTag
   marked-root tag = go (first (b .reads))
     where
-      is-tag : tagAt (from (4 * h) e) ≡ markedTag
-      is-tag = sym (tag-from e h) ∙ tag
+      is-tag : MarkedTag (tagAt (from (4 * h) e))
+      is-tag = rw (tag-from e h) at tag
 
-      sort : (s : Sort) → tagAt (from (4 * h) e) ≡ sortTag s → s ≡ marked
-      sort plain g = absurd (omega (arith, is-tag))
-      sort marked g = refl
-
-      go : First (tagAt (from (4 * h) e)) (valueAt (from (4 * h) e)) (drop 4 (from (4 * h) e)) (b .term ∷ b .others) → (x : ℕ) × (subAt e h ≡ variable (named marked x))
-      go (first-variable {s = s} g v n q k) = (_, termOf-reads (rw (sort s g) at (rw q at (b .reads))))
-      go (first-atom g q k) = absurd (omega (arith, is-tag))
-      go (first-pair g n q k) = absurd (omega (arith, is-tag))
-      go (first-wrapped i g q k) = absurd (omega (arith, is-tag))
+      go : First (tagAt (from (4 * h) e)) (valueAt (from (4 * h) e)) (drop 4 (from (4 * h) e)) (b .term ∷ b .others) → (x : Range × ℕ) × (subAt e h ≡ variable (markNamed x))
+      go (first-variable {s = s} g v n q k) = let is = marked-sort s g is-tag in ((is .0, _), termOf-reads (rw (is .1) at (rw q at (b .reads))))
+      go (first-atom g q k) = absurd (omega (arith, marked-variable is-tag))
+      go (first-pair g n q k) = absurd (omega (arith, marked-variable is-tag))
+      go (first-wrapped i g q k) = absurd (omega (arith, marked-variable is-tag))
 
   root-tag : {t : Term Variable} → subAt e h ≡ t → (n : ℕ) → (Reads (from (4 * h) e) (t ∷ b .others) → tagAt (from (4 * h) e) ≡ n) → getD e (4 * h) 0 ≡ n
   root-tag is n tag = tag-from e h ∙ tag (term-reads b is)
 
-  marked-tag : {x : ℕ} → subAt e h ≡ variable (named marked x) → getD e (4 * h) 0 ≡ markedTag
+  marked-tag : {x : Range × ℕ} → subAt e h ≡ variable (markNamed x) → MarkedTag (getD e (4 * h) 0)
   unfolding sortTag
-  marked-tag is = root-tag is markedTag (λ r. reads-variable r .0)
+  marked-tag {x} is = mark-tagged (x .0) (root-tag is (sortTag (sort marked (x .0))) (λ r. reads-variable r .0))
 
   pair-tag : {t u : Term Variable} → subAt e h ≡ pair t u → getD e (4 * h) 0 ≡ pairTag
   pair-tag is = root-tag is pairTag (λ r. reads-pair r .0)
@@ -302,14 +299,14 @@ marks-by-tags {e} {i} {n} b is = (to, back)
         let same : subAt e (w .number) ≡ q .subterm = ap termOf (sym at) ∙ subterm-at (q .is) reads in
         let begin : Begins (from (4 * w .number) e) = rw at at (placed-begins (q .is) reads) in
         let x = marked-root e (w .number) begin (w .tag) in
-        record { number = x .0; place = q .place; stands = q .is .stands ∙ ap some (sym same ∙ x .1) }
+        record { name = x .0; place = q .place; stands = q .is .stands ∙ ap some (sym same ∙ x .1) }
 
     back : Marked (subAt e i) → MarkTag e i n
     back m =
         let q = placed (m .place) (subAt e i) (m .stands) in
         let j = entryAt (m .place) (subAt e i) in
         let at = there j (i + j) refl in
-        let same : subAt e (i + j) ≡ variable (named marked (m .number)) = ap termOf (sym at) ∙ subterm-at q reads in
+        let same : subAt e (i + j) ≡ variable (markNamed (m .name)) = ap termOf (sym at) ∙ subterm-at q reads in
         let begin : Begins (from (4 * (i + j)) e) = rw at at (placed-begins q reads) in
         record { number = i + j; above = omega arith; below = omega (arith, placed-within q); tag = marked-tag e (i + j) begin same }
 
@@ -334,7 +331,7 @@ bad-noted {file} {t} {i} {v} is part last = record {
     same = marks-by-tags {e = t} {i = 0} {n = length t / 4} (rw start (part .term)) (omega (arith, part .whole, long))
 
     found : ¬ (v ≡ 0) → MarkTag t 0 (length t / 4)
-    found some-mark = let tag = last .here some-mark in record { number = v - 1; above = omega arith; below = omega (arith, tag-inside t (v - 1) tag, part .whole); tag = tag }
+    found some-mark = let tag = last .here some-mark in record { number = v - 1; above = omega arith; below = omega (arith, marked-inside t (v - 1) tag, part .whole); tag = tag }
 
     none : v ≡ 0 → ¬ MarkTag t 0 (length t / 4)
     none z w = last .behind (w .number) (omega arith) (w .tag)
@@ -405,22 +402,22 @@ module _ {p y e z : List ℕ} {last i h : ℕ} (l : LayingAround p y last i e z 
       let same = marks-by-tags (l .pattern) (ap (λ (n : ℕ). i + n) (size-at i (l .pattern-sizes) (l .pattern) is .0)) in
       says-same r (same .0) (same .1) says
 
-  no-mark-root : ¬ (getD p (4 * i) 0 ≡ markedTag) → (x : ℕ) → ¬ (subAt p i ≡ variable (named marked x))
+  no-mark-root : ¬ MarkedTag (getD p (4 * i) 0) → (x : Range × ℕ) → ¬ (subAt p i ≡ variable (markNamed x))
   no-mark-root off x is = off (marked-tag p i (l .pattern) is)
 
   -- A mark.
-  pub mark-found : getD p (4 * i) 0 ≡ markedTag → Marked (subAt p i)
+  pub mark-found : MarkedTag (getD p (4 * i) 0) → Marked (subAt p i)
   unfolding subtermAt
-  mark-found tag = let x = marked-root p i (l .pattern) tag in record { number = x .0; place = []; stands = ap some (x .1) }
+  mark-found tag = let x = marked-root p i (l .pattern) tag in record { name = x .0; place = []; stands = ap some (x .1) }
 
-  pub mark-laid : getD p (4 * i) 0 ≡ markedTag → {a b : List ℕ} {end : ℕ} → end ≡ h + size (subAt e h) → Painted a b h end 1
+  pub mark-laid : MarkedTag (getD p (4 * i) 0) → {a b : List ℕ} {end : ℕ} → end ≡ h + size (subAt e h) → Painted a b h end 1
       → Raised a b (MarkAround (subAt p i) (subAt e h) h)
   mark-laid tag {end = end} is painted =
       let x = marked-root p i (l .pattern) tag in
       raised-as (painted-raised painted) (λ k. (let m = marked-around (x .0) (subAt e h) {h = h} {k = k} in rw (x .1, is) (m .1, m .0)))
 
   -- Other symbols.
-  pub around-differ : ¬ (getD p (4 * i) 0 ≡ markedTag) → ¬ (getD p (4 * i) 0 ≡ getD e (4 * h) 0) → {a : List ℕ} {v : ℕ} → length a ≡ 64 → (r : Bool)
+  pub around-differ : ¬ MarkedTag (getD p (4 * i) 0) → ¬ (getD p (4 * i) 0 ≡ getD e (4 * h) 0) → {a : List ℕ} {v : ℕ} → length a ≡ 64 → (r : Bool)
       → Says r (Marked (subAt p i)) → v ≡ putOn (getD a h 0) r → Raised a (set a h v) (MarkAround (subAt p i) (subAt e h) h)
   around-differ off other long r says is =
       raised-as (put-on-raised long flag-inside r says is) (λ k. (let m = differ-around {h = h} {k = k} (no-mark-root off) shape in (m .1, m .0)))
@@ -430,7 +427,7 @@ module _ {p y e z : List ℕ} {last i h : ℕ} (l : LayingAround p y last i e z 
       shape (wrappers a b) = other (wrapped-tag p i (l .pattern) a ∙ sym (wrapped-tag e h (l .term) b))
 
   -- Neither a mark nor anything below.
-  pub no-mark-found : ¬ (getD p (4 * i) 0 ≡ markedTag) → ¬ (getD p (4 * i) 0 ≡ pairTag) → ¬ (getD p (4 * i) 0 ≡ encryptionTag) → ¬ Marked (subAt p i)
+  pub no-mark-found : ¬ MarkedTag (getD p (4 * i) 0) → ¬ (getD p (4 * i) 0 ≡ pairTag) → ¬ (getD p (4 * i) 0 ≡ encryptionTag) → ¬ Marked (subAt p i)
   no-mark-found off no-pair no-wrapper = marked-leaf (subAt p i) (no-composite p i (l .pattern) no-pair no-wrapper) (no-mark-root off)
 
   pub none-behind : last ≤ i → ¬ Marked (subAt p i)

@@ -13,8 +13,10 @@ use Rattle.blocks.specs.Block.{blockAt, kindOf}
 use Rattle.blocks.proofs.KindLaws.{bad-lists}
 use Rattle.terms.specs.Term.{Term, Variable, replace, encryption}
 use Rattle.terms.specs.Place.{Place, StrictlyAbove, AtOrAbove}
-use Rattle.terms.specs.Tag.{markedTag}
+use Rattle.terms.specs.Tag.{MarkedTag}
 use Rattle.terms.specs.Instance.{Matches, Share}
+use Rattle.terms.specs.Seek.{Becomes}
+use Rattle.terms.proofs.InstanceLaws.{becomes}
 use Rattle.terms.specs.Entry.{size, termOf, tagAt, Begins, from, entryAt, Placed}
 use Rattle.terms.proofs.EntryLaws.{reads-encrypted, termOf-reads, size-positive, fits, encryption-first, from-length, from-start, term-reads}
 use Rattle.terms.specs.TermGraph.{SizesOf}
@@ -26,7 +28,7 @@ use Rattle.judge.specs.File.{blockCount, patternOf, certificateOf}
 use Rattle.judge.specs.Laid.{Laid}
 use Rattle.judge.specs.Hat.{Marked}
 use Rattle.judge.specs.Cover.{SureHat}
-use Rattle.judge.specs.Listed.{listedOf, AnyListed, HoldsAt, HeldAmong, Searching, SharesUnmarked, TermPart, listedRows, markSlot, SizesIn}
+use Rattle.judge.specs.Listed.{atomsIn, listedOf, AnyListed, HoldsAt, HeldAmong, Searching, SharesUnmarked, TermPart, listedRows, markSlot, SizesIn}
 use Rattle.judge.specs.CoverEntries.{subAt, On, Raised, Cleared, SomeOn, SomeBoth, Flags, MarkAround, Lays, LaysAround, MayCancelOver, Laying, LayingAround, Standing, HatOver, HatBelow}
 use Rattle.judge.proofs.Covering.Flags.{raised-none, raised-as, raised-twice, zero-off, zero-bits, cleared-none, cleared-as, cleared-twice}
 use Rattle.judge.proofs.Covering.Around.{around-marked}
@@ -47,7 +49,7 @@ standing-end {e = e} {h = h} s is =
     (omega arith, omega (arith, from-length (4 * h) e))
 
 -- What laying the pattern of a block asks for.
-pub pattern-laying : {file e p : List ℕ} {h i : ℕ} → Standing file e h → TermPart file i p → Matches (termOf p) (subAt e h) → Laying p e h
+pub pattern-laying : {file e p : List ℕ} {h i : ℕ} → Standing file e h → TermPart file i p → Becomes (termOf p) (subAt e h) → Laying p e h
 pattern-laying s part match = record { pattern = part .term; term = s .term; match = match; inside = let l = s .inside in omega arith; short = s .short }
 
 -- What one block raises: of this kind, and of another.
@@ -62,8 +64,8 @@ module _ {file : List ℕ} {kind i : ℕ} where
         λ w. same k .1 (subst (P k) (sym term) (w .holds)),
       ))
 
-  pub no-match-raised : {u : Term Variable} {h : ℕ} {p : List ℕ} → TermPart file i p → {old : List ℕ} → length old ≡ 64 → ¬ Matches (termOf p) u
-      → Raised old old (λ k. HoldsAt file kind (Lays u h k) i)
+  pub no-match-raised : {u : Term Variable} {h : ℕ} {p : List ℕ} → TermPart file i p → {old : List ℕ} → length old ≡ 64 → ¬ Matches (atomsIn file) (termOf p) u
+      → Raised old old (λ k. HoldsAt file kind (Lays (atomsIn file) u h k) i)
   unfolding patternOf
   no-match-raised {u} {h} part long off = raised-none long (λ k w. off (rw (← (ap termOf (part .part))) at (w .holds .0)))
 
@@ -73,7 +75,7 @@ module _ {file : List ℕ} {kind i : ℕ} where
 
 -- A marked bad pattern laid around the term at entry h; one that shares no instance with it, and one without marks.
 pub exception-laying : {file e y z t : List ℕ} {h i : ℕ} → Standing file e h → TermPart file i t → SizesOf t y → SizesOf e z
-    → {last : ℕ} → ((k : ℕ) → last ≤ k → ¬ (getD t (4 * k) 0 ≡ markedTag)) → LayingAround t y last 0 e z h
+    → {last : ℕ} → ((k : ℕ) → last ≤ k → ¬ MarkedTag (getD t (4 * k) 0)) → LayingAround t y last 0 e z h
 exception-laying {t = t} s part pattern-sizes sizes behind = record {
   pattern = rw (from-start t) (part .term);
   term = s .term;
@@ -89,12 +91,12 @@ exception-laying {t = t} s part pattern-sizes sizes behind = record {
 module _ {file : List ℕ} {i : ℕ} {u : Term Variable} {h : ℕ} where
   -- Its flags are put off if it shares an instance with the term.
   pub exception-dropped : kindOf (blockAt file i) ≡ badKind → {t : List ℕ} → TermPart file i t → {old new around : List ℕ}
-      → Flags around (MarkAround (subAt t 0) u h) → HeldAmong file badKind (λ p. Share p u) i (i + 1) → Cleared old new (On around)
-      → Cleared old new (λ k. HoldsAt file badKind (LaysAround u h k) i)
+      → Flags around (MarkAround (subAt t 0) u h) → HeldAmong file badKind (λ p. Share (atomsIn file) p u) i (i + 1) → Cleared old new (On around)
+      → Cleared old new (λ k. HoldsAt file badKind (LaysAround (atomsIn file) u h k) i)
   unfolding patternOf
   exception-dropped is {t} part f held r =
       let term : subAt t 0 ≡ patternOf (blockAt file i) = ap termOf (from-start t ∙ part .part) in
-      let share = one-among (λ p. Share p u) .0 held .holds in
+      let share = one-among (λ p. Share (atomsIn file) p u) .0 held .holds in
       cleared-as r (λ k. (
         λ o. record { of-kind = is; holds = (share, rw term at (f .on k .0 o)) },
         λ w. f .on k .1 (rw term (w .holds .1)),
@@ -102,23 +104,23 @@ module _ {file : List ℕ} {i : ℕ} {u : Term Variable} {h : ℕ} where
 
   -- Nothing has to be put off: it shares none, has its marks elsewhere, has no marks, or is of another kind.
   module _ {old : List ℕ} (long : length old ≡ 64) where
-    pub exception-apart : ¬ HeldAmong file badKind (λ p. Share p u) i (i + 1) → Cleared old old (λ k. HoldsAt file badKind (LaysAround u h k) i)
+    pub exception-apart : ¬ HeldAmong file badKind (λ p. Share (atomsIn file) p u) i (i + 1) → Cleared old old (λ k. HoldsAt file badKind (LaysAround (atomsIn file) u h k) i)
     exception-apart off =
-        cleared-none long (λ k o w. off (one-among (λ p. Share p u) .1 (record { of-kind = w .of-kind; holds = w .holds .0 })))
+        cleared-none long (λ k o w. off (one-among (λ p. Share (atomsIn file) p u) .1 (record { of-kind = w .of-kind; holds = w .holds .0 })))
 
     pub exception-beside : {t : List ℕ} → TermPart file i t → {around : List ℕ} → Flags around (MarkAround (subAt t 0) u h) → ¬ SomeBoth old around
-        → Cleared old old (λ k. HoldsAt file badKind (LaysAround u h k) i)
+        → Cleared old old (λ k. HoldsAt file badKind (LaysAround (atomsIn file) u h k) i)
     unfolding patternOf
     exception-beside {t} part f off =
         let term : subAt t 0 ≡ patternOf (blockAt file i) = ap termOf (from-start t ∙ part .part) in
         cleared-none long (λ k o w. off (record { number = k; on = o; other = f .on k .1 (rw term (w .holds .1)) }))
 
     pub exception-unmarked : {sizes : List ℕ} → SizesIn file sizes → i < blockCount file → kindOf (blockAt file i) ≡ badKind
-        → getD sizes (markSlot i) 0 ≡ 0 → Cleared old old (λ k. HoldsAt file badKind (LaysAround u h k) i)
+        → getD sizes (markSlot i) 0 ≡ 0 → Cleared old old (λ k. HoldsAt file badKind (LaysAround (atomsIn file) u h k) i)
     exception-unmarked all inside is none =
         cleared-none long (λ k o w. all .rows .marks i inside (bad-lists is) .marked .1 (is, around-marked (w .holds .1)) none)
 
-    pub exception-other : ¬ (kindOf (blockAt file i) ≡ badKind) → Cleared old old (λ k. HoldsAt file badKind (LaysAround u h k) i)
+    pub exception-other : ¬ (kindOf (blockAt file i) ≡ badKind) → Cleared old old (λ k. HoldsAt file badKind (LaysAround (atomsIn file) u h k) i)
     exception-other off = cleared-none long (λ k o w. off (w .of-kind))
 
 -- Block after block, from the last one back: a block from number n on holds one.
@@ -188,7 +190,7 @@ module _ {file : List ℕ} {kind : ℕ} {P : ℕ → Term Variable → Type 0} w
 -- The term at entry h as a hat: what the good patterns lay and no marked bad one lies around is put off, if no bad pattern
 -- without marks shares an instance with it.
 module _ {c : Certificate} {u : Term Variable} {h : ℕ} where
-  hat-is : ¬ SharesUnmarked c u → (k : ℕ) → (AnyListed c goodKind (Lays u h k) × ¬ AnyListed c badKind (LaysAround u h k)) ↔ HatOver c u h k
+  hat-is : ¬ SharesUnmarked c u → (k : ℕ) → (AnyListed c goodKind (Lays (c .atoms) u h k) × ¬ AnyListed c badKind (LaysAround (c .atoms) u h k)) ↔ HatOver c u h k
   unfolding listedOf
   hat-is fine k = (
     to,
@@ -198,21 +200,21 @@ module _ {c : Certificate} {u : Term Variable} {h : ℕ} where
     ),
   )
     where
-      to : AnyListed c goodKind (Lays u h k) × ¬ AnyListed c badKind (LaysAround u h k) → HatOver c u h k
+      to : AnyListed c goodKind (Lays (c .atoms) u h k) × ¬ AnyListed c badKind (LaysAround (c .atoms) u h k) → HatOver c u h k
       to w = record { good = w .0 .term; listed = w .0 .listed; match = w .0 .holds .0; mark = w .0 .holds .1; notBad = not-bad }
         where
-          not-bad : (bad : Term Variable) → Bad c bad → Share bad u → MayCancelOver bad u h k → ⊥
+          not-bad : (bad : Term Variable) → Bad c bad → Share (c .atoms) bad u → MayCancelOver bad u h k → ⊥
           not-bad bad listed share (inl off) = fine (record { term = bad; listed = listed; holds = (λ m. off (m .1), share) })
           not-bad bad listed share (inr m) = w .1 (record { term = bad; listed = listed; holds = (share, m) })
 
-  pub hat-taken : {old new marked hats : List ℕ} → Flags marked (λ k. AnyListed c goodKind (Lays u h k))
-      → Cleared marked hats (λ k. AnyListed c badKind (LaysAround u h k)) → ¬ SharesUnmarked c u → Cleared old new (On hats) → Cleared old new (HatOver c u h)
+  pub hat-taken : {old new marked hats : List ℕ} → Flags marked (λ k. AnyListed c goodKind (Lays (c .atoms) u h k))
+      → Cleared marked hats (λ k. AnyListed c badKind (LaysAround (c .atoms) u h k)) → ¬ SharesUnmarked c u → Cleared old new (On hats) → Cleared old new (HatOver c u h)
   hat-taken {marked = marked} {hats = hats} f d fine r = cleared-as r (λ k. (λ o. to k (d .kept k o), λ w. back k (hat-is fine k .1 w) (ℕ-discrete (getD hats k 0) 1)))
     where
-      to : (k : ℕ) → On marked k × ¬ AnyListed c badKind (LaysAround u h k) → HatOver c u h k
+      to : (k : ℕ) → On marked k × ¬ AnyListed c badKind (LaysAround (c .atoms) u h k) → HatOver c u h k
       to k w = hat-is fine k .0 (f .on k .0 (w .0), w .1)
 
-      back : (k : ℕ) → AnyListed c goodKind (Lays u h k) × ¬ AnyListed c badKind (LaysAround u h k) → Dec (On hats k) → On hats k
+      back : (k : ℕ) → AnyListed c goodKind (Lays (c .atoms) u h k) × ¬ AnyListed c badKind (LaysAround (c .atoms) u h k) → Dec (On hats k) → On hats k
       back k w (yes on) = on
       back k w (no off) = absurd (w .1 (d .gone k (f .on k .1 (w .0)) off))
 
@@ -232,11 +234,11 @@ module _ {file sizes : List ℕ} (laid : Laid file) (all : SizesIn file sizes) (
   marked-only : (P : Term Variable → Type 0) → ((p : Term Variable) → P p → Marked p) → ¬ AnyListed (certificateOf file) badKind P
   marked-only P marked a = none-marked laid all off (record { term = a .term; listed = a .listed; holds = marked (a .term) (a .holds) })
 
-  pub no-exceptions : {u : Term Variable} {h : ℕ} {old : List ℕ} → length old ≡ 64 → Cleared old old (λ k. AnyListed (certificateOf file) badKind (LaysAround u h k))
-  no-exceptions {u} {h} long = cleared-none long (λ k o. marked-only (LaysAround u h k) (λ p w. around-marked (w .1)))
+  pub no-exceptions : {u : Term Variable} {h : ℕ} {old : List ℕ} → length old ≡ 64 → Cleared old old (λ k. AnyListed (certificateOf file) badKind (LaysAround (atomsIn file) u h k))
+  no-exceptions {u} {h} long = cleared-none long (λ k o. marked-only (LaysAround (atomsIn file) u h k) (λ p w. around-marked (w .1)))
 
-  pub none-excepted : {u : Term Variable} {h : ℕ} → Flags (replicate 64 0) (λ k. AnyListed (certificateOf file) badKind (Lays u h k))
-  none-excepted {u} {h} = marked-flags (raised-none refl (λ k. marked-only (Lays u h k) (λ p w. around-marked (inl (w .1)))))
+  pub none-excepted : {u : Term Variable} {h : ℕ} → Flags (replicate 64 0) (λ k. AnyListed (certificateOf file) badKind (Lays (atomsIn file) u h k))
+  none-excepted {u} {h} = marked-flags (raised-none refl (λ k. marked-only (Lays (atomsIn file) u h k) (λ p w. around-marked (inl (w .1)))))
 
 -- A good pattern is an encryption, and so is what it matches.
 good-encryption : {file : List ℕ} → Laid file → {good : Term Variable} → Good (certificateOf file) good → IsEncryption good
@@ -249,7 +251,7 @@ good-encryption {file} laid {good} listed = go (encryption? good)
         (λ i inside w. w .holds (let g = laid .goods i inside (w .of-kind) in record { key = g .key; content = g .content; is = g .same }))
         (record { term = good; listed = listed; holds = off }))
 
-match-encryption : {good u : Term Variable} → IsEncryption good → Matches good u → IsEncryption u
+match-encryption : {good u : Term Variable} → IsEncryption good → Becomes good u → IsEncryption u
 unfolding replace
 match-encryption is m = record { key = is .key; content = replace (m .by) (is .content); is = sym (m .same) ∙ ap (replace (m .by)) (is .is) }
 
@@ -265,11 +267,11 @@ encryption-tag e h b = (
 module _ {file e : List ℕ} {h : ℕ} (s : Standing file e h) {old : List ℕ} (long : length old ≡ 64) where
   pub no-encryption : ¬ (getD e (4 * h) 0 ≡ 3) → Cleared old old (HatOver (certificateOf file) (subAt e h) h)
   no-encryption off =
-      cleared-none long (λ k o w. off (encryption-tag e h (s .term) .0 (match-encryption (good-encryption (s .laid) (w .listed)) (w .match))))
+      cleared-none long (λ k o w. off (encryption-tag e h (s .term) .0 (match-encryption (good-encryption (s .laid) (w .listed)) (becomes (w .match)))))
 
   pub none-below : {end : ℕ} → end ≡ h + size (subAt e h) → ¬ SomeOn old (h + 1) end → Cleared old old (HatOver (certificateOf file) (subAt e h) h)
   none-below is none = cleared-none long (λ k o w.
-      let inside = mark-inside (good-encryption (s .laid) (w .listed)) (w .match) (w .mark) in
+      let inside = mark-inside (good-encryption (s .laid) (w .listed)) (becomes (w .match)) (w .mark) in
       none (record { number = k; above = let l = inside .0 in omega arith; below = let l = inside .1 in omega arith; on = o }))
 
 -- Entry after entry.
@@ -302,7 +304,7 @@ module _ {file : List ℕ} (laid : Laid file) {e : List ℕ} (b : Begins e) {k :
       let q = spotted (termOf e) (w .over) (w .before) in
       let u : subAt e (w .over) ≡ q .subterm = subterm-at (q .is) (term-reads b refl) in
       let hat : HatOver (certificateOf file) (q .subterm) (w .over) k = rw u at (w .hat) in
-      let inside = mark-inside (good-encryption laid (hat .listed)) (hat .match) (hat .mark) in
+      let inside = mark-inside (good-encryption laid (hat .listed)) (becomes (hat .match)) (hat .mark) in
       let above = strictly-above-entry (q .is) low .1 inside in
       record {
         place = q .place;

@@ -8,10 +8,11 @@ use Prim.Native.Nat.{ℕ, _+_, _*_, _<_, _≤_}
 use native.Mathlib.Omega.{arith}
 use borrow.Rule.Slice.PartAt.{part-to-end}
 use lib.ListN.{length, drop, length-drop}
-use Rattle.terms.specs.Term.{Term, Variable, variable, atom, pair, encrypted, Sort, plain, marked, named, replace}
-use Rattle.terms.specs.Tag.{pairTag, encryptionTag, markedTag, sortTag}
+use Rattle.terms.specs.Term.{Term, Variable, variable, atom, pair, encrypted, Range, sort, plain, named, replace}
+use Rattle.terms.specs.Tag.{pairTag, encryptionTag, MarkedTag}
+use Rattle.terms.proofs.TagLaws.{marked-sort, plain-sort, marked-variable}
 use Rattle.terms.specs.Place.{Turn, Place, left, right, inside, subtermAt, AtOrAbove}
-use Rattle.terms.specs.Instance.{Matches}
+use Rattle.terms.specs.Seek.{Becomes}
 use Rattle.terms.specs.Entry.{size, termOf, tagAt, valueAt, Reads, Begins, from, entryAt, Placed}
 use Rattle.terms.specs.Reading.{First, first-atom, first-pair, first-wrapped, first-variable, first}
 use Rattle.terms.proofs.EntryLaws.{termOf-reads, term-reads, begins, fits, PairFirst, pair-first, right-begins, EncryptionFirst, encryption-first, from-length}
@@ -20,19 +21,19 @@ use Rattle.terms.specs.TermGraph.{rightIn}
 use Rattle.terms.proofs.TermGraphLaws.{pair-in, wrapped-in}
 use Rattle.terms.proofs.PlaceLaws.{append-cancel, subtermAt-append, on-the-way}
 use Rattle.terms.proofs.PlacedLaws.{placed, within, placed-below, one-place, at-or-above-entry}
-use Rattle.judge.specs.Hat.{Mark, Cancels, everywhere, atMark}
+use Rattle.judge.specs.Hat.{markNamed, Mark, Cancels, everywhere, atMark}
 use Rattle.judge.specs.Cover.{MarkBelow, MayCancel, cancels, belowPlace}
 use Rattle.judge.specs.CoverEntries.{subAt, Painted, Raised, MarkOver, MarkUnder, CancelsOver, MayCancelOver, Laying}
 use Rattle.judge.proofs.Covering.Flags.{painted-raised, raised-none, raised-as, raised-twice}
 
 -- What stands at a place is a marked variable: not at the root of another term.
 module _ {h k : ℕ} where
-  pub mark-marked : (x : ℕ) (u : Term Variable) → MarkOver (variable (named marked x)) u h k ↔ ((h ≤ k) × (k < h + size u))
+  pub mark-marked : (x : Range × ℕ) (u : Term Variable) → MarkOver (variable (markNamed x)) u h k ↔ ((h ≤ k) × (k < h + size u))
   unfolding subtermAt entryAt
   mark-marked x u = (
     λ m. to (m .place) (m .stands) (m .under) (m .low) (m .high),
     λ w. record {
-      number = x;
+      name = x;
       place = [];
       subterm = u;
       stands = refl;
@@ -42,18 +43,18 @@ module _ {h k : ℕ} where
     },
   )
     where
-      to : (p : Place) {n : ℕ} {s : Term Variable} → subtermAt p (variable (named marked x)) ≡ some (variable (named marked n)) → subtermAt p u ≡ some s
+      to : (p : Place) {n : Range × ℕ} {s : Term Variable} → subtermAt p (variable (markNamed x)) ≡ some (variable (markNamed n)) → subtermAt p u ≡ some s
           → h + entryAt p u ≤ k → k < h + entryAt p u + size s → (h ≤ k) × (k < h + size u)
       to [] {n} {s} e f l g = let same : s ≡ u = cc in let is : size s ≡ size u = ap size same in (omega arith, omega arith)
       to (left ∷ p) e f l g = absurd (Option·none-ne-some _ e)
       to (right ∷ p) e f l g = absurd (Option·none-ne-some _ e)
       to (inside ∷ p) e f l g = absurd (Option·none-ne-some _ e)
 
-  pub mark-plain : (x : ℕ) (u : Term Variable) → ¬ MarkOver (variable (named plain x)) u h k
+  pub mark-plain : (r : Range) (x : ℕ) (u : Term Variable) → ¬ MarkOver (variable (named (sort plain r) x)) u h k
   unfolding subtermAt
-  mark-plain x u m = go (m .place) (m .stands)
+  mark-plain r x u m = go (m .place) (m .stands)
     where
-      go : (p : Place) → subtermAt p (variable (named plain x)) ≡ some (variable (named marked (m .number))) → ⊥
+      go : (p : Place) → subtermAt p (variable (named (sort plain r) x)) ≡ some (variable (markNamed (m .name))) → ⊥
       go [] e = let z : _≡_ {A = ℕ} 0 1 = cc in omega arith
       go (left ∷ p) e = Option·none-ne-some _ e
       go (right ∷ p) e = Option·none-ne-some _ e
@@ -63,7 +64,7 @@ module _ {h k : ℕ} where
   unfolding subtermAt
   mark-atom a u m = go (m .place) (m .stands)
     where
-      go : (p : Place) → subtermAt p (atom a) ≡ some (variable (named marked (m .number))) → ⊥
+      go : (p : Place) → subtermAt p (atom a) ≡ some (variable (markNamed (m .name))) → ⊥
       go [] e = let z : _≡_ {A = ℕ} 0 1 = cc in omega arith
       go (left ∷ p) e = Option·none-ne-some _ e
       go (right ∷ p) e = Option·none-ne-some _ e
@@ -74,7 +75,7 @@ module _ {h k : ℕ} where
       → ((p : Place) → subtermAt (a ∷ p) u ≡ subtermAt p over) → ((p : Place) → at + entryAt p over ≡ h + entryAt (a ∷ p) u)
       → MarkOver below over at k → MarkOver good u h k
   turned a {at} {good} {u} {below} {over} stands under number m = record {
-    number = m .number;
+    name = m .name;
     place = a ∷ m .place;
     subterm = m .subterm;
     stands = stands (m .place) ∙ m .stands;
@@ -90,23 +91,23 @@ module _ {h k : ℕ} where
     turned inside (λ p. refl) (λ p. refl) (λ p. omega arith),
   )
     where
-      to : (p : Place) {n : ℕ} {s : Term Variable} → subtermAt p (encrypted i a) ≡ some (variable (named marked n)) → subtermAt p (encrypted j c) ≡ some s
+      to : (p : Place) {n : Range × ℕ} {s : Term Variable} → subtermAt p (encrypted i a) ≡ some (variable (markNamed n)) → subtermAt p (encrypted j c) ≡ some s
           → h + entryAt p (encrypted j c) ≤ k → k < h + entryAt p (encrypted j c) + size s → MarkOver a c (h + 1) k
       to [] e f l g = let z : _≡_ {A = ℕ} 0 1 = cc in absurd (omega arith)
       to (left ∷ p) e f l g = absurd (Option·none-ne-some _ e)
       to (right ∷ p) e f l g = absurd (Option·none-ne-some _ e)
-      to (inside ∷ p) e f l g = record { number = _; place = p; subterm = _; stands = e; under = f; low = omega arith; high = omega arith }
+      to (inside ∷ p) e f l g = record { name = _; place = p; subterm = _; stands = e; under = f; low = omega arith; high = omega arith }
 
   pub mark-pair : (a b c d : Term Variable) → MarkOver (pair a b) (pair c d) h k ↔ (MarkOver a c (h + 1) k ⊎ MarkOver b d (h + 1 + size c) k)
   unfolding subtermAt entryAt
   mark-pair a b c d = (λ m. to (m .place) (m .stands) (m .under) (m .low) (m .high), back)
     where
-      to : (p : Place) {n : ℕ} {s : Term Variable} → subtermAt p (pair a b) ≡ some (variable (named marked n)) → subtermAt p (pair c d) ≡ some s
+      to : (p : Place) {n : Range × ℕ} {s : Term Variable} → subtermAt p (pair a b) ≡ some (variable (markNamed n)) → subtermAt p (pair c d) ≡ some s
           → h + entryAt p (pair c d) ≤ k → k < h + entryAt p (pair c d) + size s → MarkOver a c (h + 1) k ⊎ MarkOver b d (h + 1 + size c) k
       to [] e f l g = let z : _≡_ {A = ℕ} 0 1 = cc in absurd (omega arith)
       to (inside ∷ p) e f l g = absurd (Option·none-ne-some _ e)
-      to (left ∷ p) e f l g = inl (record { number = _; place = p; subterm = _; stands = e; under = f; low = omega arith; high = omega arith })
-      to (right ∷ p) e f l g = inr (record { number = _; place = p; subterm = _; stands = e; under = f; low = omega arith; high = omega arith })
+      to (left ∷ p) e f l g = inl (record { name = _; place = p; subterm = _; stands = e; under = f; low = omega arith; high = omega arith })
+      to (right ∷ p) e f l g = inr (record { name = _; place = p; subterm = _; stands = e; under = f; low = omega arith; high = omega arith })
 
       back : MarkOver a c (h + 1) k ⊎ MarkOver b d (h + 1 + size c) k → MarkOver (pair a b) (pair c d) h k
       back (inl m) = turned left (λ p. refl) (λ p. refl) (λ p. omega arith) m
@@ -122,11 +123,11 @@ module _ {t u s : Term Variable} {h k : ℕ} {q p : Place} (high : Placed t h q 
           let way = on-the-way (q ++ m .place) (m .above .rest) t (rw (m .above .split) at (low .stands)) in
           let under : subtermAt (m .place) u ≡ some (way .subterm) = sym (subtermAt-append q (m .place) t (high .stands)) ∙ way .stands in
           let b = at-or-above-entry (placed-below high (placed (m .place) u under)) low .0 (m .above) in
-          record { number = m .number; place = m .place; subterm = way .subterm; stands = m .stands; under = under; low = b .0; high = b .1 }
+          record { name = m .name; place = m .place; subterm = way .subterm; stands = m .stands; under = under; low = b .0; high = b .1 }
 
       back : MarkOver pattern u h k → Mark pattern q p
       back m = record {
-        number = m .number;
+        name = m .name;
         place = m .place;
         stands = m .stands;
         above = at-or-above-entry (placed-below high (placed (m .place) u (m .under))) low .1 (m .low, m .high);
@@ -144,7 +145,7 @@ module _ {t u s : Term Variable} {h k : ℕ} {q p : Place} (high : Placed t h q 
           let under : subtermAt down u ≡ some s = sym (subtermAt-append q down t (high .stands)) ∙ ap (λ (x : Place). subtermAt x t) (sym (above .split)) ∙ low .stands in
           let there = placed-below high (placed down u under) in
           record {
-            number = m .number;
+            name = m .name;
             place = down;
             rest = m .below .rest;
             subterm = s;
@@ -158,7 +159,7 @@ module _ {t u s : Term Variable} {h k : ℕ} {q p : Place} (high : Placed t h q 
           let there : Placed t k (q ++ m .place) (m .subterm) = rw (m .entry) at (placed-below high (placed (m .place) u (m .under))) in
           let same : q ++ m .place ≡ p = one-place there low in
           record {
-            number = m .number;
+            name = m .name;
             place = m .place ++ m .rest;
             stands = m .stands;
             below = record { rest = m .rest; split = sym (append-assoc q (m .place) (m .rest)) ∙ ap (λ (x : Place). x ++ m .rest) same };
@@ -190,7 +191,7 @@ module _ {t u s : Term Variable} {h k : ℕ} {q p : Place} (high : Placed t h q 
       back (inr (inr m)) = belowPlace (mark-below-place above .1 m)
 
 -- What an encryption's marks cover lies strictly below it.
-pub mark-inside : {good u : Term Variable} {h k : ℕ} → IsEncryption good → Matches good u → MarkOver good u h k → (h < k) × (k < h + size u)
+pub mark-inside : {good u : Term Variable} {h k : ℕ} → IsEncryption good → Becomes good u → MarkOver good u h k → (h < k) × (k < h + size u)
 unfolding replace size
 mark-inside {good} {u} {h} {k} is match m =
     let content = replace (match .by) (is .content) in
@@ -215,7 +216,7 @@ module _ {p e : List ℕ} {h : ℕ} (l : Laying p e h) where
       let start = l .inside in omega (arith, length-drop (4 * h) e)
 
   -- The next part, with the pattern's part on it.
-  next : {a c : Term Variable} {m n : List (Term Variable)} {q : List ℕ} {k : ℕ} → Reads q (a ∷ m) → Reads (drop (4 * k) e) (c ∷ n) → Matches a c → Laying q e k
+  next : {a c : Term Variable} {m n : List (Term Variable)} {q : List ℕ} {k : ℕ} → Reads q (a ∷ m) → Reads (drop (4 * k) e) (c ∷ n) → Becomes a c → Laying q e k
   next {a} {c} {q = q} {k} pattern term match =
       let is : termOf q ≡ a = termOf-reads pattern in
       let there : subAt e k ≡ c = termOf-reads (from-reads e (4 * k) term) in
@@ -237,8 +238,8 @@ module _ {p e : List ℕ} {h : ℕ} (l : Laying p e h) where
     pub term : subAt e h ≡ pair c d
     pub left-term : Reads (drop (4 * (h + 1)) e) (c ∷ d ∷ more)
     pub right-term : Reads (drop (4 * rightIn e h) e) (d ∷ more)
-    pub left-match : Matches (first .left) c
-    pub right-match : Matches (first .right) d
+    pub left-match : Becomes (first .left) c
+    pub right-match : Becomes (first .right) d
 
   pub pair-laid : tagAt p ≡ pairTag → PairLaid
   unfolding replace
@@ -313,7 +314,7 @@ module _ {p e : List ℕ} {h : ℕ} (l : Laying p e h) where
     pub more : List (Term Variable)
     pub term : subAt e h ≡ encrypted key c
     pub content-term : Reads (drop (4 * (h + 1)) e) (c ∷ more)
-    pub content-match : Matches (first .content) c
+    pub content-match : Becomes (first .content) c
 
   pub encryption-laid : tagAt p ≡ encryptionTag → EncryptionLaid
   unfolding replace
@@ -348,34 +349,26 @@ module _ {p e : List ℕ} {h : ℕ} (l : Laying p e h) where
             rw (termOf-reads (w .first .below), termOf-reads (w .first .whole), content-is, w .term) (m .1, m .0)
 
   -- A mark: every entry of the term is at or below it.
-  pub mark-raised : tagAt p ≡ markedTag → {a b : List ℕ} {r : ℕ} → r ≡ size (subAt e h) → Painted a b h (h + r) 1 → Raised a b (MarkOver (termOf p) (subAt e h) h)
-  unfolding sortTag
+  pub mark-raised : MarkedTag (tagAt p) → {a b : List ℕ} {r : ℕ} → r ≡ size (subAt e h) → Painted a b h (h + r) 1 → Raised a b (MarkOver (termOf p) (subAt e h) h)
   mark-raised tag {a} {b} {r} is painted = raised-as (painted-raised painted) (λ k. go k (first (l .pattern .reads)))
     where
-      marked-sort : (s : Sort) → tagAt p ≡ sortTag s → s ≡ marked
-      marked-sort plain g = absurd (omega arith)
-      marked-sort marked g = refl
-
       go : (k : ℕ) → First (tagAt p) (valueAt p) (drop 4 p) (l .pattern .term ∷ l .pattern .others)
           → ((h ≤ k) × (k < h + r)) ↔ MarkOver (termOf p) (subAt e h) h k
       go k (first-variable {s = s} g v n q m) =
-          let w = mark-marked {h = h} {k = k} (valueAt p) (subAt e h) in
-          rw (termOf-reads (rw q at (l .pattern .reads)), marked-sort s g, is) (w .1, w .0)
-      go k (first-atom g q m) = absurd (omega arith)
-      go k (first-pair g n q m) = absurd (omega arith)
-      go k (first-wrapped i g q m) = absurd (omega arith)
+          let sorted = marked-sort s g tag in
+          let w = mark-marked {h = h} {k = k} (sorted .0, valueAt p) (subAt e h) in
+          rw (termOf-reads (rw q at (l .pattern .reads)), sorted .1, is) (w .1, w .0)
+      go k (first-atom g q m) = absurd (omega (arith, marked-variable tag))
+      go k (first-pair g n q m) = absurd (omega (arith, marked-variable tag))
+      go k (first-wrapped i g q m) = absurd (omega (arith, marked-variable tag))
 
   -- Any other symbol has no mark.
-  pub no-mark : ¬ (tagAt p ≡ pairTag) → ¬ (tagAt p ≡ encryptionTag) → ¬ (tagAt p ≡ markedTag) → {a : List ℕ} → length a ≡ 64 → Raised a a (MarkOver (termOf p) (subAt e h) h)
-  unfolding sortTag
+  pub no-mark : ¬ (tagAt p ≡ pairTag) → ¬ (tagAt p ≡ encryptionTag) → ¬ MarkedTag (tagAt p) → {a : List ℕ} → length a ≡ 64 → Raised a a (MarkOver (termOf p) (subAt e h) h)
   no-mark no-pair no-encryption no-marked {a} long = raised-none long (λ k. go k (first (l .pattern .reads)))
     where
-      plain-sort : (s : Sort) → tagAt p ≡ sortTag s → s ≡ plain
-      plain-sort plain g = refl
-      plain-sort marked g = absurd (no-marked g)
-
       go : (k : ℕ) → First (tagAt p) (valueAt p) (drop 4 p) (l .pattern .term ∷ l .pattern .others) → ¬ MarkOver (termOf p) (subAt e h) h k
       go k (first-atom g q m) = rw (termOf-reads (rw q at (l .pattern .reads))) (mark-atom {h = h} {k = k} (valueAt p) (subAt e h))
       go k (first-pair g n q m) = absurd (no-pair g)
       go k (first-wrapped i g q m) = absurd (no-encryption g)
-      go k (first-variable {s = s} g v n q m) = rw (termOf-reads (rw q at (l .pattern .reads)), plain-sort s g) (mark-plain {h = h} {k = k} (valueAt p) (subAt e h))
+      go k (first-variable {s = s} g v n q m) =
+          let sorted = plain-sort s g no-marked in rw (termOf-reads (rw q at (l .pattern .reads)), sorted .1) (mark-plain {h = h} {k = k} (sorted .0) (valueAt p) (subAt e h))

@@ -45,11 +45,11 @@ module _ {c : Certificate} {u : Term Variable} {h k : ℕ} where
       sharesNoGood (λ good l s. none (record { term = good; listed = l; holds = s }))
   never-over (inr m) = isBad (m .listed) (m .holds .1) (inl (λ marked. m .holds .0 (refl, marked)))
 
-  kept-over : AnyListed c badKind (Lays u h k) → NoHatOver c u h k
+  kept-over : AnyListed c badKind (Lays (c .atoms) u h k) → NoHatOver c u h k
   unfolding listedOf
   kept-over a = isBad (a .listed) (a .holds .0) (inr (a .holds .1))
 
-  over-kept : ¬ NeverHat c u → NoHatOver c u h k → AnyListed c badKind (Lays u h k)
+  over-kept : ¬ NeverHat c u → NoHatOver c u h k → AnyListed c badKind (Lays (c .atoms) u h k)
   unfolding listedOf
   over-kept never (sharesNoGood none) = absurd (never (inl (λ a. none (a .term) (a .listed) (a .holds))))
   over-kept never (isBad {bad} l m (inl off)) = absurd (never (inr (record { term = bad; listed = l; holds = (λ w. off (w .1), m) })))
@@ -69,7 +69,7 @@ module _ {c : Certificate} {e : List ℕ} {h : ℕ} where
   }
 
   pub closed-below : {old new kept : List ℕ} {end : ℕ} → getD e (4 * h) 0 ≡ 3 → ¬ NeverHat c (subAt e h) → end ≡ h + size (subAt e h)
-      → Flags kept (λ k. AnyListed c badKind (Lays (subAt e h) h k)) → Narrowed old new (h + 1) end kept → ClosedBelow c old new e h
+      → Flags kept (λ k. AnyListed c badKind (Lays (c .atoms) (subAt e h) h k)) → Narrowed old new (h + 1) end kept → ClosedBelow c old new e h
   closed-below tag never is f n = record {
     long = n .long;
     bits = n .bits;

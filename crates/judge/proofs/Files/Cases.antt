@@ -7,10 +7,11 @@ use Prim.Native.Nat.{ℕ, zero, suc, _+_}
 use Prim.Native.String.{String}
 use Rattle.blocks.specs.Block.{blockAt}
 use Rattle.blocks.specs.Check.{sealed}
-use Rattle.terms.specs.Term.{Term, Variable, variable, atom, pair, encrypted, plain, marked, named}
+use Rattle.terms.specs.Term.{Term, Variable, variable, atom, pair, encrypted, sort, plain, marked, anyMessage, oneNonce, named}
 use Rattle.terms.specs.Entry.{termEntries, size}
 use Rattle.terms.specs.Instance.{Share}
-use Rattle.terms.specs.Decide.{share?, variable?}
+use Rattle.terms.specs.Decide.{share?}
+use Rattle.terms.specs.Atom.{atomsOf}
 use Rattle.terms.proofs.AnswerLaws.{yes-of, no-of}
 use Rattle.judge.specs.File.{ruleOf, certificateOf}
 use Rattle.judge.specs.Cover.{Dead}
@@ -65,7 +66,7 @@ joined (b ∷ l) = b ++ joined l
 
 -- Atoms: 0 A, 1 I, principals, known; 2 public key of A, known, and 3 its private key, unknown; 4 public key of I and 5
 -- its private key, both known; 6 nonce N, unknown; 7 nonce T, known.
-eight : List ℕ
+pub eight : List ℕ
 eight =
     1 ∷ 1 ∷ 0 ∷ 0 ∷ 1 ∷ 1 ∷ 0 ∷ 0 ∷ 3 ∷ 1 ∷ 3 ∷ 0 ∷ 4 ∷ 0 ∷ 2 ∷ 0
     ∷ 3 ∷ 1 ∷ 5 ∷ 0 ∷ 4 ∷ 1 ∷ 4 ∷ 0 ∷ 2 ∷ 0 ∷ 0 ∷ 0 ∷ 2 ∷ 1 ∷ 0 ∷ 0 ∷ []
@@ -87,13 +88,23 @@ abbrev T : Term Variable
 T = atom 7
 
 abbrev x : Term Variable
-x = variable (named plain 0)
+x = variable (named (sort plain anyMessage) 0)
 
 abbrev y : Term Variable
-y = variable (named plain 1)
+y = variable (named (sort plain anyMessage) 1)
 
 abbrev s : Term Variable
-s = variable (named marked 0)
+s = variable (named (sort marked anyMessage) 0)
+
+-- Nonce variables (02, No. 3): two plain ones, and a marked one, of the numbers of x, y and *s.
+abbrev n : Term Variable
+n = variable (named (sort plain oneNonce) 0)
+
+abbrev m : Term Variable
+m = variable (named (sort plain oneNonce) 1)
+
+abbrev r : Term Variable
+r = variable (named (sort marked oneNonce) 0)
 
 -- "Secrets N and 3; good {*s}2, unless said."
 usual : List (List ℕ) → List ℕ
@@ -126,6 +137,36 @@ more n = block 1 (1 + n) 0 (3 ∷ 1 ∷ 125 ∷ 0 ∷ nonces n)
 abbrev L : Term Variable
 L = atom 125
 
+-- ---- Needham, Schroeder and Lowe (02, No. 3, and source 004, Example 1 and section 6)
+
+-- Atoms: 0 A, 1 I, principals, known; 2 public key of A, known, and 3 its private key, unknown; 4 public key of I and 5 its
+-- private key, both known; 6 to 11 nonces of the sessions, unknown: those of the fixed session, of the other sessions of A
+-- with A, and of those with I, N1 before N2 each time; 12 the intruder's nonce, known.
+parties : List ℕ
+unfolding block
+parties = block 1 13 0 (
+    1 ∷ 1 ∷ 0 ∷ 0 ∷ 1 ∷ 1 ∷ 0 ∷ 0 ∷ 3 ∷ 1 ∷ 3 ∷ 0 ∷ 4 ∷ 0 ∷ 2 ∷ 0 ∷ 3 ∷ 1 ∷ 5 ∷ 0 ∷ 4 ∷ 1 ∷ 4 ∷ 0
+    ∷ 2 ∷ 0 ∷ 0 ∷ 0 ∷ 2 ∷ 0 ∷ 0 ∷ 0 ∷ 2 ∷ 0 ∷ 0 ∷ 0 ∷ 2 ∷ 0 ∷ 0 ∷ 0 ∷ 2 ∷ 0 ∷ 0 ∷ 0 ∷ 2 ∷ 0 ∷ 0 ∷ 0 ∷ 2 ∷ 1 ∷ 0 ∷ 0 ∷ [])
+
+-- A session of the initiator a, who has the public key i and the nonce na, with the responder b, who has the key j and the
+-- nonce nb: a names itself and sends na; b sends back what it read, with nb; a sends back what it then read. `said` puts b's
+-- name before what b sends back, or leaves it out.
+session : (Term Variable → Term Variable → Term Variable) → Term Variable → ℕ → Term Variable → Term Variable → ℕ → Term Variable → List (List ℕ)
+unfolding start from
+session said a i na b j nb =
+    start (encrypted j (pair a na))
+    ∷ from (encrypted j (pair a n)) (encrypted i (said b (pair n nb)))
+    ∷ from (encrypted i (said b (pair na n))) (encrypted j n)
+    ∷ []
+
+-- A with I, I with A, the fixed session of A with A, other sessions of A with A; secrets N2 and A's private key.
+handshake : (Term Variable → Term Variable → Term Variable) → Term Variable → List ℕ
+unfolding joined parties secret good session
+handshake said protects =
+    joined (parties ∷ secret (atom 7) ∷ secret (atom 3) ∷ good protects ∷ good (encrypted 2 r)
+    ∷ (session said (atom 0) 2 (atom 10) (atom 1) 4 (atom 12) ++ (session said (atom 1) 4 (atom 12) (atom 0) 2 (atom 11)
+    ++ (session said (atom 0) 2 (atom 6) (atom 0) 2 (atom 7) ++ session said (atom 0) 2 (atom 8) (atom 0) 2 (atom 9)))))
+
 -- ---- the table
 
 -- What the documents say of a case.
@@ -136,14 +177,14 @@ pub data Case : Type 0 where
   printed : List ℕ → String → Case
   -- The rule of this block is dead.
   isDead : List ℕ → ℕ → Case
-  -- The two terms share no instance.
+  -- The two terms share no instance, over document 01's atoms.
   apart : Term Variable → Term Variable → Case
 
 abbrev pub Holds : Case → Type 0
 Holds (judged file values) = verdictValues (verdictOf file) ≡ values
 Holds (printed file line) = lineOf (verdictOf file) ≡ textOf line
 Holds (isDead file i) = Dead (certificateOf file) (ruleOf (blockAt file i))
-Holds (apart s t) = Share s t → ⊥
+Holds (apart s t) = Share (atomsOf eight) s t → ⊥
 
 accepted : ℕ → ℕ → ℕ → ℕ → ℕ → VerdictValues
 accepted blocks secrets goods bads rules = record { number = 0; values = blocks ∷ secrets ∷ goods ∷ bads ∷ rules ∷ [] }
@@ -167,7 +208,7 @@ unfolding usual from
 k = usual (from N K ∷ [])
 
 pub table : List Case
-unfolding a b k usual joined atoms secret good bad from start accepted refused full more firstAtoms block zeros
+unfolding a b k usual joined atoms secret good bad from start accepted refused full more firstAtoms block zeros handshake
 table =
     judged a (accepted 5 2 1 0 1)
     ∷ printed a "accepted blocks=5 secrets=2 good=1 bad=0 rules=1\n"
@@ -235,6 +276,40 @@ table =
     ∷ judged
     (usual (bad (encrypted 2 (pair I (pair x s))) ∷ bad (encrypted 2 (pair T s)) ∷ start (encrypted 2 (pair I (pair T N))) ∷ []))
     (refused 12 6 5)
+    -- a nonce variable in a secret, a marked one in a rule, and one of number 8
+    ∷ judged (joined (atoms ∷ secret n ∷ [])) (refused 7 1 0)
+    ∷ judged (usual (start r ∷ [])) (refused 7 4 0)
+    ∷ judged (usual (start (variable (named (sort plain oneNonce) 8)) ∷ [])) (refused 7 4 0)
+    -- good {*r}2 of a nonce instead: {N}2; {3}2, a key; {n}2 to {n}2, and {x}2 to {x}2, where x is not known to be a nonce
+    ∷ judged (joined (atoms ∷ secret N ∷ secret K ∷ good (encrypted 2 r) ∷ start (encrypted 2 N) ∷ [])) (accepted 5 2 1 0 1)
+    ∷ judged (joined (atoms ∷ secret N ∷ secret K ∷ good (encrypted 2 r) ∷ start (encrypted 2 K) ∷ [])) (refused 12 4 1)
+    ∷ judged (joined (atoms ∷ secret N ∷ secret K ∷ good (encrypted 2 r) ∷ from (encrypted 2 n) (encrypted 2 n) ∷ [])) (accepted 5 2 1 0 1)
+    ∷ judged (joined (atoms ∷ secret N ∷ secret K ∷ good (encrypted 2 r) ∷ from (encrypted 2 x) (encrypted 2 x) ∷ [])) (refused 12 4 3)
+    -- good {(n, *s)}2 instead: {(I, x)}2 shares no instance with it, {(T, x)}2 does, and {(y, x)}2 and {(m, x)}2 do
+    ∷ judged
+    (joined (atoms ∷ secret N ∷ secret K ∷ good (encrypted 2 (pair n s)) ∷ from (encrypted 2 (pair I x)) (encrypted 4 x) ∷ []))
+    (accepted 5 2 1 0 1)
+    ∷ judged (joined (atoms ∷ secret N ∷ secret K ∷ good (encrypted 2 (pair n s)) ∷ from (encrypted 2 (pair T x)) (encrypted 4 x) ∷ [])) (refused 12 4 5)
+    ∷ judged (joined (atoms ∷ secret N ∷ secret K ∷ good (encrypted 2 (pair n s)) ∷ from (encrypted 2 (pair y x)) (encrypted 4 x) ∷ [])) (refused 12 4 5)
+    ∷ judged (joined (atoms ∷ secret N ∷ secret K ∷ good (encrypted 2 (pair n s)) ∷ from (encrypted 2 (pair m x)) (encrypted 4 x) ∷ [])) (refused 12 4 5)
+    -- good {(x, (x, (x, *s)))}2 instead: in {(n, (y, ({T}4, x)))}2 the class of n meets an encryption later, with T it does not
+    ∷ judged
+    (joined (atoms ∷ secret N ∷ secret K ∷ good (encrypted 2 (pair x (pair x (pair x s))))
+    ∷ from (encrypted 2 (pair n (pair y (pair (encrypted 4 T) x)))) (encrypted 4 x) ∷ []))
+    (accepted 5 2 1 0 1)
+    ∷ judged
+    (joined (atoms ∷ secret N ∷ secret K ∷ good (encrypted 2 (pair x (pair x (pair x s)))) ∷ from (encrypted 2 (pair n (pair y (pair T x)))) (encrypted 4 x) ∷ []))
+    (refused 12 4 9)
+    -- {x}4 to n: a nonce variable is risky, and is not the plain variable of its number
+    ∷ judged (usual (from (encrypted 4 x) n ∷ [])) (refused 12 4 2)
+    -- and where no secret is a nonce
+    ∷ judged (joined (atoms ∷ secret K ∷ good (encrypted 2 s) ∷ start n ∷ [])) (refused 12 3 0)
+    -- bad {(I, *r)}2: it counts for a nonce at the mark, and has no key there
+    ∷ judged (usual (bad (encrypted 2 (pair I r)) ∷ start (encrypted 2 (pair I N)) ∷ [])) (refused 12 5 3)
+    ∷ judged (usual (bad (encrypted 2 (pair I r)) ∷ start (encrypted 2 (pair I K)) ∷ [])) (accepted 6 2 1 1 1)
+    -- Lowe's protocol, with goods {(A, (x, *s))}2 and {*r}2; the uncorrected one, with {(x, *s)}2 in place of the first
+    ∷ judged (handshake pair (encrypted 2 (pair (atom 0) (pair x s)))) (accepted 17 2 2 0 12)
+    ∷ judged (handshake (λ b t. t) (encrypted 2 (pair x s))) (refused 12 7 5)
     ∷ []
 
 -- ---- the theorem
@@ -255,13 +330,15 @@ each (_also_ {c = d} {l = l} p h) c m = go (List·Memᴰ·cases-cons m) (each h 
 
 -- All rows, computed.
 rows : Hold table
-unfolding table computing lineOf acceptedLine refusedLine threeFields fieldOf newline digitsOf share? variable? dead?
+unfolding table computing lineOf acceptedLine refusedLine threeFields fieldOf newline digitsOf share? atomsOf eight dead?
 rows =
     refl also refl also refl also refl also refl also refl also refl also refl also refl also refl also refl also refl also refl
     also yes-of (dead? (certificateOf k) (ruleOf (blockAt k 4))) refl
-    also no-of (share? variable? variable? (pair x x) (pair y (pair T y))) refl
+    also no-of (share? (atomsOf eight) (pair x x) (pair y (pair T y))) refl
     also refl also refl also refl also refl also refl also refl also refl also refl
     also refl also refl also refl also refl also refl also refl also refl also refl also refl also refl
+    also refl also refl also refl also refl also refl also refl also refl also refl also refl also refl
+    also refl also refl also refl also refl also refl also refl also refl also refl also refl
     also none
 
 -- "The starred ones, gathered in one table under one theorem", with those of the requests: every row of the table holds.

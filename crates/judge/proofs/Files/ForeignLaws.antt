@@ -11,7 +11,7 @@ use lib.ListN.{length}
 use Rattle.blocks.specs.Kinds.{secretKind, goodKind, badKind, ruleKind}
 use Rattle.blocks.specs.Limits.{mostAtoms}
 use Rattle.blocks.proofs.KindLaws.{secret-lists, good-lists, bad-lists}
-use Rattle.terms.specs.Term.{Term, variable, atom, pair, Variable, instance, replace, wrapped}
+use Rattle.terms.specs.Term.{Term, variable, atom, pair, Message, Variable, instance, replace, asTerm, wrapped}
 use Rattle.terms.specs.declared.atom.Atom.{Atom}
 use Rattle.terms.specs.Atom.{IsKey, isKey?}
 use Rattle.terms.proofs.AtomLaws.{key-listed}
@@ -20,7 +20,7 @@ use Rattle.terms.specs.Turns.{by-turns}
 use Rattle.terms.specs.Instance.{Matches, Share}
 use Rattle.terms.specs.Decisions.{dec-or}
 use Rattle.terms.specs.Built.{Built, MessageAtom}
-use Rattle.terms.proofs.BuiltLaws.{built-match, built-share}
+use Rattle.terms.proofs.BuiltLaws.{built-match, built-share, nonce-atom}
 use Rattle.terms.proofs.OneTermLaws.{TermRight, secret-bare, atomRight, pairRight, encryptedRight, variableRight}
 use Rattle.judge.specs.Certificate.{Certificate, Rule, Listed}
 use Rattle.judge.specs.File.{patternOf, secretOf, ruleOf, certificateOf, fileAtoms}
@@ -112,18 +112,26 @@ module _ (c : Certificate) (all : Holding (MessageAtom (c .atoms)) (IsKey (c .at
   subterm : (p : Place) (t : Term Variable) {s : Term Variable} → subtermAt p t ≡ some s → Proper t → Proper s
   subterm = built-subterm (MessageAtom (c .atoms)) (IsKey (c .atoms))
 
-  shared : {X Y : Type 0} {s : Term X} {t : Term Y} → Proper s → Proper t → Share s t → ProperShare c s t
-  shared = built-share atom? (isKey? (c .atoms)) 1000 (inr (omega arith))
+  -- A message, read as a term.
+  built-term : (m : Message) → Proper m → Proper {X = Variable} (asTerm m)
+  unfolding Built asTerm replace
+  built-term (variable x) b = absurd x
+  built-term (atom a) b = b
+  built-term (pair m n) b = (built-term m (b .0), built-term n (b .1))
+  built-term (wrapped w k m) b = (b .0, built-term m (b .1))
 
-  matched : {X Y : Type 0} {p : Term X} {t : Term Y} → Proper p → Proper t → Matches p t → ProperMatch c p t
-  matched = built-match atom? (isKey? (c .atoms)) 1000 (inr (omega arith))
+  shared : {s t : Term Variable} → Proper s → Proper t → Share (c .atoms) s t → ProperShare c s t
+  shared = built-share atom? (isKey? (c .atoms)) 1000 (inr (omega arith)) (c .atoms) nonce-atom
+
+  matched : {p t : Term Variable} → Proper p → Proper t → Matches (c .atoms) p t → ProperMatch c p t
+  matched = built-match atom? (isKey? (c .atoms)) 1000 (inr (omega arith)) (c .atoms) nonce-atom
 
   risky-same : {t : Term Variable} → Proper t → Risky c t ↔ ProperRisky c t
   risky-same {t} b = (to, back)
     where
       to : Risky c t → ProperRisky c t
       to (isVariable e) = proper.isVariable e
-      to (sharesSecret {secret = m} l s) = proper.sharesSecret l (shared b (all .secrets m l) s)
+      to (sharesSecret {secret = m} l s) = proper.sharesSecret l (shared b (built-term m (all .secrets m l)) s)
 
       back : ProperRisky c t → Risky c t
       back (proper.isVariable e) = isVariable e

@@ -26,11 +26,11 @@ pub record HatAbove (certificate : Certificate) (m : Message) (p : Place) : Type
 -- Marks, and what is cancelled, seen from above and from below.
 mark-under : (o : Place) {pattern : Term Variable} {q p : Place} → Mark pattern q p → Mark pattern (o ++ q) (o ++ p)
 mark-under o m =
-    record { number = m .number; place = m .place; stands = m .stands; above = rw append-assoc (at-or-above-under o (m .above)) }
+    record { name = m .name; place = m .place; stands = m .stands; above = rw append-assoc (at-or-above-under o (m .above)) }
 
 mark-from : (o : Place) {pattern : Term Variable} {q p : Place} → Mark pattern (o ++ q) (o ++ p) → Mark pattern q p
 mark-from o m =
-    record { number = m .number; place = m .place; stands = m .stands; above = at-or-above-from o (rw append-assoc at (m .above)) }
+    record { name = m .name; place = m .place; stands = m .stands; above = at-or-above-from o (rw append-assoc at (m .above)) }
 
 cancels-under : (o : Place) {bad : Term Variable} {q p : Place} → Cancels bad q p → Cancels bad (o ++ q) (o ++ p)
 cancels-under o (everywhere off) = everywhere off

@@ -35,7 +35,7 @@ module _ {certificate : Certificate} (meets : MeetsAll certificate) where
       (m : Message) → AfterStep has step m → Safe certificate m
   safe-step step base m (kept h) = base m h
   safe-step {has} step base m (added enabled e) =
-      rw e (safe-conclusion meets (step .by) (step .rule) (meets .passes (step .rule) (step .listed)) (premise enabled))
+      rw e (safe-conclusion meets (step .by) (step .nonces) (step .rule) (meets .passes (step .rule) (step .listed)) (premise enabled))
     where
       premise : Enabled has step → (t : Term Variable) → step .rule .premise ≡ some t →
           Safe certificate (instance (step .by) t)

@@ -5,10 +5,10 @@ use mathlib.Core.Logic.{_⊎_, inl, inr}
 use mathlib.Core.Option.{some}
 use Prim.Native.Nat.{ℕ}
 use native.Mathlib.Omega.{arith}
-use Rattle.terms.specs.Term.{Term, Message, Variable, replace, instance, encryption}
+use Rattle.terms.specs.Term.{Term, Message, Variable, noVariable, replace, instance, encryption}
 use Rattle.terms.specs.Place.{Place, subtermAt, StrictlyAbove, AtOrAbove}
-use Rattle.terms.specs.Instance.{Matches, Share}
-use Rattle.terms.proofs.InstanceLaws.{replace-message, replace-asTerm, matches-replace}
+use Rattle.terms.specs.Instance.{PutsNonces, Instance, Share}
+use Rattle.terms.proofs.InstanceLaws.{replace-asTerm, matches-replace, ground, ground-nonces}
 use Rattle.terms.proofs.PlaceLaws.{subtermAt-replace, beginnings, strictly-above-below, at-or-above-below, OnTheWay, on-the-way, Composite, composite, isPair, isWrapped}
 use Rattle.terms.proofs.PlaceLaws.{Edge, exact, below, Origin, origin}
 use Rattle.judge.specs.Certificate.{Rule, Certificate, Secret}
@@ -19,16 +19,16 @@ use Rattle.judge.specs.Conditions.{MeetsAll}
 use Rattle.judge.proofs.Runs.Safe.{Safe, HatAbove, safe-no-secret, protected-under, safe-part}
 use Rattle.judge.proofs.Runs.Derive.{HatRoot, hat-root}
 
-module _ {certificate : Certificate} (meets : MeetsAll certificate) (by : Variable → Message) where
+module _ {certificate : Certificate} (meets : MeetsAll certificate) (by : Variable → Message) (nonces : PutsNonces (certificate .atoms) noVariable by) where
   -- A term and a pattern with the term's instance for an instance share it.
-  shared : {pattern t : Term Variable} → Matches pattern (instance by t) → Share pattern t
-  shared {t} match = record { message = instance by t; left = match; right = record { by = by; same = refl } }
+  shared : {pattern t : Term Variable} → Instance (certificate .atoms) pattern (instance by t) → Share (certificate .atoms) pattern t
+  shared {t} match = record { message = instance by t; left = match; right = record { by = by; nonces = nonces; same = refl } }
 
   -- What is cancelled for a place is cancelled below it; and what is cancelled below it may be cancelled for the place.
   cancels-below : (r : Place) {bad : Term Variable} {q p : Place} → Cancels bad q p → Cancels bad q (p ++ r)
   cancels-below r (everywhere off) = everywhere off
   cancels-below r (atMark m) =
-      atMark (record { number = m .number; place = m .place; stands = m .stands; above = at-or-above-below r (m .above) })
+      atMark (record { name = m .name; place = m .place; stands = m .stands; above = at-or-above-below r (m .above) })
 
   cancelled-below : (r : Place) {bad : Term Variable} {q p : Place} → Cancels bad q (p ++ r) → MayCancel bad q p
   cancelled-below r (everywhere off) = cancels (everywhere off)
@@ -36,17 +36,17 @@ module _ {certificate : Certificate} (meets : MeetsAll certificate) (by : Variab
     where
       go : StrictlyAbove (q ++ m .place) p ⊎ AtOrAbove p (q ++ m .place) → MayCancel bad q p
       go (inl above) = cancels (atMark (record {
-        number = m .number;
+        name = m .name;
         place = m .place;
         stands = m .stands;
         above = record { rest = above .turn ∷ above .rest; split = above .split };
       }))
-      go (inr under) = belowPlace (record { number = m .number; place = m .place; stands = m .stands; below = under })
+      go (inr under) = belowPlace (record { name = m .name; place = m .place; stands = m .stands; below = under })
 
   -- What may stand above an open place becomes no hat, for the place and all below it.
   no-hat : {t good : Term Variable} {q p : Place} (r : Place) → NoHat certificate t q p → Hat certificate good (instance by t) q (p ++ r) → ⊥
   no-hat {good = good} r (sharesNoGood noGood) hat = noGood good (hat .listed) (shared (hat .match))
-  no-hat r (isBad {bad = bad} listed match over) hat = hat .notBad bad listed (matches-replace by match) (cancels-below r over)
+  no-hat r (isBad {bad = bad} listed match over) hat = hat .notBad bad listed (matches-replace by nonces match) (cancels-below r over)
 
   -- So no hat stands strictly above an open place of an instance.
   open-no-hat : {premise t : Term Variable} {p : Place} → Open certificate premise p → subtermAt p premise ≡ some t →
@@ -88,11 +88,11 @@ module _ {certificate : Certificate} (meets : MeetsAll certificate) (by : Variab
     good = x .good;
     hat = record {
       listed = x .listed;
-      match = matches-replace by (x .match);
+      match = matches-replace by nonces (x .match);
       notBad = λ bad listed match over. x .notBad bad listed (shared match) (cancelled-below r over);
     };
     mark = record {
-      number = x .mark .number;
+      name = x .mark .name;
       place = x .mark .place;
       stands = x .mark .stands;
       above = at-or-above-below r (x .mark .above);
@@ -111,8 +111,8 @@ module _ {certificate : Certificate} (meets : MeetsAll certificate) (by : Variab
           let found : subtermAt [] (instance by (x .subterm)) ≡ some s = rw e at (x .found) in
           sharesSecret secret (record {
             message = s;
-            left = record { by = by; same = cc };
-            right = record { by = λ x. absurd x; same = replace-message (λ x. absurd x) s };
+            left = record { by = by; nonces = nonces; same = cc };
+            right = record { by = ground; nonces = ground-nonces (certificate .atoms); same = replace-asTerm ground s };
           })
 
   -- The conclusion of a rule that passes is safe if its premise is.

@@ -1,48 +1,60 @@
 -- The blocks before the rules are a file of their own, which lists the same secrets and patterns and so judges every rule
 -- as the whole file does. Assumes nothing.
-use mathlib.Core.Path.{_≡_, sym, ap, subst, _∙_}
+use mathlib.Core.Path.{_≡_, sym, ap, ap₂, subst, _∙_}
 use mathlib.Core.Bool.{Bool, true, false}
 use mathlib.Core.List.{List, map, List·Memᴰ, Memᴰ·cast, Memᴰ·map, Memᴰ·of-map}
 use Prim.Native.Nat.{ℕ, _-_, _*_, _<_, _≤_}
 use native.Mathlib.Omega.{arith}
-use native.Mathlib.Decide.{decLt}
+use native.Mathlib.Decide.{ℕ-discrete, decLt}
 use lib.ListN.{length, take, drop}
 use lib.Seq.{length-take-le}
-use Rattle.blocks.specs.Kinds.{secretKind, goodKind, badKind, ruleKind}
+use Rattle.blocks.specs.Kinds.{atomsKind, secretKind, goodKind, badKind, ruleKind}
 use Rattle.blocks.specs.Limits.{blockSize}
-use Rattle.blocks.specs.Block.{blockAt, kindOf, Fitting}
+use Rattle.blocks.specs.Block.{blockAt, kindOf, firstEntries, Fitting}
 use Rattle.blocks.proofs.Parts.{block-before}
 use Rattle.terms.specs.declared.valid.Found.{Found}
 use Rattle.terms.specs.declared.valid.Found.the-variants.{Nothing}
 use Rattle.terms.specs.Term.{Term, Message, Variable}
 use Rattle.terms.specs.Place.{Place}
+use Rattle.terms.specs.Atom.{joinedAtoms}
+use Rattle.terms.specs.Instance.{Matches, Share}
 use Rattle.terms.specs.Entry.{size}
 use Rattle.terms.specs.Decide.{answer}
 use Rattle.terms.proofs.AnswerLaws.{answer-same}
 use Rattle.terms.specs.First.{FirstNot, fails, holds, firstNot}
 use Rattle.terms.proofs.FirstLaws.{first-is, first-only}
 use Rattle.judge.specs.Certificate.{Certificate, Rule, Secret, Good, Bad}
-use Rattle.judge.specs.File.{blockCount, TwoAtomBlocks, blocksOf, ofKind, patternOf, secretOf, certificateOf}
+use Rattle.judge.specs.File.{blockCount, TwoAtomBlocks, moreEntries, fileAtoms, blocksOf, ofKind, patternOf, secretOf, certificateOf}
 use Rattle.judge.specs.Laid.{Laid}
 use Rattle.judge.specs.Cover.{SureHat, NoHat, sharesNoGood, isBad, AtOpenPlace, Risky, isVariable, sharesSecret, Covered, sureHat, inPremise, Dead}
 use Rattle.judge.specs.Decisions.{dead?}
 use Rattle.judge.specs.Verdict.{FineSpot, fine?, uncovered}
 use Rattle.judge.specs.Judgement.{OnlyRulesFrom, Heads}
-use Rattle.judge.proofs.Files.AtomBlocks.{two-inside}
+use Rattle.judge.proofs.Files.AtomBlocks.{one-block, two-blocks, two-inside}
 use Rattle.judge.proofs.Files.Members.{block-listed, listed-block}
 
 -- ---- what the judging of a rule asks of a certificate
 
--- What one certificate lists of secrets and patterns, the other does too.
+-- The atoms are the same, and what one certificate lists of secrets and patterns, the other does too.
 record Sublists (c d : Certificate) : Type 0 where
+  atoms : d .atoms ≡ c .atoms
   secret : (m : Message) → Secret c m → Secret d m
   good : (t : Term Variable) → Good c t → Good d t
   bad : (t : Term Variable) → Bad c t → Bad d t
 
 module _ {c d : Certificate} (out : Sublists c d) (back : Sublists d c) where
+  share : {s t : Term Variable} → Share (c .atoms) s t → Share (d .atoms) s t
+  share h = rw (out .atoms) h
+
+  share-back : {s t : Term Variable} → Share (d .atoms) s t → Share (c .atoms) s t
+  share-back h = rw (back .atoms) h
+
+  match : {s t : Term Variable} → Matches (c .atoms) s t → Matches (d .atoms) s t
+  match h = rw (out .atoms) h
+
   no-hat : {t : Term Variable} {q p : Place} → NoHat c t q p → NoHat d t q p
-  no-hat (sharesNoGood none) = sharesNoGood (λ g l. none g (back .good g l))
-  no-hat (isBad {bad} l m over) = isBad (out .bad bad l) m over
+  no-hat (sharesNoGood none) = sharesNoGood (λ g l s. none g (back .good g l) (share-back s))
+  no-hat (isBad {bad} l m over) = isBad (out .bad bad l) (match m) over
 
   at-open : {rule : Rule} {t : Term Variable} → AtOpenPlace c rule t → AtOpenPlace d rule t
   at-open o = record {
@@ -58,7 +70,7 @@ module _ {c d : Certificate} (out : Sublists c d) (back : Sublists d c) where
 
   risky : {t : Term Variable} → Risky c t → Risky d t
   risky (isVariable e) = isVariable e
-  risky (sharesSecret {secret} l s) = sharesSecret (out .secret secret l) s
+  risky (sharesSecret {secret} l s) = sharesSecret (out .secret secret l) (share s)
 
   sure-hat : {t : Term Variable} {p : Place} → SureHat c t p → SureHat d t p
   sure-hat h = record {
@@ -68,9 +80,9 @@ module _ {c d : Certificate} (out : Sublists c d) (back : Sublists d c) where
     stands = h .stands;
     good = h .good;
     listed = out .good (h .good) (h .listed);
-    match = h .match;
+    match = match (h .match);
     mark = h .mark;
-    notBad = λ b l. h .notBad b (back .bad b l);
+    notBad = λ b l s. h .notBad b (back .bad b l) (share-back s);
   }
 
   covered : {rule : Rule} {p : Place} {t : Term Variable} → Covered c rule p t → Covered d rule p t
@@ -136,9 +148,38 @@ module _ {file : List ℕ} {n : ℕ} (laid : Laid file) (only : OnlyRulesFrom fi
         | no past ↦ absurd (no-rule (sym (w .of-kind) ∙ only .rules (w .number) (omega arith) (w .inside)))
       ]
 
+  -- The first block is no rule, and neither is a second atom block.
+  same-more : moreEntries head ≡ moreEntries file
+  same-more = go (ℕ-discrete (kindOf (blockAt file 1)) atomsKind)
+    where
+      past : TwoAtomBlocks file → 1 < n
+      past two = elim (decLt 1 n) [
+        | yes l ↦ l
+        | no off ↦
+            let inside = two-inside file (laid .atoms .whole) two in
+            let rule = only .rules 1 (omega arith) (omega (arith, laid .exact, inside)) in
+            absurd (omega arith)
+      ]
+
+      go : Dec (TwoAtomBlocks file) → moreEntries head ≡ moreEntries file
+      go (yes two) =
+          let same : blockAt head 1 ≡ blockAt file 1 = block 1 (past two) in
+          two-blocks head (ap kindOf same ∙ two) ∙ ap firstEntries same ∙ sym (two-blocks file two)
+      go (no off) = one-block head none ∙ sym (one-block file off)
+        where
+          none : ¬ TwoAtomBlocks head
+          none two =
+              let inside : 1 < n = omega (arith, long, two-inside head (omega (arith, long)) two) in
+              off (ap kindOf (sym (block 1 inside)) ∙ two)
+
+  same-atoms : fileAtoms head ≡ fileAtoms file
+  unfolding fileAtoms
+  same-atoms = ap₂ joinedAtoms (ap firstEntries (block 0 (only .some-block))) same-more
+
   from-head : Sublists (certificateOf head) (certificateOf file)
   unfolding certificateOf
   from-head = record {
+    atoms = sym same-atoms;
     secret = λ m. mapped secretOf (into-file secretKind);
     good = λ t. mapped patternOf (into-file goodKind);
     bad = λ t. mapped patternOf (into-file badKind);
@@ -147,6 +188,7 @@ module _ {file : List ℕ} {n : ℕ} (laid : Laid file) (only : OnlyRulesFrom fi
   to-head : Sublists (certificateOf file) (certificateOf head)
   unfolding certificateOf
   to-head = record {
+    atoms = same-atoms;
     secret = λ m. mapped secretOf (into-head secretKind (λ e. absurd (omega arith)));
     good = λ t. mapped patternOf (into-head goodKind (λ e. absurd (omega arith)));
     bad = λ t. mapped patternOf (into-head badKind (λ e. absurd (omega arith)));

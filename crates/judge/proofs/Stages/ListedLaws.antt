@@ -1,33 +1,19 @@
 -- Laws of specs/Listed.antt: what a listed term says of hats and cover, for any certificate. Assumes nothing.
 use mathlib.Core.Path.{_≡_, refl, sym, ap, subst, _∙_}
 use mathlib.Core.Logic.{_⊎_, inl, inr, _↔_}
-use mathlib.Core.List.{Memᴰ·cast, Memᴰ·map, Memᴰ·of-map}
+use mathlib.Core.List.{List, Memᴰ·cast, Memᴰ·map, Memᴰ·of-map}
 use Rattle.blocks.specs.Kinds.{secretKind}
 use Rattle.terms.specs.Term.{Term, Message, Variable, variable, atom, replace, asTerm}
-use Rattle.terms.specs.Instance.{Matches, Share}
-use Rattle.terms.proofs.InstanceLaws.{replace-message, replace-asTerm}
+use Rattle.terms.specs.declared.atom.Atom.{Atom}
+use Rattle.terms.specs.Instance.{Share}
+use Rattle.terms.proofs.InstanceLaws.{replace-asTerm}
 use Rattle.judge.specs.Certificate.{Certificate, Rule, Secret}
 use Rattle.judge.specs.Cover.{Risky, isVariable, sharesSecret, Dead, AtOpenPlace}
 use Rattle.judge.specs.Listed.{listedOf, SharesListed, IsSecret}
 
 -- Sharing is symmetric.
-pub share-sym : {X Y : Type 0} {s : Term X} {t : Term Y} → Share s t → Share t s
+pub share-sym : {atoms : List Atom} {s t : Term Variable} → Share atoms s t → Share atoms t s
 share-sym h = record { message = h .message; left = h .right; right = h .left }
-
--- A message and the term that it reads as have the same instance.
-message-matches : {X : Type 0} {m n : Message} → Matches (asTerm {X = X} m) n → Matches m n
-message-matches {m = m} h =
-    record { by = λ x. absurd x; same = replace-message (λ x. absurd x) m ∙ sym (replace-asTerm (h .by) m) ∙ h .same }
-
-term-matches : {X : Type 0} {m n : Message} → Matches m n → Matches (asTerm {X = X} m) n
-term-matches {m = m} h =
-    record { by = λ x. atom 0; same = replace-asTerm (λ x. atom 0) m ∙ sym (replace-message (h .by) m) ∙ h .same }
-
-pub share-message : {X Y : Type 0} {t : Term X} {m : Message} → Share t (asTerm {X = Y} m) ↔ Share t m
-share-message = (
-  λ h. record { message = h .message; left = h .left; right = message-matches (h .right) },
-  λ h. record { message = h .message; left = h .left; right = term-matches (h .right) },
-)
 
 -- Different messages read as different terms.
 pub asTerm-only : {m n : Message} → asTerm {X = Variable} m ≡ asTerm n → m ≡ n
@@ -62,10 +48,10 @@ module _ (c : Certificate) where
       where
         to : Risky c t → ((x : Variable) × (t ≡ variable x)) ⊎ SharesListed c secretKind t
         to (isVariable {x} e) = inl (x, e)
-        to (sharesSecret {secret} l s) = inr (record { term = asTerm secret; listed = Memᴰ·map asTerm l; holds = share-sym (share-message .1 s) })
+        to (sharesSecret {secret} l s) = inr (record { term = asTerm secret; listed = Memᴰ·map asTerm l; holds = share-sym s })
 
         back : ((x : Variable) × (t ≡ variable x)) ⊎ SharesListed c secretKind t → Risky c t
         back (inl w) = isVariable (w .1)
         back (inr h) =
             let o = Memᴰ·of-map asTerm (c .secrets) (h .listed) in
-            sharesSecret (o .1) (share-message .0 (share-sym (subst (λ (p : Term Variable). Share p t) (sym (o .2)) (h .holds))))
+            sharesSecret (o .1) (share-sym (subst (λ (p : Term Variable). Share (c .atoms) p t) (sym (o .2)) (h .holds)))

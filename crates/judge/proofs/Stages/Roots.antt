@@ -3,7 +3,7 @@
 use mathlib.Core.Path.{_≡_, refl, sym, ap, ap₂, subst, _∙_}
 use mathlib.Core.Bool.{Bool, false, not}
 use mathlib.Core.List.{List, _∷_}
-use Prim.Native.Nat.{ℕ, zero, suc, _+_, _%_, _<_, _≤_}
+use Prim.Native.Nat.{ℕ, _+_, _%_, _<_, _≤_}
 use native.Mathlib.Omega.{arith}
 use native.Mathlib.Decide.{ℕ-discrete}
 use lib.Dec.{eqb}
@@ -14,12 +14,15 @@ use lib.Seq.{getD-set-same, getD-set-other, getD-drop}
 use Rattle.blocks.specs.Kinds.{secretKind}
 use Rattle.blocks.specs.Block.{blockAt, kindOf, firstEntries}
 use Rattle.blocks.proofs.KindLaws.{secret-lists}
-use Rattle.terms.specs.Term.{Term, Message, Variable, variable, atom, pair, Sort, named, replace, asTerm, wrapped, Wrapping}
+use Rattle.terms.specs.Term.{rangeOf, noVariable, Term, Message, Variable, variable, atom, pair, Sort, named, replace, asTerm, wrapped, Wrapping}
 use Rattle.terms.specs.Tag.{atomTag, pairTag, encryptionTag, sortTag, VariableTag, SymbolTag, sort-tag, sort-tagged, wrappingTag, wrapping-tag, wrapping-tagged}
 use Rattle.terms.specs.Tag.{Tagged, anAtom, aPair, aWrapping, aVariable, noTag, tagged}
 use Rattle.terms.specs.Slot.{slotCount}
-use Rattle.terms.specs.Instance.{Matches, Share}
-use Rattle.terms.proofs.InstanceLaws.{replace-asTerm}
+use Rattle.terms.specs.declared.atom.Atom.{Atom}
+use Rattle.terms.specs.Instance.{Instance, Matches, Share}
+use Rattle.terms.specs.Seek.{Becomes}
+use Rattle.terms.specs.Apart.{Common}
+use Rattle.terms.proofs.InstanceLaws.{replace-asTerm, nonce-replaced, matches-replace, ground, ground-nonces, common}
 use Rattle.terms.specs.Occurs.{replace-twice}
 use Rattle.terms.specs.Entry.{Begins, termOf, tagAt, valueAt, from}
 use Rattle.terms.specs.Reading.{First, first, first-atom, first-pair, first-wrapped, first-variable}
@@ -31,7 +34,7 @@ use Rattle.judge.specs.Laid.{Laid, SecretBlock}
 use Rattle.terms.specs.Decisions.{Says, says-same}
 use Rattle.terms.specs.Decide.{answer}
 use Rattle.terms.proofs.AnswerLaws.{answer-says}
-use Rattle.judge.specs.Listed.{pairRoots, encryptionRoots, variableRoots, rootSlots}
+use Rattle.judge.specs.Listed.{atomsIn, pairRoots, encryptionRoots, variableRoots}
 use Rattle.judge.specs.Listed.{HoldsAt, TermPart, SharesListed, IsSecret, slotFor, slotBy, slotAt, FlaggedAt, FlaggedMore, SecretSlot, RootsOf, NoRoot}
 use Rattle.judge.proofs.Stages.Listing.{none-found}
 use Rattle.judge.proofs.Stages.Numbers.{pair-message}
@@ -230,9 +233,9 @@ left-message b two m same =
     let p = pair-first b two in
     let w = pair-message m (sym (termOf-reads (p .whole)) ∙ same) in (w .0, left-is b two ∙ w .3)
 
--- Pairs that share an instance have left halves that do.
-lefts-share : {s t : List ℕ} → Begins s → Begins t → tagAt s ≡ pairTag → tagAt t ≡ pairTag → Share (termOf s) (termOf t)
-    → Share (termOf (drop 4 s)) (termOf (drop 4 t))
+-- Pairs with a message in common have left halves that have one.
+lefts-share : {s t : List ℕ} → Begins s → Begins t → tagAt s ≡ pairTag → tagAt t ≡ pairTag → Common (termOf s) (termOf t)
+    → Common (termOf (drop 4 s)) (termOf (drop 4 t))
 unfolding replace
 lefts-share {s} {t} left right two other share =
     let p = pair-first left two in
@@ -249,8 +252,8 @@ lefts-share {s} {t} left right two other share =
     })
 
 module _ {file roots e : List ℕ} (laid : Laid file) (flags : RootsOf file roots) (b : Begins e) (none : NoRoot roots e) where
-  -- Where a secret and e's term share an instance, their roots have one slot, which is flagged.
-  apart : (i : ℕ) → i < blockCount file → kindOf (blockAt file i) ≡ secretKind → Share (patternOf (blockAt file i)) (termOf e) → ⊥
+  -- Where a secret and e's term have a message in common, their roots have one slot, which is flagged.
+  apart : (i : ℕ) → i < blockCount file → kindOf (blockAt file i) ≡ secretKind → Common (patternOf (blockAt file i)) (termOf e) → ⊥
   unfolding patternOf
   apart i inside kind share =
       let s = firstEntries (blockAt file i) in
@@ -276,49 +279,45 @@ module _ {file roots e : List ℕ} (laid : Laid file) (flags : RootsOf file root
           omega (arith, none .absent)
 
   pub no-root-shares : ¬ SharesListed (certificateOf file) secretKind (termOf e)
-  no-root-shares = none-found laid secretKind (λ p. Share p (termOf e)) (λ i inside h. apart i inside (h .of-kind) (h .holds))
+  no-root-shares = none-found laid secretKind (λ p. Share (atomsIn file) p (termOf e)) (λ i inside h. apart i inside (h .of-kind) (common (h .holds)))
 
   pub no-root-secret : ¬ IsSecret (certificateOf file) (termOf e)
   no-root-secret = none-found laid secretKind (λ p. p ≡ termOf e) (λ i inside h.
       let secret = laid .secrets i inside (h .of-kind) in
-      let itself : Matches (patternOf (blockAt file i)) (secret .message) = record { by = λ x. atom 0; same = ap (replace (λ x. atom 0)) (secret .same) ∙ replace-asTerm (λ x. atom 0) (secret .message) } in
-      apart i inside (h .of-kind) (subst (Share (patternOf (blockAt file i))) (h .holds) (record { message = secret .message; left = itself; right = itself })))
+      let itself : Becomes (patternOf (blockAt file i)) (secret .message) = record { by = λ x. atom 0; same = ap (replace (λ x. atom 0)) (secret .same) ∙ replace-asTerm (λ x. atom 0) (secret .message) } in
+      apart i inside (h .of-kind) (subst (Common (patternOf (blockAt file i))) (h .holds) (record { message = secret .message; left = itself; right = itself })))
 
 -- A secret has no variables: it shares an instance with a term of which it is one.
-pub instance-shares : {b : List ℕ} → SecretBlock b → {t : Term Variable} → Matches t (patternOf b) ↔ Share (patternOf b) t
+pub instance-shares : (atoms : List Atom) {b : List ℕ} → SecretBlock b → {t : Term Variable} → Matches atoms t (patternOf b) ↔ Share atoms (patternOf b) t
 unfolding asTerm
-instance-shares {b} secret {t} = (to, back)
+instance-shares atoms {b} secret {t} = (to, back)
   where
     m : Message
     m = secret .message
 
-    itself : Matches (patternOf b) m
-    itself = record { by = λ x. atom 0; same = ap (replace (λ x. atom 0)) (secret .same) ∙ replace-asTerm (λ x. atom 0) m }
+    itself : Instance atoms (patternOf b) m
+    itself = record { by = ground; nonces = ground-nonces atoms; same = ap (replace ground) (secret .same) ∙ replace-asTerm ground m }
 
-    to : Matches t (patternOf b) → Share (patternOf b) t
-    to w = record {
-      message = m;
-      left = itself;
-      right = record {
-        by = λ x. replace (λ y. atom 0) (w .by x);
-        same = sym (replace-twice (λ y. atom 0) (w .by) t) ∙ ap (replace (λ y. atom 0)) (w .same) ∙ itself .same;
-      };
-    }
+    to : Matches atoms t (patternOf b) → Share atoms (patternOf b) t
+    to w = let v = matches-replace ground (ground-nonces atoms) w in
+        record { message = m; left = itself; right = record { by = v .by; nonces = v .nonces; same = v .same ∙ itself .same } }
 
-    back : Share (patternOf b) t → Matches t (patternOf b)
+    back : Share atoms (patternOf b) t → Matches atoms t (patternOf b)
     back w =
         let one : w .message ≡ m = sym (w .left .same) ∙ ap (replace (w .left .by)) (secret .same) ∙ replace-asTerm (w .left .by) m in
         record {
           by = λ x. asTerm (w .right .by x);
+          nonces = λ x is. nonce-replaced atoms noVariable rangeOf (λ y. absurd y) (λ y. absurd y) (w .right .by x) (w .right .nonces x is);
           same = sym (replace-twice (λ y. absurd y) (w .right .by) t) ∙ ap asTerm (w .right .same ∙ one) ∙ sym (secret .same);
         }
 
 -- As the code finds it at block i.
-pub instance-answer : {file : List ℕ} {i : ℕ} {p : List ℕ} {t : Term Variable} → Laid file → i < blockCount file → kindOf (blockAt file i) ≡ secretKind → TermPart file i p
-    → (b : Bool) (d : Dec (Matches t (termOf p))) → b ≡ answer d → Says b (HoldsAt file secretKind (λ s. Share s t) i)
+pub instance-answer : (atoms : List Atom) {file : List ℕ} {i : ℕ} {p : List ℕ} {t : Term Variable} → Laid file → i < blockCount file
+    → kindOf (blockAt file i) ≡ secretKind → TermPart file i p
+    → (b : Bool) (d : Dec (Matches atoms t (termOf p))) → b ≡ answer d → Says b (HoldsAt file secretKind (λ s. Share atoms s t) i)
 unfolding patternOf
-instance-answer {file} {i} {p} {t} laid inside kind part b d is =
+instance-answer atoms {file} {i} {p} {t} laid inside kind part b d is =
     let there : termOf p ≡ patternOf (blockAt file i) = ap termOf (part .part) in
     let secret = laid .secrets i inside kind in
-    says-same b (λ m. record { of-kind = kind; holds = instance-shares secret .0 (rw there at m) }) (λ w. rw there (instance-shares secret .1 (w .holds)))
+    says-same b (λ m. record { of-kind = kind; holds = instance-shares atoms secret .0 (rw there at m) }) (λ w. rw there (instance-shares atoms secret .1 (w .holds)))
     (answer-says b d is)

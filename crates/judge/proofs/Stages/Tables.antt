@@ -16,19 +16,20 @@ use Rattle.blocks.specs.Block.{blockAt, kindOf, firstEntries}
 use Rattle.blocks.proofs.Parts.{first-length}
 use Rattle.blocks.proofs.KindLaws.{bad-lists}
 use Rattle.terms.specs.Term.{Term, Variable, variable, atom, pair, replace, wrapped}
-use Rattle.terms.specs.Tag.{markedTag}
+use Rattle.terms.specs.Tag.{MarkedTag}
 use Rattle.terms.specs.Instance.{Share}
 use Rattle.terms.specs.Entry.{termOf, size, from}
 use Rattle.terms.proofs.EntryLaws.{size-positive}
 use Rattle.terms.specs.TermGraph.{SizesOf}
 use Rattle.terms.specs.Sizes.{SizedFrom, KeptBelow}
-use Rattle.terms.proofs.SizeLaws.{tag-inside, kept-more, sizes-at, sizes-kept}
+use Rattle.terms.specs.Nonces.{NoncesIn}
+use Rattle.terms.proofs.SizeLaws.{marked-inside, kept-more, sizes-at, sizes-kept}
 use Rattle.terms.specs.Decisions.{Says, says-same}
 use Rattle.judge.specs.Hat.{Marked}
 use Rattle.judge.specs.CoverEntries.{putOn}
 use Rattle.judge.specs.File.{blockCount, patternOf, certificateOf}
 use Rattle.judge.specs.Laid.{Laid}
-use Rattle.judge.specs.Listed.{AnyListed, Everywhere, SharesListed, SharesEverywhere, Searching, HoldsAt, HeldAmong, TermPart, rowSize, listedRows, markSlot, MarkTag, LastMark, Noted, MarkedBad, SizesBelow, SizesIn, SizeOf}
+use Rattle.judge.specs.Listed.{atomsIn, AnyListed, Everywhere, SharesListed, SharesEverywhere, Searching, HoldsAt, HeldAmong, TermPart, rowSize, listedRows, nonceSlots, markSlot, MarkTag, LastMark, Noted, MarkedBad, SizesBelow, SizesIn, SizeOf}
 use Rattle.judge.proofs.Stages.Listing.{none-found, one-among}
 use Rattle.judge.proofs.Stages.Roots.{instance-shares}
 
@@ -39,18 +40,18 @@ listed-short {file} {i} laid inside lists =
     omega (arith, b .short, first-length (blockAt file i) (b .fitting))
 
 -- No entry has the tag of a mark.
-pub no-tag : {e : List ℕ} {low high k : ℕ} → high ≤ k → ((j : ℕ) → j < k → ¬ ((low ≤ j) × (getD e (4 * j) 0 ≡ markedTag))) → ¬ MarkTag e low high
+pub no-tag : {e : List ℕ} {low high k : ℕ} → high ≤ k → ((j : ℕ) → j < k → ¬ ((low ≤ j) × MarkedTag (getD e (4 * j) 0))) → ¬ MarkTag e low high
 no-tag past none w = none (w .number) (let l = w .below in omega arith) (w .above, w .tag)
 
 -- The last mark, from the last entry back.
-pub last-none : {e : List ℕ} {n : ℕ} → n ≡ 0 → ((k : ℕ) → n ≤ k → ¬ (getD e (4 * k) 0 ≡ markedTag)) → LastMark e 0
+pub last-none : {e : List ℕ} {n : ℕ} → n ≡ 0 → ((k : ℕ) → n ≤ k → ¬ MarkedTag (getD e (4 * k) 0)) → LastMark e 0
 last-none is none = record { behind = λ k low. none k (omega arith); here = λ off. absurd (off refl) }
 
-pub past-tags : (e : List ℕ) {n : ℕ} → length e ≤ 4 * n → (k : ℕ) → n ≤ k → ¬ (getD e (4 * k) 0 ≡ markedTag)
-past-tags e short k low tag = let inside = tag-inside e k tag in omega arith
+pub past-tags : (e : List ℕ) {n : ℕ} → length e ≤ 4 * n → (k : ℕ) → n ≤ k → ¬ MarkedTag (getD e (4 * k) 0)
+past-tags e short k low tag = let inside = marked-inside e k tag in omega arith
 
-pub tags-down : (e : List ℕ) {n : ℕ} → 0 < n → ((k : ℕ) → n ≤ k → ¬ (getD e (4 * k) 0 ≡ markedTag)) → ¬ (getD e (4 * (n - 1)) 0 ≡ markedTag)
-    → (k : ℕ) → n - 1 ≤ k → ¬ (getD e (4 * k) 0 ≡ markedTag)
+pub tags-down : (e : List ℕ) {n : ℕ} → 0 < n → ((k : ℕ) → n ≤ k → ¬ MarkedTag (getD e (4 * k) 0)) → ¬ MarkedTag (getD e (4 * (n - 1)) 0)
+    → (k : ℕ) → n - 1 ≤ k → ¬ MarkedTag (getD e (4 * k) 0)
 tags-down e {n} some-left none off k low = elim (ℕ-discrete k (n - 1)) [
   | yes same ↦ rw same off
   | no other ↦ none k (omega arith)
@@ -110,21 +111,25 @@ some-more {file} {n} {flag} {v} w b is says = record { some = λ i low marked. g
     go false is says i low marked (yes same) = absurd (says (rw same at marked))
     go false is says i low marked (no off) = is ∙ w .some i (omega arith) marked
 
--- All rows, and the slot behind them.
-pub rows-all : {file sizes : List ℕ} {n flag : ℕ} → Laid file → n ≡ blockCount file → SizesBelow file n sizes → SomeBelow file n flag
-    → SizesIn file (set sizes listedRows flag)
-rows-all {file} {sizes} {n} {flag} laid all rows some = record {
+-- All rows, the slot behind them, and then the flags of the nonces.
+pub rows-all : {file sizes new : List ℕ} {n flag : ℕ} → Laid file → n ≡ blockCount file → SizesBelow file n sizes → SomeBelow file n flag
+    → KeptBelow nonceSlots (set sizes listedRows flag) new → NoncesIn (atomsIn file) (from nonceSlots new) → SizesIn file new
+rows-all {file} {sizes} {new} {n} {flag} laid all rows some still nonces = record {
   rows = record {
-    long = length-set sizes listedRows flag ∙ rows .long;
+    long = kept .long ∙ rows .long;
     at = λ i low lists. sizes-kept (rowSize * i) (rows .at i (omega arith) lists) kept
         (let short = listed-short laid low lists in let few = laid .few in omega arith);
     marks = λ i low lists. rw (kept .same (markSlot i) (let few = laid .few in omega arith)) (rows .marks i (omega arith) lists);
   };
-  some = λ i low marked. getD-set-same sizes listedRows flag 0 (let long = rows .long in omega arith) ∙ some .some i (omega arith) marked;
+  some = λ i low marked. still .same listedRows (omega arith) ∙ getD-set-same sizes listedRows flag 0 (let long = rows .long in omega arith) ∙ some .some i (omega arith) marked;
+  nonces = nonces;
 }
   where
-    kept : KeptBelow listedRows sizes (set sizes listedRows flag)
-    kept = kept-more {j = listedRows} {z = sizes} flag (record { long = refl; same = λ k low. refl }) (omega arith)
+    behind : KeptBelow listedRows sizes (set sizes listedRows flag)
+    behind = kept-more {j = listedRows} {z = sizes} flag (record { long = refl; same = λ k low. refl }) (omega arith)
+
+    kept : KeptBelow listedRows sizes new
+    kept = record { long = still .long ∙ behind .long; same = λ k low. still .same k (omega arith) ∙ behind .same k low }
 
 -- The sizes of the term of block i, as it is read.
 pub term-sizes : {file sizes e t : List ℕ} {kind i : ℕ} → SizesIn file sizes → Searching file kind e → i < blockCount file → kindOf (blockAt file i) ≡ kind
@@ -154,7 +159,7 @@ counted-among file i P counts b says =
 
 -- No mark stands behind those of a bad block's term.
 pub marks-behind : {file sizes t : List ℕ} {i v : ℕ} → SizesIn file sizes → i < blockCount file → kindOf (blockAt file i) ≡ badKind → t ≡ firstEntries (blockAt file i)
-    → v ≡ getD sizes (markSlot i) 0 → (k : ℕ) → v ≤ k → ¬ (getD t (4 * k) 0 ≡ markedTag)
+    → v ≡ getD sizes (markSlot i) 0 → (k : ℕ) → v ≤ k → ¬ MarkedTag (getD t (4 * k) 0)
 marks-behind {i = i} all inside is part slot = rw (part, slot) (all .rows .marks i inside (bad-lists is) .behind is)
 
 -- What the slot says of the block.
@@ -198,10 +203,10 @@ grown by (wrapped w k t) = let content = grown by t in omega arith
 
 -- A secret that is smaller is no instance.
 pub too-small : {file e t : List ℕ} {i n : ℕ} → Laid file → i < blockCount file → kindOf (blockAt file i) ≡ secretKind → TermPart file i t → SizeOf e n → length t < 4 * n
-    → ¬ HoldsAt file secretKind (λ p. Share p (termOf e)) i
+    → ¬ HoldsAt file secretKind (λ p. Share (atomsIn file) p (termOf e)) i
 unfolding patternOf
 too-small {e = e} {t = t} {i = i} laid inside kind part size-of small h =
-    let m = instance-shares (laid .secrets i inside kind) .1 (h .holds) in
+    let m = instance-shares _ (laid .secrets i inside kind) .1 (h .holds) in
     let less = grown (m .by) (termOf e) in
     let is : size (replace (m .by) (termOf e)) ≡ size (termOf t) = ap size (m .same ∙ sym (ap termOf (part .part))) in
     absurd (omega (arith, part .whole, size-of .is))

@@ -63,6 +63,7 @@ fn fitting(list: List, term: Term) -> Option<Term> {
             (List::Goods | List::Bads, _) => None,
             (List::Secrets, _) => Some((variable, Term::Atom(0))),
             (_, Term::Marked(number)) => Some((variable.clone(), Term::Plain(*number))),
+            (_, Term::MarkedNonce(number)) => Some((variable.clone(), Term::PlainNonce(*number))),
             _ => None,
         })
         .collect();
@@ -114,7 +115,7 @@ impl Palette {
 /// something around it.
 fn other(random: &mut Random, here: &Term, palette: &Palette) -> Term {
     let Palette { donor, .. } = palette;
-    match random.below(9) {
+    match random.below(10) {
         0 => plain(random.below(PLAIN)),
         1 => either(random.below(EITHER)),
         2 | 3 => palette.atom(random),
@@ -124,7 +125,8 @@ fn other(random: &mut Random, here: &Term, palette: &Palette) -> Term {
         },
         5 => Term::pair(here.clone(), plain(random.below(PLAIN))),
         6 => Term::pair(palette.atom(random), here.clone()),
-        7 => match here {
+        7 => either_nonce(random.below(EITHER)),
+        8 => match here {
             Term::Pair(left, right) => Term::pair((**right).clone(), (**left).clone()),
             Term::Encryption(message, _) => (**message).clone(),
             _ => Term::pair(here.clone(), here.clone()),

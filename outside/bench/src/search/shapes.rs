@@ -67,12 +67,27 @@ pub fn plain(i: usize) -> Term {
     Term::Plain((i % PLAIN) as u8)
 }
 
+/// Nonce variables by number: the plain ones, then the marked ones.
+pub fn either_nonce(i: usize) -> Term {
+    let number = (i % PLAIN) as u8;
+    match i % EITHER < PLAIN {
+        true => Term::PlainNonce(number),
+        false => Term::MarkedNonce(number),
+    }
+}
+
+pub fn plain_nonce(i: usize) -> Term {
+    Term::PlainNonce((i % PLAIN) as u8)
+}
+
 /// All variables moved on by a number.
 pub fn moved(term: &Term, by: usize) -> Term {
     let on = |number: &u8| ((*number as usize + by) % PLAIN) as u8;
     match term {
         Term::Plain(number) => Term::Plain(on(number)),
         Term::Marked(number) => Term::Marked(on(number)),
+        Term::PlainNonce(number) => Term::PlainNonce(on(number)),
+        Term::MarkedNonce(number) => Term::MarkedNonce(on(number)),
         Term::Pair(left, right) => Term::pair(moved(left, by), moved(right, by)),
         Term::Encryption(message, key) => under(*key, moved(message, by)),
         Term::Atom(_) => term.clone(),

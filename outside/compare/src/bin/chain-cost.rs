@@ -1,7 +1,7 @@
 //! Times the archive on ordinary pairs and on the chain family, all in one run
 //! and by turns. Only the ratios mean anything.
 
-use compare::{chains, ordinary, proved, Answer};
+use compare::{atoms, chains, ordinary, proved, Answer};
 use literal::numbers::{tag, MOST_ENTRIES};
 use literal::{encode, Term};
 use std::hint::black_box;
@@ -15,10 +15,11 @@ const MOST: f64 = 20.0;
 
 struct Case {
     name: String,
+    atoms: Vec<u8>,
     first: Vec<u8>,
     second: Vec<u8>,
     expected: Answer,
-    ask: fn(&[u8], &[u8]) -> Answer,
+    ask: fn(&[u8], &[u8], &[u8]) -> Answer,
     /// Nanoseconds of one call, a number for each round.
     times: Vec<u64>,
 }
@@ -28,7 +29,7 @@ fn main() -> ExitCode {
     let mut chains = chain_cases();
     let mut tests = tests_alone(&ordinary[0]);
     for case in ordinary.iter().chain(&chains).chain([&tests]) {
-        if (case.ask)(&case.first, &case.second) != case.expected {
+        if (case.ask)(&case.atoms, &case.first, &case.second) != case.expected {
             println!("{}: not {}", case.name, case.expected);
             return ExitCode::FAILURE;
         }
@@ -63,6 +64,7 @@ fn tests_alone(ordinary: &Case) -> Case {
     first.extend(&ordinary.first[8..]);
     Case {
         name: "tests alone".to_string(),
+        atoms: atoms::all_keys(),
         first,
         second: ordinary.second.clone(),
         expected: Answer::No,
@@ -76,6 +78,7 @@ impl Case {
         assert_eq!([first.size(), second.size()], [MOST_ENTRIES; 2], "{name}");
         Case {
             name: name.to_string(),
+            atoms: atoms::all_keys(),
             first: encode(first),
             second: encode(second),
             expected: Answer::of(shares),
@@ -85,9 +88,11 @@ impl Case {
     }
 
     fn time(&mut self) {
+        let [atoms, first, second] = [&self.atoms, &self.first, &self.second];
         let start = Instant::now();
         for _ in 0..CALLS {
-            black_box((self.ask)(black_box(&self.first), black_box(&self.second)));
+            let answer = (self.ask)(black_box(atoms), black_box(first), black_box(second));
+            black_box(answer);
         }
         let taken = start.elapsed().as_nanos() as u64;
         self.times.push(taken / CALLS as u64);

@@ -2,8 +2,8 @@
 //! archive and of the outside reference.
 
 use command::Seeds;
-use compare::{disagreement, outside, proved, Answer, Question, QUESTIONS};
-use generate::pairs::{small_term_pair, term_pair};
+use compare::{atoms, disagreement, outside, proved, Answer, Question, QUESTIONS};
+use generate::pairs::{self, small_term_pair, term_pair};
 use generate::random::Random;
 use literal::{encode, Term};
 use std::process::ExitCode;
@@ -37,10 +37,27 @@ fn random_pair(seed: u64) -> (Term, Term) {
 fn with_marks(term: &Term) -> Term {
     match term {
         Term::Plain(number) if number % 2 == 1 => Term::Marked(*number),
+        Term::PlainNonce(number) if number % 2 == 1 => Term::MarkedNonce(*number),
         Term::Pair(left, right) => Term::pair(with_marks(left), with_marks(right)),
         Term::Encryption(message, key) => Term::encryption(with_marks(message), *key),
         _ => term.clone(),
     }
+}
+
+/// The atoms of the pairs; on some a kind is another, any bytes are changed, or
+/// there are more or fewer.
+fn random_atoms(seed: u64) -> Vec<u8> {
+    let mut random = Random::new(seed ^ 0xA70);
+    let mut bytes = atoms::bytes(&pairs::atoms());
+    let at = random.below(bytes.len());
+    match random.below(16) {
+        0 => bytes.truncate(at),
+        1 => bytes[at] = random.byte(),
+        2..=4 => bytes[at / 4 * 4] = random.below(7) as u8,
+        5 => bytes = atoms::all_keys(),
+        _ => {}
+    }
+    bytes
 }
 
 /// One byte changed, most often to a small one, or the end cut off.
@@ -69,20 +86,21 @@ impl Tally {
     fn pair(&mut self, seed: u64) {
         let (pattern, term) = random_pair(seed);
         let (p, t) = (encode(&pattern), encode(&term));
-        self.both_orders(&p, &t, seed);
-        self.both_orders(&p, &damaged(&p, seed), seed);
+        let atoms = random_atoms(seed);
+        self.both_orders(&atoms, &p, &t, seed);
+        self.both_orders(&atoms, &p, &damaged(&p, seed), seed);
     }
 
-    fn both_orders(&mut self, s: &[u8], t: &[u8], seed: u64) {
+    fn both_orders(&mut self, atoms: &[u8], s: &[u8], t: &[u8], seed: u64) {
         for question in QUESTIONS {
-            self.ask(question, s, t, seed);
-            self.ask(question, t, s, seed);
+            self.ask(question, atoms, s, t, seed);
+            self.ask(question, atoms, t, s, seed);
         }
     }
 
-    fn ask(&mut self, question: Question, s: &[u8], t: &[u8], seed: u64) {
-        let found = proved::ask(question, s, t);
-        let expected = outside::ask(question, s, t);
+    fn ask(&mut self, question: Question, atoms: &[u8], s: &[u8], t: &[u8], seed: u64) {
+        let found = proved::ask(question, atoms, s, t);
+        let expected = outside::ask(question, atoms, s, t);
         self.asked += 1;
         match expected {
             Answer::Yes => self.yes[question as usize] += 1,
@@ -91,7 +109,7 @@ impl Tally {
         }
         if found != expected {
             self.wrong += 1;
-            let line = disagreement(question, s, t, expected, found);
+            let line = disagreement(question, atoms, s, t, expected, found);
             println!("seed {seed}: {line}");
         }
     }

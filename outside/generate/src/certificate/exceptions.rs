@@ -11,8 +11,7 @@ type Rule = (Option<Term>, Term);
 const PUT_LAST: Term = Term::Marked(u8::MAX);
 
 pub fn is_marked(pattern: &Term) -> bool {
-    let variables = variables_of(pattern);
-    variables.iter().any(|v| matches!(v, Term::Marked(_)))
+    variables_of(pattern).iter().any(Term::is_mark)
 }
 
 fn subterm(term: &Term, entry: usize) -> Term {
@@ -76,6 +75,7 @@ impl Maker<'_> {
                 let body = match variable {
                     Term::Marked(_) => self.marked_body(),
                     _ if self.random.chance(60) => variable.clone(),
+                    Term::PlainNonce(_) | Term::MarkedNonce(_) => self.nonce_in_pattern(),
                     _ => self.any_atom(),
                 };
                 (variable, body)
@@ -119,11 +119,12 @@ impl Maker<'_> {
     /// An entry of the pattern above a mark, and a nested secret to put there.
     fn secret_above_a_mark(&mut self, bad: &Term) -> Option<(usize, Term)> {
         let secrets = self.nested_secrets();
+        let atoms = &self.sketch.atoms;
         let mut possible: Vec<(usize, Term)> = Vec::new();
         for place in places(bad).iter().skip(1) {
             let part = place.subterm;
             if !part.is_variable() && is_marked(part) {
-                let fitting = secrets.iter().filter(|secret| matches(part, secret));
+                let fitting = secrets.iter().filter(|secret| matches(atoms, part, secret));
                 possible.extend(fitting.map(|secret| (place.entry, secret.clone())));
             }
         }
@@ -141,7 +142,7 @@ impl Maker<'_> {
             }
         }
         let all = places(bad);
-        let is_mark = |entry: &usize| matches!(all[*entry].subterm, Term::Marked(_));
+        let is_mark = |entry: &usize| all[*entry].subterm.is_mark();
         let marks: Vec<usize> = (1..all.len()).filter(is_mark).collect();
         let entry = match self.random.chance(marks_percent) && !marks.is_empty() {
             true => *self.random.pick(&marks),
@@ -162,6 +163,8 @@ impl Maker<'_> {
             let other = match variable {
                 Term::Marked(number) => Term::Plain(number),
                 Term::Plain(number) => Term::Marked(number),
+                Term::MarkedNonce(number) => Term::PlainNonce(number),
+                Term::PlainNonce(number) => Term::MarkedNonce(number),
                 _ => unreachable!("only variables"),
             };
             (variable, other)
@@ -243,9 +246,12 @@ impl Maker<'_> {
     /// of the rule, or something with one inside.
     fn wanted(&mut self, part: &Term) -> Term {
         let mut secrets = self.sketch.secrets.clone();
-        secrets.retain(|secret| matches(part, secret));
+        secrets.retain(|secret| matches(&self.sketch.atoms, part, secret));
         if !secrets.is_empty() && self.random.chance(if part.is_variable() { 30 } else { 75 }) {
             return self.random.pick(&secrets).clone();
+        }
+        if part.is_nonce_variable() {
+            return self.body_of(part, 1);
         }
         match self.random.weighted(&[50, 20, 10, 20]) {
             0 => self.variable(),
@@ -265,6 +271,7 @@ impl Maker<'_> {
             .map(|variable| {
                 let body = match variable {
                     Term::Marked(_) if self.random.chance(75) => self.harmless_atom(),
+                    Term::PlainNonce(_) | Term::MarkedNonce(_) => self.body_of(&variable, 1),
                     _ if self.random.chance(35) => self.random.pick(&self.sketch.secrets).clone(),
                     _ => self.small(1),
                 };

@@ -1,7 +1,7 @@
 //! Wrong readings of what the bad patterns take from a hat.
 
-use super::{is, Slip, CURRENT};
-use crate::hats::{marks_below, Exception};
+use super::{is, nonces, Slip, CURRENT};
+use crate::hats::{marks_below, Exception, Meets};
 use crate::read::{Certificate, Listed};
 use crate::share::shares;
 use crate::term::{joined, matches, places, Path, Place};
@@ -42,18 +42,19 @@ pub fn of_open(certificate: &Certificate, place: &Place) -> Option<Vec<Exception
     if is(Slip::BadNotReadForOpen) {
         return Some(Vec::new());
     }
-    let meets = match is(Slip::BadAsSharingForOpen) {
+    let meets: Meets = match is(Slip::BadAsSharingForOpen) {
         true => shares,
         false => matches,
     };
     Some(read(certificate, Side::Open, place, meets))
 }
 
-type Meets = fn(&crate::Term, &crate::Term) -> bool;
-
 fn read(certificate: &Certificate, side: Side, place: &Place, meets: Meets) -> Vec<Exception> {
     let kept = kept(side, &certificate.bads);
-    let met = kept.iter().filter(|bad| meets(&bad.term, place.subterm));
+    let atoms = &certificate.atoms;
+    let met = kept
+        .iter()
+        .filter(|bad| meets(atoms, &bad.term, place.subterm));
     let mut found: Vec<Exception> = met.map(|bad| exception(side, &place.path, bad)).collect();
     if side.slips(
         Slip::MarkedBadTakesNothingForHat,
@@ -84,6 +85,9 @@ fn kept(side: Side, bads: &[Listed]) -> &[Listed] {
 
 fn exception(side: Side, path: &Path, bad: &Listed) -> Exception {
     let mut exception = Exception::of(path, bad);
+    if is(Slip::MarkedNonceNoMarkInBad) {
+        exception.marks = nonces::marks_but_nonces(path, &bad.term);
+    }
     if side.slips(Slip::PlainAsMarkForHat, Slip::PlainAsMarkForOpen) {
         let all = places(&bad.term).into_iter();
         let variables = all.filter(|place| place.subterm.is_variable());

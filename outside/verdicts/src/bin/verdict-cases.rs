@@ -5,7 +5,8 @@ use generate::random::Random;
 use std::process::ExitCode;
 use verdicts::known::Known;
 use verdicts::lent::Lent;
-use verdicts::{cases, failed, known, marked_bad, more_atoms, proved, Checker, Difference};
+use verdicts::{cases, failed, known, marked_bad, more_atoms, nonce_variables, proved};
+use verdicts::{Checker, Difference};
 
 fn main() -> ExitCode {
     command::run(|_| Ok(run()? == 0))
@@ -17,6 +18,7 @@ fn run() -> Result<usize, String> {
         ("document 01", cases::all()?),
         ("document 02, No. 1", more_atoms::all()?),
         ("document 02, No. 2", marked_bad::all()?),
+        ("document 02, No. 3", nonce_variables::all()?),
         ("corpus", known::corpus()?),
         ("examples", known::texts("../../examples")?),
         ("loader", known::texts("../../loader/certificates")?),

@@ -7,6 +7,7 @@ use Rattle.blocks.specs.Kinds.{badKind}
 use Rattle.blocks.proofs.KindLaws.{bad-lists}
 use Rattle.terms.proofs.AnswerLaws.{says-no}
 use Rattle.judge.specs.File.{blockCount}
+use Rattle.judge.specs.Listed.{atomsIn}
 use Rattle.judge.specs.CoverEntries.{subAt, Cleared, LaysAround}
 use Rattle.judge.proofs.Covering.Hats.{HeldFrom, dropped-none, dropped-more, dropped-all, dropped-lower, no-exceptions}
 use Rattle.judge.proofs.cover.drop_exceptions.Statement.{statement}
@@ -14,7 +15,7 @@ use Rattle.judge.proofs.cover.drop_exceptions.Tie as tie
 
 abbrev Inv-loop : tie.InvT-loop
 Inv-loop file sizes e z h hats₀ count left₀ hats left =
-    (left ≤ blockCount file) × Cleared hats₀ hats (λ k. HeldFrom file badKind (LaysAround (subAt e h) h k) left)
+    (left ≤ blockCount file) × Cleared hats₀ hats (λ k. HeldFrom file badKind (LaysAround (atomsIn file) (subAt e h) h k) left)
 
 abbrev μ-loop : tie.MeasureT-loop
 μ-loop file sizes e z h hats₀ count left₀ hats left = left

@@ -12,7 +12,7 @@ pub is-risky-spec : {M : Type 1} → statement M
 is-risky-spec = tie.close (tie.spec
     (λ c. search needs)  -- shared-slice-read-if1
     (λ c κs. let pre = c .before .before .before .before .pre in (pre .1 .long, pre .0 .term))  -- may-be-secret-requires
-    (λ c κs. search needs)  -- shares-secret-requires
+    (λ c κs. let pre = c .before .before .before .before .before .before .pre in (pre .0, pre .2))  -- shares-secret-requires
     (λ c. risky-variable _ (c .before .before .before .before .pre .0 .term) (c .if1 .taken))  -- returns
     (λ c.
     risky-secret _ (c .before .before .before .before .before .before .before .pre .0 .term) (c .before .before .before .if1 .left) (c .shares-secret .result)

@@ -2,23 +2,24 @@
 use borrow.Author.Needs.{needs}
 use Prim.Native.Nat.{_≤_}
 use Rattle.judge.specs.File.{blockCount}
+use Rattle.judge.specs.Listed.{atomsIn}
 use Rattle.judge.specs.CoverEntries.{subAt, Raised, Lays}
 use Rattle.judge.proofs.Covering.Hats.{HeldFrom, held-none, held-more, held-all, held-lower}
 use Rattle.judge.proofs.cover.lay_patterns.Statement.{statement}
 use Rattle.judge.proofs.cover.lay_patterns.Tie as tie
 
 abbrev Inv-loop : tie.InvT-loop
-Inv-loop file kind e h marked₀ count left₀ marked left =
-    (left ≤ blockCount file) × Raised marked₀ marked (λ k. HeldFrom file kind (Lays (subAt e h) h k) left)
+Inv-loop file sizes kind e h marked₀ count left₀ marked left =
+    (left ≤ blockCount file) × Raised marked₀ marked (λ k. HeldFrom file kind (Lays (atomsIn file) (subAt e h) h k) left)
 
 abbrev μ-loop : tie.MeasureT-loop
-μ-loop file kind e h marked₀ count left₀ marked left = left
+μ-loop file sizes kind e h marked₀ count left₀ marked left = left
 
 pub lay-patterns-spec : {M : Type 1} → statement M
 lay-patterns-spec = tie.close (tie.spec Inv-loop μ-loop
     (λ c. (search needs, held-none (c .before .before .pre .2) (search needs)))  -- loop-holds
     (λ c. search needs)  -- sub-lay-pattern
-    (λ c κs. (c .before .before .before .before .before .pre .0, c .before .before .before .before .before .pre .1, search needs, c .before .before .loop .inv .1 .long))  -- lay-pattern-requires
+    (λ c κs. let pre = c .before .before .before .before .before .pre in (pre .0, pre .1, search needs, c .before .before .loop .inv .1 .long, pre .3))  -- lay-pattern-requires
     (λ c. search needs)  -- sub-kind-at
     (λ c κs. search needs)  -- kind-at-requires
     (λ c. let pre = c .before .before .before .before .before .before .before .before .pre in let loop = c .before .before .before .before .before .loop in

@@ -14,10 +14,10 @@ use Rattle.judge.proofs.cover.risky_places.Statement.{statement}
 use Rattle.judge.proofs.cover.risky_places.Tie as tie
 
 abbrev Inv-loop : tie.InvT-loop
-Inv-loop file roots e risky₀ count k₀ risky k = (k ≤ size (termOf e)) × RaisedBelow risky (λ k. Risky (certificateOf file) (subAt e k)) k
+Inv-loop file roots sizes e risky₀ count k₀ risky k = (k ≤ size (termOf e)) × RaisedBelow risky (λ k. Risky (certificateOf file) (subAt e k)) k
 
 abbrev μ-loop : tie.MeasureT-loop
-μ-loop file roots e risky₀ count k₀ risky k = size (termOf e) - k
+μ-loop file roots sizes e risky₀ count k₀ risky k = size (termOf e) - k
 
 pub risky-places-spec : {M : Type 1} → statement M
 risky-places-spec = tie.close (tie.spec Inv-loop μ-loop
@@ -26,7 +26,7 @@ risky-places-spec = tie.close (tie.spec Inv-loop μ-loop
     (λ c. search needs)  -- sub-is-risky
     (λ c. search needs)  -- part-is-risky-start
     (λ c. search needs)  -- part-is-risky-end
-    (λ c κs. let pre = c .before .before .before .before .before .pre in let whole = pre .0 .whole in (searching-at (standing-concluded (pre .0) (search needs)) (secret-lists refl), pre .1))  -- is-risky-requires
+    (λ c κs. let pre = c .before .before .before .before .before .pre in let whole = pre .0 .whole in (searching-at (standing-concluded (pre .0) (search needs)) (secret-lists refl), pre .1, pre .2))  -- is-risky-requires
     (λ c κs. search needs)  -- flag-of-requires
     (λ c. let whole = c .before .before .before .before .before .before .before .pre .0 .whole in let short = c .before .before .before .before .before .before .before .pre .0 .short in search needs)  -- array-write-risky
     (λ c. search needs)  -- add-k

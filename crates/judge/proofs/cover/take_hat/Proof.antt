@@ -11,7 +11,7 @@ use Rattle.judge.proofs.cover.take_hat.Tie as tie
 pub take-hat-spec : {M : Type 1} → statement M
 take-hat-spec = tie.close (tie.spec
     (λ c κs. let pre = c .before .before .before .pre in (pre .0, pre .1, pre .3, pre .4))  -- shares-bad-requires
-    (λ c κs. (c .before .before .before .before .before .pre .0, good-lists refl))  -- marked-places-requires
+    (λ c κs. let pre = c .before .before .before .before .before .pre in (pre .0, good-lists refl, pre .3))  -- marked-places-requires
     (λ c κs. let pre = c .before .before .before .before .before .before .before .pre in (pre .0, c .before .marked-places .ensures .long, pre .3, pre .4))  -- drop-exceptions-requires
     (λ c κs. (c .before .before .before .before .before .before .before .before .before .before .pre .2, c .before .before .drop-exceptions .ensures .long))  -- clear-requires
     (λ c. let told = c .before .before .before .before .before .before .before .shares-bad in (

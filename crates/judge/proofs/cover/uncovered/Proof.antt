@@ -13,7 +13,7 @@ pub uncovered-spec : {M : Type 1} → statement M
 uncovered-spec = tie.close (tie.spec
     (λ c κs. search needs)  -- first-entries-requires
     (λ c κs. search needs)  -- second-entries-requires
-    (λ c κs. let pre = c .before .before .before .before .pre in let part = c .second-entries .ensures in (conclusion-concluded (pre .0) (pre .1) (part .0) (part .1 .0), pre .2))  -- risky-places-requires
+    (λ c κs. let pre = c .before .before .before .before .pre in let part = c .second-entries .ensures in (conclusion-concluded (pre .0) (pre .1) (part .0) (part .1 .0), pre .2, pre .5))  -- risky-places-requires
     (λ c κs. let pre = c .before .before .before .before .before .before .pre in let first = c .before .before .before .first-entries .ensures in let second = c .before .before .second-entries .ensures in
     (pre .0, premise-is (pre .1) (first .0) (first .1 .0) .entries, risky-flagged (conclusion-concluded (pre .0) (pre .1) (second .0) (second .1 .0)) (c .before .risky-places .ensures), pre .2))  -- wanted-places-requires
     (λ c κs. let pre = c .before .before .before .before .before .before .before .before .pre in let first = c .before .before .before .before .before .first-entries .ensures in

@@ -2,6 +2,7 @@
 use mathlib.Core.Path.{refl}
 use Prim.Native.Nat.{_-_, _≤_}
 use native.Mathlib.Omega.{arith}
+use lib.ListN.{length-set}
 use borrow.Author.Needs.{needs}
 use Rattle.judge.specs.File.{blockCount}
 use Rattle.judge.specs.Listed.{SizesBelow}
@@ -24,5 +25,6 @@ listed-sizes-spec = tie.close (tie.spec Inv-loop μ-loop
     (λ c. search needs)  -- loop-less
     (λ c. let told = c .before .fill-row in (search needs, told .ensures .0, some-more (c .before .before .before .before .loop .inv .2) (told .result) (c .put-on .ensures) (told .ensures .1)))  -- loop-again
     (λ c. let long = c .before .loop .inv .1 .long in search needs)  -- array-write-sizes
-    (λ c. let loop = c .before .loop in rows-all (c .before .before .before .pre) (omega arith) (loop .inv .1) (loop .inv .2))  -- returns
+    (λ c κs. let long = c .before .before .loop .inv .1 .long in (c .before .before .before .before .pre, simp length-set long))  -- put-nonces-requires
+    (λ c. let loop = c .before .before .before .loop in let put = c .put-nonces .ensures in rows-all (c .before .before .before .before .before .pre) (omega arith) (loop .inv .1) (loop .inv .2) (put .1) (put .0))  -- returns
     )

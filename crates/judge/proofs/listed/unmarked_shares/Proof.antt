@@ -1,6 +1,7 @@
 -- `judge::listed::unmarked_shares` meets its contract. Assumes nothing.
 use native.Mathlib.Omega.{arith}
 use borrow.Author.Needs.{needs}
+use Rattle.judge.specs.Listed.{atomsIn}
 use Rattle.terms.specs.Instance.{Share}
 use Rattle.terms.specs.Entry.{termOf}
 use Rattle.terms.proofs.AnswerLaws.{says-yes, says-no}
@@ -18,7 +19,7 @@ unmarked-shares-spec = tie.close (tie.spec
     (λ c. let few = c .before .before .before .before .before .before .before .pre .0 .laid .few in let below = c .before .before .before .before .before .before .before .pre .1 in search needs)  -- add-shares-among
     (λ c κs. let pre = c .before .before .before .before .before .before .before .pre in (pre .0, pre .2, pre .3, omega arith, omega (arith, pre .1)))  -- shares-among-requires
     (λ c. let s = c .before .before .before .before .before .before .before .before in let pre = s .pre in let k = c .before .before .before .before .is-kind in let told = c .before .before .last-mark-of in let found = c .shares-among in
-    counted-among (s .args .file .now) (s .args .i) (λ p. Share p (termOf (s .args .e .now))) (unmarked-counts (pre .2) (pre .0 .lists) (pre .1) (says-yes (k .result) (k .ensures) (c .before .before .before .if1 .taken)) (told .ensures) (omega (arith, c .before .if2 .left)))
+    counted-among (s .args .file .now) (s .args .i) (λ p. Share (atomsIn (s .args .file .now)) p (termOf (s .args .e .now))) (unmarked-counts (pre .2) (pre .0 .lists) (pre .1) (says-yes (k .result) (k .ensures) (c .before .before .before .if1 .taken)) (told .ensures) (omega (arith, c .before .if2 .left)))
     (found .result) (found .ensures))  -- returns-2
     (λ c. let k = c .before .is-kind in other-kind (says-no (k .result) (k .ensures) (c .if1 .left)))  -- returns-3
     )

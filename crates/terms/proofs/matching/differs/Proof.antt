@@ -4,7 +4,7 @@ use mathlib.Core.Bool.{false≢true}
 use native.Mathlib.Omega.{arith}
 use borrow.Author.Tests.{not-true}
 use Rattle.terms.proofs.AnswerLaws.{says-no}
-use Rattle.terms.proofs.RunLaws.{front-room, differ-alike, apart-shares}
+use Rattle.terms.proofs.RunLaws.{front-room, differ-alike, apart-common}
 use Rattle.terms.proofs.TermGraphLaws.{tag-from}
 use Rattle.terms.proofs.matching.differs.Statement.{statement}
 use Rattle.terms.proofs.matching.differs.Tie as tie
@@ -26,6 +26,6 @@ differs-spec = tie.close (tie.spec
     let low = says-no (one .result) (one .ensures) (c .before .before .if2 .left) in
     let low′ = says-no (other .result) (other .ensures) (not-true (other .result) e) in
     let some-left = c .before .before .before .before .before .before .if1 .left in
-    apart-shares (pre .0) (pre .1) (differ-alike (pre .3) some-left (omega (arith, tag-from (args .p .now) (args .run .count)))
+    apart-common (pre .0) (pre .1) (differ-alike (pre .3) some-left (omega (arith, tag-from (args .p .now) (args .run .count)))
     (omega (arith, tag-from (args .t .now) (args .run .count))) (pre .4)))  -- returns-3
     )

@@ -8,14 +8,14 @@ use borrow.Author.Needs.{needs}
 use borrow.Rule.Slice.PartAt.{part-to-end}
 use Rattle.terms.specs.Entry.{termOf, from}
 use Rattle.terms.proofs.EntryLaws.{suffix}
-use Rattle.terms.specs.Slot.{slotCount, slotOf}
+use Rattle.terms.specs.Slot.{anySlots, slotOf}
 use Rattle.terms.specs.Meetings.{Distinct}
 use Rattle.terms.proofs.MeetingLaws.{Seen, distinct-none, distinct-more, seen-new, seen-more}
 use Rattle.terms.proofs.sharing.is_free_match.Statement.{statement}
 use Rattle.terms.proofs.sharing.is_free_match.Tie as tie
 
 abbrev Inv-loop : tie.InvT-loop
-Inv-loop s m n seen₀ k₀ seen k = (k ≤ n) × (length seen ≡ slotCount) × Distinct s m k × Seen s m seen k
+Inv-loop s m n seen₀ k₀ seen k = (k ≤ n) × (length seen ≡ anySlots) × Distinct s m k × Seen s m seen k
 
 abbrev μ-loop : tie.MeasureT-loop
 μ-loop s m n seen₀ k₀ seen k = n - k
@@ -39,7 +39,7 @@ is-free-match-spec = tie.close (tie.spec Inv-loop μ-loop
     (λ c. search needs)  -- loop-less
     (λ c. let inv = c .before .before .before .before .before .before .before .loop .inv in let s = c .before .before .before .before .before .before .before .before .before .args .s .now in
     let is = c .before .before .slot .ensures ∙ ap (λ (a : ℕ). slotOf (termOf (from (4 * a) s))) (c .before .before .before .before .wide .ensures .0) in
-    let low : c .before .before .slot .result < slotCount = search needs in (
+    let low : c .before .before .slot .result < anySlots = search needs in (
       search needs,
       simp length-set (inv .1),
       distinct-more (inv .2) (omega (arith, is, low)) (seen-new (inv .3) is (c .if2 .left)),

@@ -1,4 +1,7 @@
 -- `terms::valid::limits` meets its contract. Assumes nothing.
+use mathlib.Core.Path.{ap₂}
+use mathlib.Core.List.{[], _∷_}
+use Prim.Native.Nat.{ℕ}
 use Rattle.terms.specs.EntryTables.{limitsOf}
 use borrow.Author.Needs.{needs}
 use Rattle.terms.proofs.valid.limits.Statement.{statement}
@@ -9,5 +12,6 @@ unfolding limitsOf
 limits-spec = tie.close (tie.spec
     (λ c κs. search needs)  -- plain-limit-requires
     (λ c κs. search needs)  -- marked-limit-requires
-    (λ c. let plain = c .before .plain-limit .ensures in let marked = c .marked-limit .ensures in cc)  -- returns
+    (λ c. let count = c .before .before .args .count in
+    ap₂ (λ (p m : ℕ). 0 ∷ count ∷ 1 ∷ count ∷ p ∷ m ∷ p ∷ m ∷ []) (c .before .plain-limit .ensures) (c .marked-limit .ensures))  -- returns
     )

@@ -92,7 +92,7 @@ pub fn doubling(random: &mut Random) -> Sketch {
     let mut tried = 0;
     while sketch.goods.len() < 30 && tried < 3_000 {
         let (pattern, _) = long_pair(random);
-        if !literal::shares(&pattern, &term) {
+        if !literal::shares(&sketch.atoms, &pattern, &term) {
             let with_any = Term::pair(pattern, either(tried));
             sketch.goods.push(under(KEY, with_any));
         }

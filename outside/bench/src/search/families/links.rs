@@ -49,15 +49,20 @@ pub fn closed(i: usize, levels: usize) -> Term {
     links(items, KEY, either(i + i / levels % levels))
 }
 
+/// So many levels of variables, the first once more at the last, and another one
+/// inside.
+pub fn first_again(i: usize, levels: usize) -> Term {
+    let mut items: Vec<Term> = (0..levels).map(|at| either(i + at)).collect();
+    items[levels - 1] = items[0].clone();
+    links(items.into_iter(), KEY, either(i + levels))
+}
+
 /// A variable at the first and at the last level, beside different leaves.
 pub fn late_clash(random: &mut Random) -> Sketch {
     let levels = random.between(2, 9);
     let mut sketch = base();
     for i in 0..random.between(20, 40) {
-        let mut items: Vec<Term> = (0..levels).map(|at| either(i + at)).collect();
-        items[levels - 1] = items[0].clone();
-        let inside = either(i + levels);
-        sketch.goods.push(links(items.into_iter(), KEY, inside));
+        sketch.goods.push(first_again(i, levels));
     }
     fill(sketch, |i| {
         let items = (0..LEVELS).map(|at| match at % levels {
@@ -186,6 +191,7 @@ impl WithoutMarks for Term {
     fn without_marks(&self) -> Term {
         match self {
             Term::Marked(number) => Term::Plain(*number),
+            Term::MarkedNonce(number) => Term::PlainNonce(*number),
             Term::Pair(left, right) => Term::pair(left.without_marks(), right.without_marks()),
             Term::Encryption(message, key) => Term::encryption(message.without_marks(), *key),
             _ => self.clone(),

@@ -6,6 +6,7 @@ mod hats;
 mod joined;
 mod links;
 mod marked;
+mod nonces;
 mod secrets;
 mod wide;
 
@@ -32,6 +33,7 @@ fn family(name: &str, make: impl Fn(&mut Random) -> Sketch + 'static) -> Family 
 pub fn written() -> Vec<Family> {
     let mut all = without_marks_in_bads();
     all.extend(with_marks_in_bads());
+    all.extend(with_nonce_variables());
     all.push(family("generated", generated));
     all
 }
@@ -43,6 +45,15 @@ fn with_marks_in_bads() -> [Family; 5] {
         family("marked-premises", marked::premises),
         family("marked-fields", marked::fields),
         family("marked-below", marked::below),
+    ]
+}
+
+fn with_nonce_variables() -> [Family; 4] {
+    [
+        family("nonces-chains", nonces::chains),
+        family("nonces-late-clash", nonces::late_clash),
+        family("nonces-classes", nonces::classes),
+        family("nonces-hats", nonces::hats),
     ]
 }
 
