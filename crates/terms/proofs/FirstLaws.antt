@@ -1,11 +1,17 @@
 -- Laws of the first number of which a claim does not hold: `firstNot` finds it, and nothing else is it.
 use mathlib.Core.Path.{_≡_, refl}
+use mathlib.Core.Logic.{_↔_}
 use Prim.Native.Nat.{ℕ, zero, suc, _+_, _<_}
 use native.Mathlib.Omega.{arith}
 use native.Mathlib.Decide.{decLt, ℕ-discrete}
 use Rattle.terms.specs.declared.valid.Found.{Found}
 use Rattle.terms.specs.declared.valid.Found.the-variants.{At, Nothing}
 use Rattle.terms.specs.First.{FirstNot, fails, holds, firstFrom, firstNot}
+
+-- A claim that holds of the same numbers has the same first.
+pub first-along : {P Q : ℕ → Type 0} {count : ℕ} → ((k : ℕ) → k < count → P k ↔ Q k) → {f : Found} → FirstNot P count f → FirstNot Q count f
+first-along same (fails {n} e l off all) = fails e l (λ q. off (same n l .1 q)) (λ k h. same k (omega arith) .0 (all k h))
+first-along same (holds e all) = holds e (λ k h. same k h .0 (all k h))
 
 module _ {P : ℕ → Type 0} (P? : (n : ℕ) → Dec (P n)) where
   -- What is found has the meaning.

@@ -1,5 +1,5 @@
 -- Laws of number 12 on the entries: searches through open entries, risky and covered entries, and the rule. Assumes nothing.
-use mathlib.Core.Path.{_≡_, refl, sym, ap, _∙_}
+use mathlib.Core.Path.{_≡_, refl, sym, ap, subst, _∙_}
 use mathlib.Core.Bool.{Bool}
 use mathlib.Core.List.{List, [], _∷_}
 use mathlib.Core.Logic.{_⊎_, inl, inr, _↔_}
@@ -22,8 +22,8 @@ use Rattle.terms.specs.Reading.{First, first-atom, first-pair, first-wrapped, f
 use Rattle.terms.proofs.EntryLaws.{termOf-reads, suffix, reads-variable, term-reads}
 use Rattle.terms.specs.Decisions.{Says, says-same}
 use Rattle.terms.proofs.AnswerLaws.{answer-yes, answer-no}
-use Rattle.terms.specs.First.{FirstNot, fails, holds}
-use Rattle.terms.proofs.FirstLaws.{first-only}
+use Rattle.terms.specs.First.{FirstNot}
+use Rattle.terms.proofs.FirstLaws.{first-only, first-along}
 use Rattle.terms.proofs.PlacedLaws.{placed, within, spotted, subterm-at, spot-placed}
 use Rattle.judge.specs.Certificate.{Certificate, Rule}
 use Rattle.judge.specs.File.{certificateOf, ruleOf}
@@ -280,12 +280,16 @@ module _ {file : List ℕ} (laid : Laid file) (rule : Rule) {e : List ℕ} (is :
             go on (yes bare) = inl (l .gone k bare off)
             go on (no gone) = inr (stands-open k on .0 (b .gone k on gone))
 
+        -- An entry is fine if it is not left flagged.
+        left-fine : (k : ℕ) → k < size (termOf conclusion) → (¬ On left k) ↔ FineSpot (certificateOf file) rule k
+        left-fine k inside =
+            let small : k < size (rule .conclusion) = rw term inside in
+            (λ off. fine-at k small .0 (fine k inside off), λ h on. not-fine k on (fine-at k small .1 h))
+
         first-fine : {r : Found} → FirstNot (λ k. ¬ On left k) (size (termOf conclusion)) r
             → FirstNot (FineSpot (certificateOf file) rule) (size (rule .conclusion)) r
-        first-fine (fails {n} is inside off all) =
-            let small : n < size (rule .conclusion) = rw term inside in
-            fails is small (λ h. off (λ on. not-fine n on (fine-at n small .1 h))) (λ k low. fine-at k (omega arith) .0 (fine k (omega arith) (all k low)))
-        first-fine (holds is all) = holds is (λ k low. fine-at k low .0 (let small = rw term at low in fine k small (all k small)))
+        first-fine {r} found =
+            subst (λ (n : ℕ). FirstNot (FineSpot (certificateOf file) rule) n r) (sym (ap size term)) (first-along left-fine found)
 
         pub uncovered-rule : ¬ SomeFlagged e opened (IsSecret (certificateOf file)) → {r : Found} {n : ℕ} → n ≡ size (termOf conclusion)
             → FirstNot (λ k. ¬ On left k) n r → r ≡ uncovered (certificateOf file) rule

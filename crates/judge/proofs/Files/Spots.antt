@@ -23,18 +23,17 @@ use Rattle.judge.specs.Verdict.{spotAt, FineSpot}
 pub placed-entry : {e : List ℕ} → OneTerm e → {k : ℕ} {p : Place} {t : Term Variable} → Placed (termOf e) k p t → termOf (drop (4 * k) e) ≡ t
 placed-entry o w = termOf-reads (placed-reads w (record { is = one-alone o }) .1)
 
-module _ (certificate : Certificate) (rule : Rule) where
-  pub spot-stands : (k : ℕ) → k < size (rule .conclusion)
-      → Placed (rule .conclusion) k (spotAt (rule .conclusion) k .0) (spotAt (rule .conclusion) k .1)
-  unfolding spotAt
-  spot-stands k inside = spot-placed (rule .conclusion) k ([], rule .conclusion) inside
+pub spot-stands : (t : Term Variable) (k : ℕ) → k < size t → Placed t k (spotAt t k .0) (spotAt t k .1)
+unfolding spotAt
+spot-stands t k inside = spot-placed t k ([], t) inside
 
+module _ (certificate : Certificate) (rule : Rule) where
   pub fine-spot : (k : ℕ) → k < size (rule .conclusion) → FineSpot certificate rule k ↔ FineAt certificate rule k
-  fine-spot k inside = (to, λ fine. fine _ _ (spot-stands k inside))
+  fine-spot k inside = (to, λ fine. fine _ _ (spot-stands (rule .conclusion) k inside))
     where
       to : FineSpot certificate rule k → FineAt certificate rule k
       to fine p t w r =
-          let here = spot-stands k inside in
+          let here = spot-stands (rule .conclusion) k inside in
           let place : p ≡ spotAt (rule .conclusion) k .0 = one-place w here in
           let subterm : t ≡ spotAt (rule .conclusion) k .1 = one-subterm w here in
           rw (place, subterm) (fine (rw subterm at r))
@@ -49,4 +48,4 @@ module _ (certificate : Certificate) (rule : Rule) where
 
   pub each-entry : ((p : Place) (t : Term Variable) → subtermAt p (rule .conclusion) ≡ some t → Risky certificate t → Covered certificate rule p t)
       → (k : ℕ) → k < size (rule .conclusion) → FineSpot certificate rule k
-  each-entry every k inside = every _ _ (spot-stands k inside .stands)
+  each-entry every k inside = every _ _ (spot-stands (rule .conclusion) k inside .stands)

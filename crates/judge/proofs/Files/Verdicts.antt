@@ -114,7 +114,7 @@ module _ (certificate : Certificate) (rule : Rule) where
           alive = alive;
           place = spotAt (rule .conclusion) n .0;
           subterm = spotAt (rule .conclusion) n .1;
-          stands = spot-stands certificate rule n l;
+          stands = spot-stands (rule .conclusion) n l;
           risky = elim (risky? certificate (spotAt (rule .conclusion) n .1)) [ yes r ↦ r | no m ↦ absurd (off (λ r. absurd (m r))) ];
           bare = λ c. off (λ r. c);
           before = λ m h. fine-spot certificate rule m (omega arith) .0 (all m h);

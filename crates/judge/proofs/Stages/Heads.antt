@@ -21,8 +21,8 @@ use Rattle.terms.specs.Instance.{Matches, Share}
 use Rattle.terms.specs.Entry.{size}
 use Rattle.terms.specs.Decide.{answer}
 use Rattle.terms.proofs.AnswerLaws.{answer-same}
-use Rattle.terms.specs.First.{FirstNot, fails, holds, firstNot}
-use Rattle.terms.proofs.FirstLaws.{first-is, first-only}
+use Rattle.terms.specs.First.{firstNot}
+use Rattle.terms.proofs.FirstLaws.{first-is, first-only, first-along}
 use Rattle.judge.specs.Certificate.{Certificate, Rule, Secret, Good, Bad}
 use Rattle.judge.specs.File.{blockCount, TwoAtomBlocks, moreEntries, fileAtoms, blocksOf, ofKind, patternOf, secretOf, certificateOf}
 use Rattle.judge.specs.Laid.{Laid}
@@ -92,16 +92,12 @@ module _ {c d : Certificate} (out : Sublists c d) (back : Sublists d c) where
 fine : {c d : Certificate} → Sublists c d → Sublists d c → (rule : Rule) (k : ℕ) → FineSpot c rule k → FineSpot d rule k
 fine out back rule k f r = covered out back (f (risky back out r))
 
-first : {P Q : ℕ → Type 0} → ((k : ℕ) → P k → Q k) → ((k : ℕ) → Q k → P k) → {count : ℕ} {f : Found} → FirstNot P count f → FirstNot Q count f
-first to from (fails {n} e l off all) = fails e l (λ q. off (from n q)) (λ k h. to k (all k h))
-first to from (holds e all) = holds e (λ k h. to k (all k h))
-
 same-rule : {c d : Certificate} → Sublists c d → Sublists d c → (rule : Rule) → uncovered c rule ≡ uncovered d rule
 unfolding uncovered
 same-rule {c} {d} out back rule =
     let one : answer (dead? c rule) ≡ answer (dead? d rule) = answer-same (dead? c rule) (dead? d rule) (dead out back) (dead back out) in
     let two : firstNot (fine? c rule) (size (rule .conclusion)) ≡ firstNot (fine? d rule) (size (rule .conclusion)) =
-    first-only (fine? d rule) (first (fine out back rule) (fine back out rule) (first-is (fine? c rule) (size (rule .conclusion)))) in
+    first-only (fine? d rule) (first-along (λ k h. (fine out back rule k, fine back out rule k)) (first-is (fine? c rule) (size (rule .conclusion)))) in
     ap (λ (b : Bool). elim b [ true ↦ Nothing | false ↦ firstNot (fine? c rule) (size (rule .conclusion)) ]) one
     ∙ ap (λ (f : Found). elim (answer (dead? d rule)) [ true ↦ Nothing | false ↦ f ]) two
 
