@@ -23,12 +23,13 @@ static const char *const what_is_wrong[] = {
     [ZEPAYONG_NOT_CLOSED] = "the secret is not weakly closed",
     [ZEPAYONG_KEY_NOT_KEPT] = "the inverse of the good pattern's root key is not a listed secret",
     [ZEPAYONG_UNCOVERED] = "the risky place is not covered",
+    [ZEPAYONG_OPEN_SECRET] = "the premise has a listed secret at this open place",
 };
 
 /* Words for a number; another one is from a later checker. */
 static const char *words(unsigned number)
 {
-    if (number > 0 && number < sizeof what_is_wrong / sizeof what_is_wrong[0])
+    if (number < sizeof what_is_wrong / sizeof what_is_wrong[0] && what_is_wrong[number] != NULL)
         return what_is_wrong[number];
     return "a number that this loader does not know";
 }

@@ -18,7 +18,7 @@ extern "C" {
 
 /* Which documents header and archive follow: 1 is document 01, and each change
  * request that lands raises the number by 1. Load nothing if the two differ. */
-#define ZEPAYONG_VERSION 4
+#define ZEPAYONG_VERSION 5
 uint32_t zepayong_version(void);
 
 /* Judges a certificate of any length. Answers 0 if it is accepted, and else
@@ -30,7 +30,7 @@ uint32_t zepayong_check(const uint8_t *file, size_t length);
 #define ZEPAYONG_LONGEST 32768
 
 /* Bytes of stack that a call takes at most, for any input, its return address included. */
-#define ZEPAYONG_STACK 33408
+#define ZEPAYONG_STACK 33440
 
 /* The numbers. Blocks and entries count from 0. Where a number names no place, the place is 0. */
 enum zepayong_verdict {
@@ -59,7 +59,10 @@ enum zepayong_verdict {
     /* The inverse of the root key of this good pattern is not a listed secret. */
     ZEPAYONG_KEY_NOT_KEPT = 11,
     /* The risky place of this rule is not covered. */
-    ZEPAYONG_UNCOVERED = 12
+    ZEPAYONG_UNCOVERED = 12,
+    /* A listed secret stands at this place, an open one, of this rule's premise. Asked of every rule before any 12.
+     * (13 and 14 are answers of other calls.) */
+    ZEPAYONG_OPEN_SECRET = 15
 };
 
 /* The parts of an answer. */

@@ -7,7 +7,7 @@ use lib.Dec.{eqb}
 use Rattle.blocks.specs.Limits.{blockSize}
 use Rattle.judge.specs.declared.verdict.Fault.{Fault}
 use Rattle.judge.specs.declared.verdict.Fault.the-variants.{Length, Check, Kind, Missing, Layout, AtomEntry}
-use Rattle.judge.specs.declared.verdict.Fault.the-variants.{TermEntry, NotOneTerm, KnownSecret, NotClosed, KeyNotKept, Uncovered}
+use Rattle.judge.specs.declared.verdict.Fault.the-variants.{TermEntry, NotOneTerm, KnownSecret, NotClosed, KeyNotKept, Uncovered, OpenSecret}
 use Rattle.judge.specs.declared.verdict.Verdict.{Verdict}
 use Rattle.judge.specs.declared.verdict.Verdict.the-variants.{Accepted, Refused}
 use Rattle.judge.specs.declared.answer.Row.{Row}
@@ -16,7 +16,8 @@ use Rattle.blocks.specs.Block.{hasBlock, blockAt}
 
 -- ---- the table of verdicts
 
--- The columns "Nr" and "Block, place", for each kind of fault. For number 4 the block is "number of blocks".
+-- The columns "Nr" and "Block, place", for each kind of fault. For number 4 the block is "number of blocks". Number 15 is
+-- of 02, No. 4.
 abbrev pub rowOf : Fault → Row
 rowOf Length = record { number = 1; block = 0; place = 0 }
 rowOf (Check b) = record { number = 2; block = b; place = 0 }
@@ -30,6 +31,7 @@ rowOf (KnownSecret b) = record { number = 9; block = b; place = 0 }
 rowOf (NotClosed b) = record { number = 10; block = b; place = 0 }
 rowOf (KeyNotKept b) = record { number = 11; block = b; place = 0 }
 rowOf (Uncovered b p) = record { number = 12; block = b; place = p }
+rowOf (OpenSecret b p) = record { number = 15; block = b; place = p }
 
 abbrev pub numberOf : Fault → ℕ
 numberOf f = rowOf f .number

@@ -1,10 +1,10 @@
--- What numbers 9 to 12 ask, block by block (document 01, "Verdicts").
+-- What numbers 9 to 12 ask, block by block (document 01, "Verdicts"), and number 15 (02, No. 4).
 use mathlib.Core.Path.{_≡_}
 use mathlib.Core.Logic.{_⊎_}
 use Prim.Native.Nat.{ℕ}
 use Rattle.terms.specs.Term.{Term, atom, pair, encrypted, Message, Variable, Foreign}
 use Rattle.judge.specs.Certificate.{Rule, Certificate, Secret, Good, Listed, Known, inverse}
-use Rattle.judge.specs.Cover.{Passes}
+use Rattle.judge.specs.Cover.{HasOpenSecret, Passes}
 
 -- 9: a secret is a known atom.
 pub record KnownAtom (certificate : Certificate) (secret : Message) : Type 0 where
@@ -34,5 +34,7 @@ pub record MeetsAll (certificate : Certificate) : Type 0 where
   pub weaklyClosed : (secret : Message) → Secret certificate secret → WeaklyClosed certificate secret
   -- 11: of every good pattern, the inverse of the root key is listed.
   pub keptKeys : (good : Term Variable) → Good certificate good → KeptKey certificate good
+  -- 15: no rule's premise has a listed secret at an open place.
+  pub noOpenSecret : (rule : Rule) → Listed certificate rule → ¬ HasOpenSecret certificate rule
   -- 12: every rule passes.
   pub passes : (rule : Rule) → Listed certificate rule → Passes certificate rule

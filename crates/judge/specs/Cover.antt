@@ -1,4 +1,4 @@
--- Cover (document 01, "Hats and cover", and 02, No. 2).
+-- Cover (document 01, "Hats and cover", and 02, No. 2 and No. 4).
 use mathlib.Core.Path.{_≡_}
 use mathlib.Core.List.{_++_}
 use mathlib.Core.Option.{some}
@@ -65,6 +65,20 @@ pub record AtOpenPlace (certificate : Certificate) (rule : Rule) (t : Term Varia
   pub stands : subtermAt place premise ≡ some t
   pub isOpen : Open certificate premise place
 
+-- "A listed secret at an open place" of a premise, the place p (02, No. 4). The secret itself stands there, symbol for symbol.
+pub record SecretOpenAt (certificate : Certificate) (premise : Term Variable) (p : Place) : Type 0 where
+  pub secret : Message
+  pub listed : Secret certificate secret
+  pub stands : subtermAt p premise ≡ some (asTerm secret)
+  pub isOpen : Open certificate premise p
+
+-- "A rule whose premise has a listed secret at an open place" (02, No. 4).
+pub record HasOpenSecret (certificate : Certificate) (rule : Rule) : Type 0 where
+  pub premise : Term Variable
+  pub given : rule .premise ≡ some premise
+  pub place : Place
+  pub openSecret : SecretOpenAt certificate premise place
+
 -- Risky place of a conclusion: a variable, of any sort, or a subterm that shares an instance with a secret; t is what stands
 -- there.
 pub data Risky (certificate : Certificate) (t : Term Variable) : Type 0 where
@@ -77,17 +91,10 @@ pub data Covered (certificate : Certificate) (rule : Rule) (p : Place) (t : Term
   sureHat : SureHat certificate (rule .conclusion) p → Covered certificate rule p t
   inPremise : AtOpenPlace certificate rule t → Covered certificate rule p t
 
--- Dead rule: a listed secret stands at an open place of its premise.
-pub record Dead (certificate : Certificate) (rule : Rule) : Type 0 where
-  pub secret : Message
-  pub listed : Secret certificate secret
-  pub stands : AtOpenPlace certificate rule (asTerm secret)
-
--- A rule passes if it is dead or every risky place of its conclusion is covered.
-pub data Passes (certificate : Certificate) (rule : Rule) : Type 0 where
-  dead : Dead certificate rule → Passes certificate rule
-  covered : ((p : Place) (t : Term Variable) → subtermAt p (rule .conclusion) ≡ some t → Risky certificate t →
-      Covered certificate rule p t) → Passes certificate rule
+-- A rule passes if every risky place of its conclusion is covered. (02, No. 4: "the dead-rule allowance ends".)
+pub record Passes (certificate : Certificate) (rule : Rule) : Type 0 where
+  pub covered : (p : Place) (t : Term Variable) → subtermAt p (rule .conclusion) ≡ some t → Risky certificate t →
+      Covered certificate rule p t
 
 -- A place of the conclusion that stands at entry k is covered if it is risky.
 abbrev pub FineAt : Certificate → Rule → ℕ → Type 0

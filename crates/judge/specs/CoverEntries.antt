@@ -276,19 +276,26 @@ pub record IndexedBelow (e flags : List ℕ) (n : ℕ) (index : List ℕ) : Type
 abbrev pub Indexed : List ℕ → List ℕ → List ℕ → Type 0
 Indexed e flags index = IndexedBelow e flags entryFlags index
 
--- Entry k of the conclusion is risky.
-pub record RiskyEntry (certificate : Certificate) (e : List ℕ) (k : ℕ) : Type 0 where
+-- Entry k is one of these entries, and P holds of it.
+pub record EntryWith (e : List ℕ) (P : ℕ → Type 0) (k : ℕ) : Type 0 where
   pub inside : 4 * k < length e
-  pub risky : Risky certificate (subAt e k)
+  pub holds : P k
+
+-- Entry k of the conclusion is risky.
+abbrev pub RiskyEntry : Certificate → List ℕ → ℕ → Type 0
+RiskyEntry certificate e = EntryWith e (λ k. Risky certificate (subAt e k))
+
+-- It is, and that is asked.
+abbrev pub AskedEntry : Bool → Certificate → List ℕ → ℕ → Type 0
+AskedEntry asked certificate e = EntryWith e (λ k. (asked ≡ true) × Risky certificate (subAt e k))
 
 -- Whether entry k of the premise is open matters: a listed secret stands there, or a risky subterm of the conclusion.
 pub data Wanted (certificate : Certificate) (premise conclusion risky : List ℕ) (k : ℕ) : Type 0 where
   isSecret : IsSecret certificate (subAt premise k) → Wanted certificate premise conclusion risky k
   isRisky : SomeFlagged conclusion risky (λ s. s ≡ subAt premise k) → Wanted certificate premise conclusion risky k
 
-pub record WantedEntry (certificate : Certificate) (premise conclusion risky : List ℕ) (k : ℕ) : Type 0 where
-  pub inside : 4 * k < length premise
-  pub wanted : Wanted certificate premise conclusion risky k
+abbrev pub WantedEntry : Certificate → List ℕ → List ℕ → List ℕ → ℕ → Type 0
+WantedEntry certificate premise conclusion risky = EntryWith premise (Wanted certificate premise conclusion risky)
 
 -- Entry k of the conclusion is covered if it is risky.
 pub record FineEntry (certificate : Certificate) (premise conclusion : List ℕ) (k : ℕ) : Type 0 where

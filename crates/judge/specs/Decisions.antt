@@ -18,7 +18,7 @@ use Rattle.terms.specs.Search.{any?, all?, member?, any-above?, all-above?, at-
 use Rattle.judge.specs.Certificate.{Rule, Certificate, Secret, Good, Bad, Known, inverse}
 use Rattle.judge.specs.Hat.{markNamed, Mark, Marked, Cancels, everywhere, atMark}
 use Rattle.judge.specs.Cover.{MarkBelow, MayCancel, cancels, belowPlace, SureHat, NoHat, sharesNoGood, isBad, Open, AtOpenPlace, Risky, isVariable}
-use Rattle.judge.specs.Cover.{sharesSecret, Covered, sureHat, inPremise, Dead}
+use Rattle.judge.specs.Cover.{SecretOpenAt, sharesSecret, Covered, sureHat, inPremise}
 use Rattle.judge.specs.Conditions.{KnownAtom, WeaklyClosed, KeptKey}
 
 unfoldable pub same-term? : (t u : Term Variable) → Dec (t ≡ u)
@@ -251,6 +251,18 @@ module _ (certificate : Certificate) where
           ((h .place, t), (rw same at (h .stands)), (refl, (rw same at (h .isOpen)))))
           (any-place? premise (λ w. dec-and (same-term? (w .1) t) (λ s. open? premise (w .0))))
 
+  -- A listed secret at this open place of a premise.
+  unfoldable pub secret-open? : (premise : Term Variable) (p : Place) → Dec (SecretOpenAt certificate premise p)
+  unfolding subtermAt dec-map dec-and any? same-term? open? asTerm replace
+  secret-open? premise p = here (subtermAt p premise) refl
+    where
+      here : (o : Option (Term Variable)) → subtermAt p premise ≡ o → Dec (SecretOpenAt certificate premise p)
+      here none e = no (λ h. Option·none-ne-some _ (sym e ∙ h .stands))
+      here (some t) e =
+          dec-map (λ w. record { secret = w .0; listed = w .1; stands = e ∙ ap some (w .2 .0); isOpen = w .2 .1 })
+          (λ h. let f = h .stands in (h .secret, h .listed, (cc, h .isOpen)))
+          (any? (certificate .secrets) (λ secret. dec-and (same-term? t (asTerm secret)) (λ s. open? premise p)))
+
   -- Risky place of a conclusion.
   unfoldable pub risky? : (t : Term Variable) → Dec (Risky certificate t)
   unfolding dec-map dec-or any? is-variable? shares? asTerm replace
@@ -280,9 +292,3 @@ module _ (certificate : Certificate) where
       from : Covered certificate rule p t → SureHat certificate (rule .conclusion) p ⊎ AtOpenPlace certificate rule t
       from (sureHat h) = inl h
       from (inPremise h) = inr h
-
-  unfoldable pub dead? : (rule : Rule) → Dec (Dead certificate rule)
-  unfolding dec-map any? at-open-place? asTerm replace
-  dead? rule =
-      dec-map (λ w. record { secret = w .0; listed = w .1; stands = w .2 }) (λ h. (h .secret, h .listed, h .stands))
-      (any? (certificate .secrets) (λ secret. at-open-place? rule (asTerm secret)))

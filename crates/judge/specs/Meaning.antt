@@ -1,7 +1,8 @@
--- What acceptance and each refusal mean (document 01, "Verdicts"). That `verdictOf` says just this is proved in
+-- What acceptance and each refusal mean (document 01, "Verdicts", and 02, No. 1 and No. 4). That `verdictOf` says just this is proved in
 -- proofs/Files/Verdicts.antt.
 use mathlib.Core.Path.{_≡_}
 use mathlib.Core.List.{List}
+use mathlib.Core.Option.{some}
 use Prim.Native.Nat.{ℕ, suc, _+_, _*_, _%_, _<_, _≤_}
 use lib.ListN.{length}
 use Rattle.blocks.specs.Kinds.{atomsKind, secretKind, goodKind, badKind, ruleKind, ListsTerm, HoldsTerms}
@@ -11,7 +12,7 @@ use Rattle.blocks.specs.Check.{CheckRight}
 use Rattle.blocks.specs.Layout.{LayoutRight}
 use Rattle.terms.specs.Term.{Term, Variable}
 use Rattle.terms.specs.Place.{Place}
-use Rattle.terms.specs.Entry.{Placed, termOf}
+use Rattle.terms.specs.Entry.{entryAt, Placed, termOf}
 use Rattle.terms.specs.declared.atom.Atom.{Atom}
 use Rattle.terms.specs.Atom.{AtomRight}
 use Rattle.terms.specs.TermEntry.{EntryRight}
@@ -19,10 +20,10 @@ use Rattle.terms.specs.Each.{EntryIs}
 use Rattle.terms.specs.OneTerm.{OneTerm, IsEncryption}
 use Rattle.judge.specs.declared.verdict.Fault.{Fault}
 use Rattle.judge.specs.declared.verdict.Fault.the-variants.{Length, Check, Kind, Missing, Layout, AtomEntry, TermEntry}
-use Rattle.judge.specs.declared.verdict.Fault.the-variants.{NotOneTerm, KnownSecret, NotClosed, KeyNotKept, Uncovered}
+use Rattle.judge.specs.declared.verdict.Fault.the-variants.{NotOneTerm, KnownSecret, NotClosed, KeyNotKept, Uncovered, OpenSecret}
 use Rattle.judge.specs.Certificate.{Certificate, Rule}
 use Rattle.judge.specs.File.{blockCount, patternOf, secretOf, ruleOf, certificateOf, TwoAtomBlocks, fileAtoms, usedEntries}
-use Rattle.judge.specs.Cover.{Risky, Covered, Dead, Passes, FineAt}
+use Rattle.judge.specs.Cover.{SecretOpenAt, HasOpenSecret, Risky, Covered, Passes, FineAt}
 use Rattle.judge.specs.Conditions.{KnownAtom, WeaklyClosed, KeptKey}
 
 -- 1: not length 0, a multiple of 512, not above 32,768.
@@ -136,8 +137,8 @@ EveryBefore n kind file P = (i : ℕ) → i < n → kindOf (blockAt file i) ≡ 
 abbrev pub Every : ℕ → List ℕ → (List ℕ → Type 0) → Type 0
 Every kind file P = EveryBefore (blockCount file) kind file P
 
--- What 9, 10, 11 and 12 ask of a block: its secret is no known atom, and is weakly closed; of its good pattern, the
--- inverse of the root key is a listed secret; its rule passes.
+-- What 9, 10, 11, 15 and 12 ask of a block: its secret is no known atom, and is weakly closed; of its good pattern, the
+-- inverse of the root key is a listed secret; its rule's premise has no listed secret at an open place, and the rule passes.
 abbrev pub SecretNotKnown : Certificate → List ℕ → Type 0
 SecretNotKnown certificate b = ¬ KnownAtom certificate (secretOf b)
 
@@ -147,13 +148,25 @@ SecretClosed certificate b = WeaklyClosed certificate (secretOf b)
 abbrev pub RootKeyKept : Certificate → List ℕ → Type 0
 RootKeyKept certificate b = KeptKey certificate (patternOf b)
 
+abbrev pub NoOpenSecret : Certificate → List ℕ → Type 0
+NoOpenSecret certificate b = ¬ HasOpenSecret certificate (ruleOf b)
+
 abbrev pub Passing : Certificate → List ℕ → Type 0
 Passing certificate b = Passes certificate (ruleOf b)
 
--- The first uncovered place of a rule that is not dead: it stands at entry k of the conclusion, and no place at an entry
--- before is uncovered. (The entries from k on begin with the subterm there: `placed-entry` of proofs/Files/Spots.antt.)
+-- "The place named is the first such entry" (02, No. 4): a listed secret stands at an open place of the premise, at entry k,
+-- and at no open place before it.
+pub record FirstOpenSecret (certificate : Certificate) (rule : Rule) (k : ℕ) : Type 0 where
+  pub premise : Term Variable
+  pub given : rule .premise ≡ some premise
+  pub place : Place
+  pub entry : entryAt place premise ≡ k
+  pub openSecret : SecretOpenAt certificate premise place
+  pub before : (p : Place) → SecretOpenAt certificate premise p → k ≤ entryAt p premise
+
+-- The first uncovered place of a rule: it stands at entry k of the conclusion, and no place at an entry before is uncovered.
+-- (The entries from k on begin with the subterm there: `placed-entry` of proofs/Files/Spots.antt.)
 pub record FirstUncovered (certificate : Certificate) (rule : Rule) (k : ℕ) : Type 0 where
-  pub alive : ¬ Dead certificate rule
   pub place : Place
   pub subterm : Term Variable
   pub stands : Placed (rule .conclusion) k place subterm
@@ -161,12 +174,13 @@ pub record FirstUncovered (certificate : Certificate) (rule : Rule) (k : ℕ) : 
   pub bare : ¬ Covered certificate rule place subterm
   pub before : (m : ℕ) → m < k → FineAt certificate rule m
 
--- Accepted: every condition of document 01 holds.
+-- Accepted: every condition of document 01 holds, and that of 02, No. 4.
 pub record Accepts (file : List ℕ) : Type 0 where
   pub formed : Formed file
   pub unknown : Every secretKind file (SecretNotKnown (certificateOf file))
   pub closed : Every secretKind file (SecretClosed (certificateOf file))
   pub kept : Every goodKind file (RootKeyKept (certificateOf file))
+  pub noOpenSecret : Every ruleKind file (NoOpenSecret (certificateOf file))
   pub passing : Every ruleKind file (Passing (certificateOf file))
 
 -- Block i is of this kind, P fails there, and holds of the blocks of this kind before it.
@@ -176,7 +190,7 @@ pub record FirstAt (i kind : ℕ) (file : List ℕ) (P : List ℕ → Type 0) : 
   pub fails : ¬ P (blockAt file i)
   pub before : EveryBefore i kind file P
 
--- Refused: the condition fails, and all that document 01's order puts before it holds.
+-- Refused: the condition fails, and all that the documents' order puts before it holds.
 pub data RefusedWith (file : List ℕ) (fault : Fault) : Type 0 where
   -- 1
   lengthFails : fault ≡ Length → ¬ LengthRight file → RefusedWith file fault
@@ -195,8 +209,14 @@ pub data RefusedWith (file : List ℕ) (fault : Fault) : Type 0 where
   -- 11
   keyNotKept : {i : ℕ} → fault ≡ KeyNotKept i → Formed file → Every secretKind file (SecretNotKnown (certificateOf file))
       → Every secretKind file (SecretClosed (certificateOf file)) → FirstAt i goodKind file (RootKeyKept (certificateOf file)) → RefusedWith file fault
+  -- 15 (02, No. 4): "over all rules in file order after 11 and before any 12". The premise's entries are the block's first.
+  secretOpen : {i k : ℕ} → fault ≡ OpenSecret i k → Formed file
+      → Every secretKind file (SecretNotKnown (certificateOf file)) → Every secretKind file (SecretClosed (certificateOf file))
+      → Every goodKind file (RootKeyKept (certificateOf file)) → FirstAt i ruleKind file (NoOpenSecret (certificateOf file))
+      → FirstOpenSecret (certificateOf file) (ruleOf (blockAt file i)) k → RefusedWith file fault
   -- 12: the place is the entry's number in the block.
   placeUncovered : {i k : ℕ} → fault ≡ Uncovered i (firstCount (blockAt file i) + k) → Formed file
       → Every secretKind file (SecretNotKnown (certificateOf file)) → Every secretKind file (SecretClosed (certificateOf file))
-      → Every goodKind file (RootKeyKept (certificateOf file)) → FirstAt i ruleKind file (Passing (certificateOf file))
+      → Every goodKind file (RootKeyKept (certificateOf file)) → Every ruleKind file (NoOpenSecret (certificateOf file))
+      → FirstAt i ruleKind file (Passing (certificateOf file))
       → FirstUncovered (certificateOf file) (ruleOf (blockAt file i)) k → RefusedWith file fault

@@ -1,6 +1,7 @@
 -- The verdict of a file (document 01, "Verdicts"), in the order "1; per block in file order 2, 3, 5, 6 or 7, 8 (entries
 -- rising, premise before conclusion); then 4; then 9, 10, 11, 12, each over all blocks in file order". Of two atom blocks,
--- "number 6 is judged for both once the last atom block has passed 2, 3 and 5" (02, No. 1). `none` is: no fault here.
+-- "number 6 is judged for both once the last atom block has passed 2, 3 and 5" (02, No. 1); 15 comes "over all rules in file
+-- order after 11 and before any 12" (02, No. 4). `none` is: no fault here.
 use mathlib.Core.Bool.{Bool, true, false, _&&_}
 use mathlib.Core.List.{List, []}
 use mathlib.Core.Option.{Option, none, some}
@@ -27,7 +28,7 @@ use Rattle.terms.specs.Place.{Spot, spots}
 use Rattle.terms.specs.Decide.{answer}
 use Rattle.judge.specs.declared.verdict.Fault.{Fault}
 use Rattle.judge.specs.declared.verdict.Fault.the-variants.{Length, Check, Kind, Missing, Layout, AtomEntry, TermEntry}
-use Rattle.judge.specs.declared.verdict.Fault.the-variants.{NotOneTerm, KnownSecret, NotClosed, KeyNotKept, Uncovered}
+use Rattle.judge.specs.declared.verdict.Fault.the-variants.{NotOneTerm, KnownSecret, NotClosed, KeyNotKept, Uncovered, OpenSecret}
 use Rattle.judge.specs.declared.listed.Condition.{Condition}
 use Rattle.judge.specs.declared.listed.Condition.the-variants.{NotKnown, Closed, Kept}
 use Rattle.judge.specs.declared.verdict.Verdict.{Verdict}
@@ -35,9 +36,9 @@ use Rattle.judge.specs.declared.verdict.Verdict.the-variants.{Accepted, 
 use Rattle.judge.specs.Certificate.{Certificate, Rule}
 use Rattle.judge.specs.File.{blockCount, blocksFrom, blocksOf, ofKind, patternOf, secretOf, ruleOf, certificateOf}
 use Rattle.judge.specs.File.{fileAtoms, moreEntries, usedEntries, kindCount, countsOf}
-use Rattle.judge.specs.Cover.{Risky, Covered}
+use Rattle.judge.specs.Cover.{SecretOpenAt, Risky, Covered}
 use Rattle.judge.specs.Meaning.{SecretNotKnown, SecretClosed, RootKeyKept}
-use Rattle.judge.specs.Decisions.{known-atom?, weakly-closed?, kept-key?, risky?, covered?, dead?}
+use Rattle.judge.specs.Decisions.{known-atom?, weakly-closed?, kept-key?, secret-open?, risky?, covered?}
 
 -- ---- number 1
 
@@ -139,6 +140,10 @@ unfoldable pub firstFault : (ℕ → Option Fault) → ℕ → ℕ → Option Fa
 firstFault judged i zero = none
 firstFault judged i (suc left) = elim (judged i) [ some f ↦ some f | none ↦ firstFault judged (suc i) left ]
 
+-- One fault, or else another.
+abbrev pub orFault : Option Fault → Option Fault → Option Fault
+orFault fault other = elim fault [ some f ↦ some f | none ↦ other ]
+
 unfoldable pub formFrom : List ℕ → ℕ → ℕ → Option Fault
 formFrom file i left = firstFault (blockFault file) i left
 
@@ -151,7 +156,7 @@ formFault file = formFrom file 0 (blockCount file)
 unfoldable pub missingFault : List ℕ → Option Fault
 missingFault file = elim (leb 1 (kindCount secretKind file) && leb 1 (kindCount ruleKind file)) [ true ↦ none | false ↦ some (Missing (blockCount file)) ]
 
--- ---- numbers 9 to 12: the certificate
+-- ---- numbers 9 to 12, and 15: the certificate
 
 -- Block i, if it is of this kind.
 unfoldable pub onKind : ℕ → (ℕ → List ℕ → Option Fault) → List ℕ → ℕ → Option Fault
@@ -194,6 +199,24 @@ conditionFault condition certificate file = kindFault (kindAsked condition) (con
 unfoldable pub spotAt : Term Variable → ℕ → Spot Variable
 spotAt t k = getD (spots t) k ([], t)
 
+-- No listed secret stands at the place of this number in the premise with the place open.
+abbrev pub NoSecretSpot : Certificate → Term Variable → ℕ → Type 0
+NoSecretSpot certificate premise k = ¬ SecretOpenAt certificate premise (spotAt premise k .0)
+
+unfoldable pub no-secret? : (certificate : Certificate) (premise : Term Variable) (k : ℕ) → Dec (NoSecretSpot certificate premise k)
+no-secret? certificate premise k = dec-not (secret-open? certificate premise (spotAt premise k .0))
+
+-- The first place of the premise that is open and has a listed secret.
+unfoldable pub openSecret : Certificate → Rule → Found
+openSecret certificate rule = elim (rule .premise) [ none ↦ Nothing | some t ↦ firstNot (no-secret? certificate t) (size t) ]
+
+-- 15: "a rule whose premise has a listed secret at an open place; the place named is the first such entry" (02, No. 4).
+unfoldable pub openSecretRule : Certificate → ℕ → List ℕ → Option Fault
+openSecretRule certificate i b = elim (openSecret certificate (ruleOf b)) [ At k ↦ some (OpenSecret i k) | Nothing ↦ none ]
+
+unfoldable pub openSecretFault : Certificate → List ℕ → Option Fault
+openSecretFault certificate file = kindFault ruleKind (openSecretRule certificate) file
+
 -- The place of this number in the conclusion is covered if it is risky. (That is `FineAt`: `fine-spot` of
 -- proofs/Files/Spots.antt.)
 abbrev pub FineSpot : Certificate → Rule → ℕ → Type 0
@@ -206,22 +229,23 @@ fine? certificate rule k =
     dec-implies (risky? certificate (spotAt (rule .conclusion) k .1))
     (λ r. covered? certificate rule (spotAt (rule .conclusion) k .0) (spotAt (rule .conclusion) k .1))
 
--- The first risky place of the conclusion that is not covered, if the rule is not dead.
+-- The first risky place of the conclusion that is not covered.
 unfoldable pub uncovered : Certificate → Rule → Found
-uncovered certificate rule = elim (answer (dead? certificate rule)) [
-  | true ↦ Nothing
-  | false ↦ firstNot (fine? certificate rule) (size (rule .conclusion))
-]
+uncovered certificate rule = firstNot (fine? certificate rule) (size (rule .conclusion))
 
 -- 12: "risky place not covered"; the place is the entry's number in the block.
 unfoldable pub uncoveredRule : Certificate → ℕ → List ℕ → Option Fault
 uncoveredRule certificate i b =
     elim (uncovered certificate (ruleOf b)) [ At k ↦ some (Uncovered i (firstCount b + k)) | Nothing ↦ none ]
 
-unfoldable pub ruleFault : Certificate → List ℕ → Option Fault
-ruleFault certificate file = kindFault ruleKind (uncoveredRule certificate) file
+unfoldable pub uncoveredFault : Certificate → List ℕ → Option Fault
+uncoveredFault certificate file = kindFault ruleKind (uncoveredRule certificate) file
 
--- 9, 10, 11, 12, each over all blocks.
+-- 15 over all rules, "before any 12" (02, No. 4).
+unfoldable pub ruleFault : Certificate → List ℕ → Option Fault
+ruleFault certificate file = orFault (openSecretFault certificate file) (uncoveredFault certificate file)
+
+-- 9, 10, 11, then 15 and 12, each over all blocks.
 unfoldable pub certificateFault : Certificate → List ℕ → Option Fault
 certificateFault certificate file = elim (conditionFault NotKnown certificate file) [
   | some f ↦ some f
@@ -236,7 +260,7 @@ certificateFault certificate file = elim (conditionFault NotKnown certificate fi
 
 -- ---- the verdict
 
--- The first fault in document 01's order.
+-- The first fault in the documents' order.
 unfoldable pub faultOf : List ℕ → Option Fault
 faultOf file = elim (lengthFault file) [
   | some f ↦ some f
@@ -256,11 +280,11 @@ verdictOf file = elim (faultOf file) [ some f ↦ Refused f | none ↦ Accepted 
 -- The same, for theorems by computation: `unfolding computing` opens all that the verdict of a whole file asks.
 unfoldable pub computing : List ℕ → Verdict
 unfolding verdictOf faultOf countsOf lengthFault lengthRight formFault formFrom missingFault certificateFault
-    conditionFault conditionAt meets? dec-not ruleFault kindFault onKind firstFault uncoveredRule
-    uncovered fine? spotAt blockFault kindRight laterKind laidOut behindFull fileAtoms moreEntries usedEntries entriesFault
-    atomsFault atomFault entryFault termFault patternFault rulePartsFault conclusionFault rootRight kindCount
+    conditionFault conditionAt meets? dec-not ruleFault kindFault onKind firstFault openSecretFault openSecretRule openSecret
+    no-secret? uncoveredFault uncoveredRule uncovered fine? spotAt
+    blockFault kindRight laterKind laidOut behindFull fileAtoms moreEntries usedEntries entriesFault atomsFault atomFault entryFault termFault patternFault rulePartsFault conclusionFault rootRight kindCount
     blocksOf blocksFrom ofKind patternOf secretOf ruleOf certificateOf
     blockAt entriesOf firstEntries secondEntries checkRight checkA checkB total weighted layoutRight countsRight zeroFrom
     allZero atomsOf wrongAtom wrongEntry oneTerm? encryption? termOf size firstNot spots dec-implies
-    known-atom? weakly-closed? kept-key? risky? covered? dead?
+    known-atom? weakly-closed? kept-key? secret-open? risky? covered?
 computing file = verdictOf file

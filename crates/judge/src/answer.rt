@@ -49,12 +49,13 @@ fn row_of(f: Fault) -> Row
         Fault::NotClosed(b) => columns(10, b, 0),
         Fault::KeyNotKept(b) => columns(11, b, 0),
         Fault::Uncovered(b, p) => columns(12, b, p),
+        Fault::OpenSecret(b, p) => columns(15, b, p),
     }
 }
 
 // The number of a fault.
 pub fn number(f: Fault) -> u32
-    ensures { λ r. ⌜ (r ≡ numberOf f) × (r ≤ 12) ⌝ }
+    ensures { λ r. ⌜ (r ≡ numberOf f) × (r ≤ 15) ⌝ }
 {
     row_of(f).number
 }

@@ -1,13 +1,14 @@
-// Number 12, on the entries of a rule: the subterm of a place is the part from its entry on.
+// Numbers 15 and 12, on the entries of a rule: the subterm of a place is the part from its entry on.
 // Flags are 0 or 1, and contracts say which are on. What is remembered is so (`Remembered`); which answers are remembered is
 // left open, since one that is missing is asked for.
 ghost use mathlib.Core.Path.{_≡_};
 ghost use mathlib.Core.Bool.{true};
-ghost use Prim.Native.Nat.{_+_, _*_, _<_};
+ghost use Prim.Native.Nat.{_+_, _*_, _/_, _<_};
 ghost use lib.ListN.{length, getD};
 ghost use Rattle.blocks.specs.Kinds.{secretKind, goodKind, badKind, ListsTerm};
 ghost use Rattle.blocks.specs.Block.{firstEntries, secondEntries};
 ghost use Rattle.terms.specs.Entry.{Begins, termOf, size};
+ghost use Rattle.terms.specs.First.{FirstNot};
 ghost use Rattle.terms.specs.Decisions.{Says};
 ghost use Rattle.terms.specs.TermGraph.{SizesOf};
 ghost use Rattle.judge.specs.Listed.{rootSlots, atomsIn, HoldsAt, AnyListed, Searching, IsSecret, NeverHat, SharesUnmarked, RootsOf, SizesIn, slotAt};
@@ -16,9 +17,9 @@ ghost use Rattle.judge.specs.File.{blockCount, certificateOf, ruleOf};
 ghost use Rattle.judge.specs.Laid.{Laid, RuleBlock};
 ghost use Rattle.judge.specs.Hat.{Marked};
 ghost use Rattle.judge.specs.Cover.{Risky};
-ghost use Rattle.judge.specs.Verdict as verdicts;
 ghost use Rattle.judge.specs.CoverEntries.{subAt, On, Raised, Cleared, MarkOver, MarkAround, Lays, LaysAround, Laying, LayingAround, Standing, HatOver, HatBelow, Flags, Entries, OpenAmong, OpenFlags};
-ghost use Rattle.judge.specs.CoverEntries.{ClosedBelow, Flagged, FlaggedWith, SomeFlagged, IndexedBelow, Indexed, Remembered, RiskyEntry, Wanted, WantedEntry, Concluded};
+ghost use Rattle.judge.specs.CoverEntries.{ClosedBelow, Flagged, FlaggedWith, SomeFlagged, IndexedBelow, Indexed, Remembered, RiskyEntry, AskedEntry, Wanted, WantedEntry, Concluded};
+ghost use Rattle.judge.specs.Judgement.{ruleFound};
 use crate::flag;
 use crate::flag::FLAGS;
 use crate::listed;
@@ -34,6 +35,14 @@ use terms::tag::ENCRYPTION;
 use terms::tag::PAIR;
 use terms::tag::is_marked;
 use terms::valid::Found;
+
+// What is found of a rule: a listed secret at this open entry of the premise, or else a risky place at this entry of the
+// conclusion that is not covered.
+pub enum RuleFound {
+    PremiseAt(usize),
+    ConclusionAt(usize),
+    Nowhere,
+}
 
 // Lays the pattern p on the term at entry h: every entry at or below one of its marks is flagged.
 fn mark_cover(p: &[u8], e: &[u8], h: usize, marked: &mut [u8; FLAGS])
@@ -470,19 +479,20 @@ fn secret_at(
     }
 }
 
-// Does a listed secret stand at a flagged entry?
-fn is_dead(file: &[u8], roots: &[u8; ROOT_SLOTS], e: &[u8], opened: &[u8; FLAGS]) -> bool
+// The first flagged entry at which a listed secret stands.
+fn first_secret(file: &[u8], roots: &[u8; ROOT_SLOTS], e: &[u8], opened: &[u8; FLAGS]) -> Found
     requires { ⌜ Laid (now file) × Flagged (now e) (now opened) × RootsOf (now file) (now roots) ⌝ }
-    ensures { λ r. ⌜ Says r (SomeFlagged (now (e .entry)) (now (opened .entry)) (IsSecret (certificateOf (now (file .entry))))) ⌝ }
+    ensures { λ r. ⌜ FirstNot (λ k. ¬ FlaggedWith (now (e .entry)) (now (opened .entry)) (IsSecret (certificateOf (now (file .entry)))) k) (length (now (e .entry)) / 4) r ⌝ }
 {
+    let count = e.len() / 4;
     let mut k = 0;
-    while 4 * k < e.len() {
+    while k < count {
         if secret_at(file, roots, e, opened, k) {
-            return true;
+            return Found::At(k);
         }
         k += 1;
     }
-    false
+    Found::Nothing
 }
 
 // Is entry k flagged, and the term t there?
@@ -599,6 +609,24 @@ fn risky_places(
     risky
 }
 
+// The same if they are asked for, and else none.
+fn asked_places(
+    file: &[u8],
+    roots: &[u8; ROOT_SLOTS],
+    sizes: &[u8; LISTED_SIZES],
+    e: &[u8],
+    asked: bool,
+) -> [u8; FLAGS]
+    requires { ⌜ Concluded (now file) (now e) × RootsOf (now file) (now roots) × SizesIn (now file) (now sizes) ⌝ }
+    ensures { λ r. ⌜ Flags r (AskedEntry asked (certificateOf (now (file .entry))) (now (e .entry))) ⌝ }
+{
+    if asked {
+        risky_places(file, roots, sizes, e)
+    } else {
+        [0u8; FLAGS]
+    }
+}
+
 // Has neither table anything for the slot of the term's root?
 fn is_absent(roots: &[u8; ROOT_SLOTS], index: &[u8; ROOT_SLOTS], t: &[u8]) -> bool
     requires { ⌜ (length (now roots) ≡ rootSlots) × (length (now index) ≡ rootSlots) × Begins (now t) ⌝ }
@@ -699,34 +727,41 @@ fn bare_places(
     bare
 }
 
-// The first place of a rule's conclusion that is risky and not covered; nothing where the rule is dead. Only what matters is
-// asked: whether an entry of the premise is open if a secret or a risky subterm stands there, and whether there is a sure
-// hat for a risky entry that stands at no open place. The roots of the secrets come flagged, the sizes of the listed terms
-// filled in, and what is known of the encryptions of the premise and the conclusion is handed in and on.
-pub fn uncovered(
+// What 15, and else 12 if it is asked, finds of a rule. Only what matters is looked for: whether an entry of the premise is
+// open, once for both numbers, if a secret or a risky subterm stands there, and whether there is a sure hat for a risky
+// entry that stands at no open place. The roots of the secrets come flagged, the sizes of the listed terms filled in, and
+// what is known of the encryptions of the premise and the conclusion is handed in and on.
+pub fn rule_found(
     file: &[u8],
     roots: &[u8; ROOT_SLOTS],
     sizes: &[u8; LISTED_SIZES],
     above: &mut [u8; FLAGS],
     shared: &mut [u8; FLAGS],
     block: &[u8],
-) -> Found
+    asked: bool,
+) -> RuleFound
     requires { ⌜ Laid (now file) × RuleBlock (now block) × RootsOf (now file) (now roots)
         × Remembered (NeverHat (certificateOf (now file))) (firstEntries (now block)) (now above)
         × Remembered (SharesUnmarked (certificateOf (now file))) (secondEntries (now block)) (now shared) × SizesIn (now file) (now sizes) ⌝ }
     ensures premise { λ _. ⌜ Remembered (NeverHat (certificateOf (now (file .entry)))) (firstEntries (now (block .entry))) (now (above .exit)) ⌝ }
     ensures conclusion { λ _. ⌜ Remembered (SharesUnmarked (certificateOf (now (file .entry)))) (secondEntries (now (block .entry))) (now (shared .exit)) ⌝ }
-    ensures answer { λ r. ⌜ r ≡ verdicts.uncovered (certificateOf (now (file .entry))) (ruleOf (now (block .entry))) ⌝ }
+    ensures answer { λ r. ⌜ r ≡ ruleFound asked (certificateOf (now (file .entry))) (ruleOf (now (block .entry))) ⌝ }
 {
     let premise = blocks::first_entries(block);
     let conclusion = blocks::second_entries(block);
-    let risky = risky_places(file, roots, sizes, conclusion);
+    let risky = asked_places(file, roots, sizes, conclusion, asked);
     let wanted = wanted_places(file, roots, premise, conclusion, &risky);
     let opened = open_places(file, sizes, premise, above, wanted);
-    if is_dead(file, roots, premise, &opened) {
-        return Found::Nothing;
+    if let Found::At(k) = first_secret(file, roots, premise, &opened) {
+        return RuleFound::PremiseAt(k);
+    }
+    if !asked {
+        return RuleFound::Nowhere;
     }
     let mut bare = bare_places(premise, &opened, conclusion, &risky);
     take_hats(file, sizes, conclusion, shared, &mut bare);
-    flag::first_on(&bare, conclusion.len() / 4)
+    match flag::first_on(&bare, conclusion.len() / 4) {
+        Found::At(k) => RuleFound::ConclusionAt(k),
+        Found::Nothing => RuleFound::Nowhere,
+    }
 }

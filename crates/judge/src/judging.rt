@@ -1,4 +1,4 @@
-// The verdict of a file: numbers 1 to 12 in document 01's order.
+// The verdict of a file: numbers 1 to 12, and 15 before 12, in the documents' order.
 ghost use mathlib.Core.Path.{_≡_};
 ghost use Prim.Native.Nat.{_+_, _<_};
 ghost use Rattle.blocks.specs.Kinds.{ruleKind};
@@ -6,13 +6,13 @@ ghost use Rattle.blocks.specs.Block.{blockAt, kindOf, firstEntries, secondEntri
 ghost use Rattle.terms.specs.Decisions.{Says};
 ghost use Rattle.judge.specs.File.{blockCount, certificateOf, ruleOf};
 ghost use Rattle.judge.specs.Laid.{Laid};
-ghost use Rattle.judge.specs.Judgement.{judgedOf, OnlyRulesFrom, Heads};
-ghost use Rattle.judge.specs.Listed.{NeverHat, RootsOf, SharesUnmarked, SizesIn};
+ghost use Rattle.judge.specs.Judgement.{judgedOf, isFine, nextOf, ruleFound, OnlyRulesFrom, Tables};
+ghost use Rattle.judge.specs.Listed.{NeverHat, SharesUnmarked};
 ghost use Rattle.judge.specs.CoverEntries.{AfterRule, Carried, Repeats};
-ghost use Rattle.judge.specs.Verdict as verdicts;
-ghost use Rattle.judge.specs.Verdict.{onKind, uncoveredRule, ruleFault, certificateFault, faultOf, verdictOf};
+ghost use Rattle.judge.specs.Verdict.{onKind, openSecretRule, uncoveredRule, ruleFault, certificateFault, faultOf, verdictOf};
 ghost use Rattle.judge.specs.Values.{verdictValues, judgingValues};
 use crate::cover;
+use crate::cover::RuleFound;
 use crate::flag;
 use crate::flag::FLAGS;
 use crate::form;
@@ -25,7 +25,12 @@ use crate::verdict::Fault;
 use crate::verdict::Verdict;
 use blocks::kinds;
 use blocks::limits;
-use terms::valid::Found;
+
+// How it goes on behind a block: the file is refused with its 15, or this is the first 12 so far, if there is one.
+pub enum Next {
+    Refuse(Fault),
+    Hold(Judged),
+}
 
 // So many blocks that only rules stand behind them: they list all secrets and patterns.
 fn leading(file: &[u8]) -> usize
@@ -96,9 +101,9 @@ fn repeats_conclusion(file: &[u8], i: usize) -> bool
     }
 }
 
-// Number 12 at rule i: its first place that is risky and not covered. What the file lists is read from its head. What was
-// found for the encryptions of a premise or a conclusion serves again where the next rule has the same.
-fn uncovered_in(
+// Number 15 at rule i, and 12 if it is asked. What the file lists is read from its head. What was found for the encryptions
+// of a premise or a conclusion serves again where the next rule has the same.
+fn found_in(
     file: &[u8],
     head: &[u8],
     roots: &[u8; ROOT_SLOTS],
@@ -106,22 +111,40 @@ fn uncovered_in(
     above: &mut [u8; FLAGS],
     shared: &mut [u8; FLAGS],
     i: usize,
-) -> Found
-    requires { ⌜ Laid (now file) × (i < blockCount (now file)) × (kindOf (blockAt (now file) i) ≡ ruleKind) × Laid (now head) × RootsOf (now head) (now roots)
+    asked: bool,
+) -> RuleFound
+    requires { ⌜ Tables (now file) (now head) (now roots) (now sizes) × (i < blockCount (now file)) × (kindOf (blockAt (now file) i) ≡ ruleKind)
         × Carried firstEntries (NeverHat (certificateOf (now head))) (now file) i (now above)
-        × Carried secondEntries (SharesUnmarked (certificateOf (now head))) (now file) i (now shared)
-        × SizesIn (now head) (now sizes) ⌝ }
-    ensures answer { λ r. ⌜ r ≡ verdicts.uncovered (certificateOf (now (head .entry))) (ruleOf (blockAt (now (file .entry)) i)) ⌝ }
+        × Carried secondEntries (SharesUnmarked (certificateOf (now head))) (now file) i (now shared) ⌝ }
+    ensures answer { λ r. ⌜ r ≡ ruleFound asked (certificateOf (now (head .entry))) (ruleOf (blockAt (now (file .entry)) i)) ⌝ }
     ensures premise { λ _. ⌜ Carried firstEntries (NeverHat (certificateOf (now (head .entry)))) (now (file .entry)) (i + 1) (now (above .exit)) ⌝ }
     ensures conclusion { λ _. ⌜ Carried secondEntries (SharesUnmarked (certificateOf (now (head .entry)))) (now (file .entry)) (i + 1) (now (shared .exit)) ⌝ }
 {
     flag::renew(above, repeats_premise(file, i));
     flag::renew(shared, repeats_conclusion(file, i));
-    cover::uncovered(head, roots, sizes, above, shared, blocks::block(file, i))
+    cover::rule_found(
+        head,
+        roots,
+        sizes,
+        above,
+        shared,
+        blocks::block(file, i),
+        asked,
+    )
 }
 
-// Number 12 at block i, if it is a rule.
-fn uncovered_at(
+// Was nothing found?
+fn is_fine(found: Judged) -> bool
+    ensures { λ r. ⌜ r ≡ isFine found ⌝ }
+{
+    match found {
+        Judged::Fine => true,
+        Judged::Faulty(_) => false,
+    }
+}
+
+// Numbers 15 and 12 at block i, if it is a rule. The first 12 so far is held, and 12 is asked only if there is none.
+fn rule_at(
     file: &[u8],
     head: &[u8],
     roots: &[u8; ROOT_SLOTS],
@@ -129,29 +152,32 @@ fn uncovered_at(
     above: &mut [u8; FLAGS],
     shared: &mut [u8; FLAGS],
     i: usize,
-) -> Judged
-    requires { ⌜ Laid (now file) × (i < blockCount (now file)) × Heads (now head) (now file) × RootsOf (now head) (now roots)
+    held: Judged,
+) -> Next
+    requires { ⌜ Tables (now file) (now head) (now roots) (now sizes) × (i < blockCount (now file))
         × Carried firstEntries (NeverHat (certificateOf (now head))) (now file) i (now above)
-        × Carried secondEntries (SharesUnmarked (certificateOf (now head))) (now file) i (now shared)
-        × SizesIn (now head) (now sizes) ⌝ }
-    ensures answer { λ r. ⌜ r ≡ judgedOf (onKind ruleKind (uncoveredRule (certificateOf (now (file .entry)))) (now (file .entry)) i) ⌝ }
+        × Carried secondEntries (SharesUnmarked (certificateOf (now head))) (now file) i (now shared) ⌝ }
+    ensures answer { λ r. ⌜ r ≡ nextOf held (onKind ruleKind (openSecretRule (certificateOf (now (file .entry)))) (now (file .entry)) i)
+        (onKind ruleKind (uncoveredRule (certificateOf (now (file .entry)))) (now (file .entry)) i) ⌝ }
     ensures premise { λ _. ⌜ Carried firstEntries (NeverHat (certificateOf (now (head .entry)))) (now (file .entry)) (i + 1) (now (above .exit)) ⌝ }
     ensures conclusion { λ _. ⌜ Carried secondEntries (SharesUnmarked (certificateOf (now (head .entry)))) (now (file .entry)) (i + 1) (now (shared .exit)) ⌝ }
 {
     let block = blocks::block(file, i);
     if blocks::kind(block) != kinds::RULE {
-        return Judged::Fine;
+        return Next::Hold(held);
     }
-    match uncovered_in(file, head, roots, sizes, above, shared, i) {
-        Found::At(k) => Judged::Faulty(Fault::Uncovered(
+    let asked = is_fine(held);
+    match found_in(file, head, roots, sizes, above, shared, i, asked) {
+        RuleFound::PremiseAt(k) => Next::Refuse(Fault::OpenSecret(i as u8, k as u8)),
+        RuleFound::ConclusionAt(k) => Next::Hold(Judged::Faulty(Fault::Uncovered(
             i as u8,
             (blocks::first_count(block) + k) as u8,
-        )),
-        Found::Nothing => Judged::Fine,
+        ))),
+        RuleFound::Nowhere => Next::Hold(held),
     }
 }
 
-// Number 12: the first rule that does not pass.
+// Numbers 15 and 12, each over all rules: 15 of a later rule comes before 12 of an earlier one.
 fn rule_fault(file: &[u8]) -> Judged
     requires { ⌜ Laid (now file) ⌝ }
     ensures { λ r. ⌜ r ≡ judgedOf (ruleFault (certificateOf (now (file .entry))) (now (file .entry))) ⌝ }
@@ -163,17 +189,21 @@ fn rule_fault(file: &[u8]) -> Judged
     let count = file.len() / limits::BLOCK_SIZE;
     let mut above = [0u8; FLAGS];
     let mut shared = [0u8; FLAGS];
+    let mut held = Judged::Fine;
     let mut i = 0;
     while i < count {
-        match uncovered_at(file, head, &roots, &sizes, &mut above, &mut shared, i) {
-            Judged::Faulty(f) => return Judged::Faulty(f),
-            Judged::Fine => i += 1,
+        match rule_at(file, head, &roots, &sizes, &mut above, &mut shared, i, held) {
+            Next::Refuse(f) => return Judged::Faulty(f),
+            Next::Hold(found) => {
+                held = found;
+                i += 1;
+            }
         }
     }
-    Judged::Fine
+    held
 }
 
-// Numbers 9, 10, 11, 12, each over all blocks.
+// Numbers 9, 10, 11, then 15 and 12, each over all blocks.
 fn certificate_fault(file: &[u8]) -> Judged
     requires { ⌜ Laid (now file) ⌝ }
     ensures { λ r. ⌜ r ≡ judgedOf (certificateFault (certificateOf (now (file .entry))) (now (file .entry))) ⌝ }
@@ -190,7 +220,7 @@ fn certificate_fault(file: &[u8]) -> Judged
     rule_fault(file)
 }
 
-// The first fault in document 01's order: 1; 2, 3, 5, 6 or 7, 8 block by block; 4; 9 to 12.
+// The first fault in the documents' order: 1; 2, 3, 5, 6 or 7, 8 block by block; 4; 9 to 11; 15; 12.
 fn first_fault(file: &[u8]) -> Judged
     ensures { λ r. ⌜ r ≡ judgedOf (faultOf (now (file .entry))) ⌝ }
 {

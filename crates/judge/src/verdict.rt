@@ -35,6 +35,8 @@ pub enum Fault {
     KeyNotKept(u8),
     // 12: a risky place that is not covered: rule block, entry.
     Uncovered(u8, u8),
+    // 15: a listed secret at an open place of a premise: rule block, entry.
+    OpenSecret(u8, u8),
 }
 
 pub enum Verdict {

@@ -23,7 +23,7 @@ fn bytes(path: &Path) -> Vec<u8> {
 #[test]
 fn corpus_and_bench_files() {
     let [corpus, bench] = ["../corpus", "../bench/files"].map(certificates);
-    assert_eq!(corpus.len(), 23);
+    assert_eq!(corpus.len(), 25);
     assert!(bench.len() >= 10);
     for path in corpus.iter().chain(&bench) {
         assert_same(&files::name(path), &bytes(path));
@@ -46,12 +46,12 @@ fn deep_files() {
 }
 
 /// One byte of a bench file changed, and the block sealed again. After the first
-/// come files with marks in bad patterns and with nonce variables; the last have
-/// two atom blocks.
+/// come files with marks in bad patterns, with nonce variables and with secrets in
+/// premises; the last have two atom blocks.
 #[test]
 fn changed_bytes() {
     let all = certificates("../bench/files");
-    for path in all[..10].iter().chain(&all[all.len() - 2..]) {
+    for path in all[..13].iter().chain(&all[all.len() - 2..]) {
         let (name, file) = (files::name(path), bytes(path));
         let mut random = generate::random::Random::new(7);
         for _ in 0..100 {
@@ -65,13 +65,13 @@ fn changed_bytes() {
     }
 }
 
-/// Where the deep files end: both answers must be frequent.
+/// Where the deep files end: all three answers must be frequent.
 #[test]
 fn deep_files_tell() {
     let answers: Vec<u32> = (0..4_000)
         .map(|seed| fast::check(&generate::deep(seed)))
         .collect();
     let share = |number| answers.iter().filter(|a| **a >> 16 == number).count();
-    assert_eq!(share(0) + share(12), answers.len());
-    assert!(share(0) > 400 && share(12) > 400);
+    assert_eq!(share(0) + share(12) + share(15), answers.len());
+    assert!(share(0) > 400 && share(12) > 400 && share(15) > 100);
 }

@@ -1,4 +1,4 @@
-//! The families and the mutations make files that are judged to the end.
+//! The families make files whose rules are judged; the mutations keep the layout.
 
 use bench::proved;
 use bench::search::families;
@@ -14,13 +14,18 @@ fn number(sketch: &Sketch, name: &str) -> u32 {
     answer >> 16
 }
 
+/// Number 15 alone ends the judging of rules early, and one family is for it.
 #[test]
-fn families_are_judged_to_the_end() {
+fn rules_of_families_are_judged() {
     for family in families::written() {
         let random = &mut Random::new(1);
         for _ in 0..10 {
             let number = number(&(family.make)(random), &family.name);
-            let judged = number == 0 || number == 12 || family.name == "generated";
+            let judged = match family.name.as_str() {
+                "open-secrets-last" => number == 15,
+                "generated" => true,
+                _ => number == 0 || number == 12,
+            };
             assert!(judged, "{}: {number}", family.name);
         }
     }

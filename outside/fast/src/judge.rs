@@ -1,12 +1,13 @@
-//! Numbers 9 to 12, each over all blocks.
+//! Numbers 9, 10, 11, 15 and 12, each over all blocks.
 
 use crate::alphabet::value_of;
 use crate::family::Family;
 use crate::fault;
 use crate::numbers::{kind, ALL_VARIABLES, ORDINARY};
 use crate::read::Certificate;
-use crate::rule::Judge;
+use crate::rule::{Judge, Wrong};
 use crate::term::Term;
+use std::ops::Range;
 
 /// Not inlined, so that its large frame is set up only where it is needed.
 #[inline(never)]
@@ -37,16 +38,36 @@ pub fn judged(file: &[u8]) -> Result<(), u32> {
     }
 }
 
-/// Number 12, with room for so many variables.
+/// Numbers 15 and 12, with room for so many variables. One way over the rules
+/// tells both: behind a first 12 they are asked for 15 alone.
 fn rules<const ROOM: usize>(certificate: &Certificate, secrets: &Family) -> Result<(), u32> {
     let mut judge = Judge::<ROOM>::new(certificate, secrets);
-    for block in certificate.blocks_of(kind::RULE) {
-        let premise = certificate.term(block);
-        if let Some(place) = judge.first_uncovered(premise, certificate.conclusion(block)) {
-            return Err(fault(12, block, premise.length() + place));
+    let mut rules = certificate.blocks_of(kind::RULE);
+    let Some(uncovered) = first_refused(&mut judge, certificate, &mut rules)? else {
+        return Ok(());
+    };
+    for block in rules {
+        if let Some(place) = judge.first_open_secret(certificate.term(block)) {
+            return Err(fault(15, block, place));
         }
     }
-    Ok(())
+    Err(uncovered)
+}
+
+/// Up to and with the first rule that is refused: its 12, or its 15 at once.
+fn first_refused<const ROOM: usize>(
+    judge: &mut Judge<ROOM>,
+    certificate: &Certificate,
+    rules: &mut Range<usize>,
+) -> Result<Option<u32>, u32> {
+    for block in rules {
+        match judge.rule(certificate.term(block), certificate.conclusion(block)) {
+            Ok(()) => {}
+            Err(Wrong::OpenSecret(place)) => return Err(fault(15, block, place)),
+            Err(Wrong::Uncovered(place)) => return Ok(Some(fault(12, block, place))),
+        }
+    }
+    Ok(None)
 }
 
 /// The number of an atom or key.

@@ -4,8 +4,8 @@
 //! `block` bytes and check, `alphabet` which entries are allowed, `term` terms
 //! by entries, `family` patterns in an order in which one clash answers for
 //! many, `walk` two terms side by side, `quick` and `unify` repeated variables,
-//! `read` numbers 2 to 8, `rule` number 12, `judge` the order of the rest,
-//! `numbers` limits, kinds and tags.
+//! `read` numbers 2 to 8, `rule` numbers 15 and 12 of one rule, `judge` the order
+//! of the rest, `numbers` limits, kinds and tags.
 #![forbid(unsafe_code)]
 
 mod alphabet;

@@ -1,5 +1,5 @@
-//! Number 12: the places of one rule, as sets of entries. What depends on a
-//! subterm alone is asked at most once for it, and only if a place below it
+//! Numbers 15 and 12: the places of one rule, as sets of entries. What depends
+//! on a subterm alone is asked at most once for it, and only if a place below it
 //! still counts.
 
 use crate::family::Family;
@@ -9,6 +9,12 @@ use crate::term::{variable_bit, Bits, Occurrences, Term};
 use crate::unify::{have_solution, Room};
 use crate::walk::{instance, instance_without_variables, same_term};
 use crate::walk::{side_by_side, Meetings, Parts, Shared, Watched};
+
+/// Why a rule is refused, at which entry of its block.
+pub enum Wrong {
+    OpenSecret(usize),
+    Uncovered(usize),
+}
 
 /// With room for so many variables: the ordinary ones, or all.
 pub struct Judge<'a, const ROOM: usize> {
@@ -47,21 +53,39 @@ impl<'a, const ROOM: usize> Judge<'a, ROOM> {
         }
     }
 
-    /// The first risky place that is not covered; none if the rule is dead.
-    pub fn first_uncovered(&mut self, premise: &Term, conclusion: &Term) -> Option<usize> {
+    /// Numbers 15 and 12 of one rule. The premise's places are asked once for
+    /// both.
+    pub fn rule(&mut self, premise: &Term, conclusion: &Term) -> Result<(), Wrong> {
         let nested = self.sharing_with_nested_secret(conclusion);
         let mut risky = conclusion.variables | conclusion.secret_atoms | nested;
-        if premise.length() > 0 && risky != 0 {
-            let secrets = premise.secret_atoms | self.nested_secrets(premise);
-            let same = variables_of_both(premise, conclusion) | twins(conclusion, nested, premise);
+        if premise.length() > 0 {
+            let secrets = self.secrets_in(premise);
+            let same = match risky {
+                0 => 0,
+                _ => variables_of_both(premise, conclusion) | twins(conclusion, nested, premise),
+            };
             let open = self.open_places(premise, secrets | same);
-            if open & secrets != 0 {
-                return None;
+            if let Some(place) = first(open & secrets) {
+                return Err(Wrong::OpenSecret(place));
             }
             risky &= !same_as_open(premise, open, conclusion, nested);
         }
-        let uncovered = self.without_sure_hat(conclusion, risky);
-        (uncovered != 0).then_some(uncovered.trailing_zeros() as usize)
+        match first(self.without_sure_hat(conclusion, risky)) {
+            None => Ok(()),
+            Some(place) => Err(Wrong::Uncovered(premise.length() + place)),
+        }
+    }
+
+    /// Number 15 alone: the first open place of the premise where a secret
+    /// stands.
+    pub fn first_open_secret(&mut self, premise: &Term) -> Option<usize> {
+        let secrets = self.secrets_in(premise);
+        first(self.open_places(premise, secrets))
+    }
+
+    /// The places where a listed secret stands.
+    fn secrets_in(&self, premise: &Term) -> u64 {
+        premise.secret_atoms | self.nested_secrets(premise)
     }
 
     /// The places whose subterm shares an instance with a nested secret.
@@ -247,6 +271,10 @@ impl<const ROOM: usize> Work<ROOM> {
             false => Err(pattern.length() - 1),
         }
     }
+}
+
+fn first(places: u64) -> Option<usize> {
+    (places != 0).then_some(places.trailing_zeros() as usize)
 }
 
 /// The set of the variables at these places.

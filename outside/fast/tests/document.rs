@@ -1,5 +1,5 @@
 //! The document's certificates to try, its lengths, marks in bad patterns, nonce
-//! variables, and two atom blocks.
+//! variables, open secrets, and two atom blocks.
 
 use fast::check;
 use text::document::{joined_atoms, ATOMS, GOOD, SECRETS};
@@ -49,7 +49,7 @@ fn cases_h_to_k() {
     let i = format!("secret T\n{SECRETS}{rest}");
     assert_eq!(answer(&i), refused(9, 1, 0));
     assert_eq!(answer(&format!("secret (N, T)\n{rest}")), refused(10, 1, 0));
-    assert_eq!(usual("rule N -> KAi"), 0);
+    assert_eq!(usual("rule N -> KAi"), refused(15, 4, 0));
 }
 
 /// (x, x) and (y, (T, y)) share no instance, so the place of x is open.
@@ -101,7 +101,7 @@ fn marks_of_bad_patterns_for_open_places() {
         let rule = "rule {(I, (N, T))}KA -> N";
         answer(&format!("{SECRETS}secret (N, T)\n{GOOD}bad {bad}\n{rule}"))
     };
-    assert_eq!(pair("{(I, *m)}KA"), 0);
+    assert_eq!(pair("{(I, *m)}KA"), refused(15, 6, 3));
     assert_eq!(pair("{(I, (?x, *m))}KA"), refused(12, 6, 6));
     assert_eq!(usual("bad *m\nrule -> T"), refused(8, 4, 0));
     assert_eq!(usual("rule *m -> T"), refused(7, 4, 0));
@@ -177,6 +177,43 @@ fn places_of_nonce_variables() {
 }
 
 #[test]
+fn open_secrets() {
+    assert_eq!(usual("rule (T, (N, N)) -> T"), refused(15, 4, 3));
+    assert_eq!(usual("rule {(T, {N}KI)}KI -> {N}KA"), refused(15, 4, 4));
+    assert_eq!(usual("rule {N}KA -> T"), 0);
+    assert_eq!(usual("rule {{N}KA}KI -> T"), 0);
+    assert_eq!(usual("rule {T}KAi -> T"), 0);
+    assert_eq!(usual("rule (?x, ?n!x) -> T"), 0);
+    let good = "{(T, *s)}KA";
+    assert_eq!(with_good(good, "{(A, N)}KA -> T"), refused(15, 4, 3));
+    assert_eq!(with_good(good, "{(?x, N)}KA -> T"), 0);
+    let bad = "{(I, (*x, ?y))}KA";
+    let at = with_bads(&[bad], "{(I, (N, T))}KA -> T");
+    assert_eq!(at, refused(15, 5, 4));
+    assert_eq!(with_bads(&[bad], "{(I, (T, N))}KA -> T"), 0);
+    let nested = |premise: &str| {
+        let rule = format!("rule {premise} -> T");
+        answer(&format!("{SECRETS}secret (N, T)\n{GOOD}{rule}"))
+    };
+    assert_eq!(nested("(A, (N, T))"), refused(15, 5, 2));
+    assert_eq!(nested("(A, (T, N))"), refused(15, 5, 4));
+    assert_eq!(nested("(A, (?x, T))"), 0);
+}
+
+#[test]
+fn open_secrets_before_what_is_not_covered() {
+    let fifteen = "rule (T, N) -> T\n";
+    let twelve = "rule -> N\n";
+    let both = "rule N -> KAi\n";
+    let answer = |rules: &[&str]| usual(&rules.concat());
+    assert_eq!(answer(&[twelve, twelve, fifteen]), refused(15, 6, 2));
+    assert_eq!(answer(&[fifteen, both, twelve]), refused(15, 4, 2));
+    assert_eq!(answer(&[twelve, both, fifteen]), refused(15, 5, 0));
+    assert_eq!(answer(&["rule T -> T\n", twelve]), refused(12, 5, 0));
+    assert_eq!(usual(&format!("good {{*s}}KI\n{both}")), refused(11, 4, 0));
+}
+
+#[test]
 fn lengths() {
     for length in [0, 511, 513, 33_280] {
         assert_eq!(check(&vec![0; length]), refused(1, 0, 0));
@@ -214,7 +251,7 @@ fn atoms_of_a_second_block() {
     assert_eq!(answer("good {*s}Q\nrule -> {M}Q"), refused(11, 4, 0));
     assert_eq!(answer("secret Q\nrule -> Q"), refused(9, 4, 0));
     assert_eq!(answer("secret (S, K)\nrule -> Q"), refused(10, 4, 0));
-    assert_eq!(answer("rule M -> L"), 0);
+    assert_eq!(answer("rule M -> L"), refused(15, 4, 0));
     assert_eq!(answer("rule x3 -> M"), refused(12, 4, 1));
     assert_eq!(answer("rule x1 -> M"), refused(12, 4, 1));
     assert_eq!(answer("rule -> (x1, (x2, (x3, x4)))"), 0);

@@ -10,6 +10,9 @@ use literal::{matches, Term};
 
 mod exceptions;
 mod nonces;
+mod open_secrets;
+
+pub use open_secrets::OPEN_SECRETS;
 
 /// Of a hundred certificates, so many may have nonce variables.
 const NONCE_VARIABLES: usize = 40;
@@ -42,11 +45,14 @@ struct Maker<'r> {
     variables: Vec<u8>,
     /// Whether patterns and rules have nonce variables.
     has_nonce_variables: bool,
+    /// Whether premises may show a secret.
+    has_open_secrets: bool,
 }
 
 impl<'r> Maker<'r> {
     fn new(random: &'r mut Random) -> Maker<'r> {
         let has_nonce_variables = random.chance(NONCE_VARIABLES);
+        let has_open_secrets = random.chance(OPEN_SECRETS);
         let mut atoms = atoms(random);
         if has_nonce_variables && random.chance(6) {
             atoms = nonces::without_nonces(&atoms);
@@ -60,6 +66,7 @@ impl<'r> Maker<'r> {
             hat_keys: Vec::new(),
             variables: vec![0, 1],
             has_nonce_variables,
+            has_open_secrets,
         };
         maker.choose_hat_keys();
         maker
@@ -315,35 +322,47 @@ impl<'r> Maker<'r> {
     /// Fewer where more of them do not pass.
     fn rule_count(&mut self) -> usize {
         match self.has_nonce_variables {
-            true => self.random.weighted(&[0, 30, 30, 20, 10, 6, 4]),
-            false => self.random.weighted(&[0, 14, 22, 22, 18, 14, 10]),
+            true => self.random.weighted(&[0, 34, 31, 19, 8, 5, 3]),
+            false => self.random.weighted(&[0, 18, 24, 22, 16, 12, 8]),
         }
     }
 
     fn make_rule(&mut self) {
         loop {
-            let (mut premise, mut conclusion) = self.next_rule();
-            if self.random.chance(6) {
-                conclusion = self.mutated(&conclusion);
+            let mut rule = self.next_rule();
+            self.change_rule(&mut rule);
+            if !self.has_open_secrets {
+                rule = self.without_open_secrets(rule);
             }
-            if self.random.chance(6) {
-                premise = premise.map(|term| self.mutated(&term));
-            }
-            if self.random.chance(2) {
-                conclusion = self.wrapped_deep(conclusion);
-            }
-            if self.random.chance(2) {
-                premise = premise.map(|term| self.wrapped_deep(term));
-            }
+            let (premise, conclusion) = &rule;
             let fits = |term: &Term| term.size() <= MOST_ENTRIES;
-            if fits(&conclusion) && premise.as_ref().is_none_or(fits) {
-                self.sketch.rules.push((premise, conclusion));
+            if fits(conclusion) && premise.as_ref().is_none_or(fits) {
+                self.sketch.rules.push(rule);
                 return;
             }
         }
     }
 
+    /// At times something else in it, or much around it.
+    fn change_rule(&mut self, (premise, conclusion): &mut (Option<Term>, Term)) {
+        if self.random.chance(6) {
+            *conclusion = self.mutated(conclusion);
+        }
+        if let Some(premise) = premise.as_mut().filter(|_| self.random.chance(6)) {
+            *premise = self.mutated(premise);
+        }
+        if self.random.chance(2) {
+            *conclusion = self.wrapped_deep(conclusion);
+        }
+        if let Some(premise) = premise.as_mut().filter(|_| self.random.chance(2)) {
+            *premise = self.wrapped_deep(premise);
+        }
+    }
+
     fn next_rule(&mut self) -> (Option<Term>, Term) {
+        if self.wants_open_secret() {
+            return self.open_secret_rule();
+        }
         if self.wants_exception() {
             return self.exception_rule();
         }
@@ -422,13 +441,16 @@ impl<'r> Maker<'r> {
         let mut term = self.premise_piece(2);
         for _ in 0..self.random.weighted(&[45, 35, 20]) {
             let piece = self.premise_piece(2);
-            term = if self.random.chance(50) {
-                Term::pair(term, piece)
-            } else {
-                Term::pair(piece, term)
-            };
+            term = self.in_either_order(term, piece);
         }
         term
+    }
+
+    fn in_either_order(&mut self, one: Term, other: Term) -> Term {
+        match self.random.chance(50) {
+            true => Term::pair(one, other),
+            false => Term::pair(other, one),
+        }
     }
 
     fn premise_piece(&mut self, depth: usize) -> Term {
@@ -548,9 +570,9 @@ impl<'r> Maker<'r> {
     }
 
     /// Under many clear encryptions, up to the last entry.
-    fn wrapped_deep(&mut self, term: Term) -> Term {
+    fn wrapped_deep(&mut self, term: &Term) -> Term {
         let key = self.clear_key();
-        let mut deep = term;
+        let mut deep = term.clone();
         while deep.size() < MOST_ENTRIES {
             deep = Term::encryption(deep, key);
         }

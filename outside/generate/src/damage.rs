@@ -56,6 +56,16 @@ fn damage_sketch(random: &mut Random, sketch: &mut Sketch, number: usize) {
         }
         _ => {}
     }
+    if number >= 9 && !sketch.secrets.is_empty() && random.chance(15) {
+        add_open_secret(random, sketch);
+    }
+}
+
+/// A rule that 15 would refuse, behind the other fault.
+fn add_open_secret(random: &mut Random, sketch: &mut Sketch) {
+    let secret = random.pick(&sketch.secrets).clone();
+    let rule = (Some(Term::pair(Term::Plain(0), secret)), Term::Plain(0));
+    sketch.rules.push(rule);
 }
 
 fn empty_a_list(random: &mut Random, sketch: &mut Sketch) {

@@ -1,7 +1,7 @@
 //! Files in which sharing goes deep: long terms and chains of repeated
 //! variables.
 
-use crate::certificate::{replace, variables_of};
+use crate::certificate::{replace, replace_at, variables_of, OPEN_SECRETS};
 use crate::pairs::{self, term_pair, KEYS};
 use crate::random::Random;
 use crate::sketch::Sketch;
@@ -10,6 +10,7 @@ use literal::numbers::MOST_ENTRIES;
 use literal::Term;
 
 const SECRET: u16 = 6;
+const KNOWN: u16 = 7;
 
 /// A well-formed file whose patterns and rules come from the generator's pairs
 /// of terms: chains, deep pairs, instances.
@@ -25,6 +26,9 @@ pub fn sketch(random: &mut Random) -> Sketch {
     if random.chance(60) {
         let key = *random.pick(&KEYS);
         sketch.goods.push(Term::encryption(Term::Marked(0), key));
+    }
+    if !random.chance(OPEN_SECRETS) {
+        hide_open_secrets(random, &mut sketch);
     }
     if random.chance(16) {
         return onto_two_blocks(random, &sketch);
@@ -57,6 +61,21 @@ fn without_variables(random: &mut Random, term: &Term) -> Term {
         .map(|variable| (variable, Term::Atom(random.below(8) as u16)))
         .collect();
     replace(term, &by)
+}
+
+/// Something else wherever a premise shows a secret.
+fn hide_open_secrets(random: &mut Random, sketch: &mut Sketch) {
+    let mut rules = std::mem::take(&mut sketch.rules);
+    for premise in rules.iter_mut().filter_map(|rule| rule.0.as_mut()) {
+        while let Some(entry) = sketch.first_open_secret(premise) {
+            let other = match random.chance(80) {
+                true => Term::Atom(KNOWN),
+                false => Term::Plain(0),
+            };
+            *premise = replace_at(premise, entry, &other);
+        }
+    }
+    sketch.rules = rules;
 }
 
 /// A pair's pattern as a good or a bad one, and rules with its term.

@@ -23,7 +23,8 @@ pub fn file(seed: u64) -> Vec<u8> {
     }
 }
 
-/// A certificate that is mostly well-formed, accepted or refused with 12.
+/// A certificate that is mostly well-formed: accepted, refused with 12, at times
+/// with 15.
 pub fn certificate(seed: u64) -> Vec<u8> {
     certificate::sketch(&mut Random::new(seed)).bytes()
 }

@@ -1,8 +1,9 @@
 //! A certificate before it becomes bytes.
 
 use literal::block::sealed;
+use literal::hats::{first_open_secret, first_uncovered};
 use literal::numbers::{kind, ENTRIES};
-use literal::read::Atom;
+use literal::read::{Atom, Certificate, Listed, Rule};
 use literal::{encode, Term};
 
 #[derive(Clone, Debug, Default)]
@@ -24,6 +25,30 @@ impl Sketch {
         self.atoms.chunks(ENTRIES).len() + terms + self.rules.len()
     }
 
+    /// The first entry of a premise at which it shows a secret, with the secrets
+    /// and patterns so far.
+    pub fn first_open_secret(&self, premise: &Term) -> Option<usize> {
+        let rule = rule(Some(premise), premise);
+        first_open_secret(&self.certificate(), &rule)
+    }
+
+    /// Whether every risky place is covered, with the secrets and patterns so far.
+    pub fn covers(&self, premise: Option<&Term>, conclusion: &Term) -> bool {
+        let rule = rule(premise, conclusion);
+        first_uncovered(&self.certificate(), &rule).is_none()
+    }
+
+    /// Atoms, secrets and patterns, as they are read.
+    fn certificate(&self) -> Certificate {
+        Certificate {
+            atoms: self.atoms.clone(),
+            secrets: listed(&self.secrets),
+            goods: listed(&self.goods),
+            bads: listed(&self.bads),
+            ..Certificate::default()
+        }
+    }
+
     /// The sealed blocks.
     pub fn blocks(&self) -> Vec<Vec<u8>> {
         let mut blocks: Vec<Vec<u8>> = self.atoms.chunks(ENTRIES).map(atom_block).collect();
@@ -43,6 +68,23 @@ impl Sketch {
         }
         blocks
     }
+}
+
+fn rule(premise: Option<&Term>, conclusion: &Term) -> Rule {
+    Rule {
+        block: 0,
+        premise: premise.cloned(),
+        conclusion: conclusion.clone(),
+    }
+}
+
+/// The terms as listed ones; their blocks are not numbered.
+fn listed(terms: &[Term]) -> Vec<Listed> {
+    let of = |term: &Term| Listed {
+        block: 0,
+        term: term.clone(),
+    };
+    terms.iter().map(of).collect()
 }
 
 fn atom_block(atoms: &[Atom]) -> Vec<u8> {

@@ -4,22 +4,25 @@
 mod common;
 mod judged;
 
+use common::{answer_by, Answer};
 use generate::certificate::{replace, variables_of};
 use judged::judged;
-use literal::hats::{closings, is_listed, is_risky, sure_hats, Closing, Exception, SureHat};
+use literal::hats::{closings, first_secret, is_risky, stands_at, sure_hats};
+use literal::hats::{Closing, Exception, SureHat};
 use literal::read::{Certificate, Rule};
 use literal::term::{at_or_above, places, strictly_above, Place};
 use literal::Term;
 
 const FILES: u64 = 100_000;
 
-/// Files that are judged to the end and have a marked bad pattern, and how many
+/// Files whose rules are judged and that have a marked bad pattern, and how many
 /// of them show it.
 #[derive(Default, Debug)]
 struct Uses {
     all: u64,
     accepted: u64,
     uncovered: u64,
+    open_secret: u64,
     /// Another answer if every mark of the bad patterns is a plain variable;
     /// of these, refused so and accepted with the marks.
     marks_decide: u64,
@@ -32,8 +35,10 @@ struct Uses {
     below_for_hat_of_nested: u64,
     /// Another answer if a mark below a place counts for an open place.
     below_for_open: u64,
-    /// An accepted rule that is dead by a mark alone.
-    dead_by_mark: u64,
+    /// A secret that is open by a mark alone; one that would be open if marks of
+    /// bad patterns did not matter.
+    open_by_mark: u64,
+    closed_by_mark: u64,
     /// Two or more marked bad patterns at one subterm, of which not all have a
     /// mark on a place that is asked.
     several: u64,
@@ -111,42 +116,50 @@ impl Reading {
         })
     }
 
-    fn open<'a>(&self, certificate: &Certificate, rule: &'a Rule) -> Vec<&'a Term> {
+    fn open<'a>(&self, certificate: &Certificate, rule: &'a Rule) -> Vec<Place<'a>> {
         let Some(premise) = &rule.premise else {
             return Vec::new();
         };
         let closings = closings(certificate, premise);
-        let all = places(premise).into_iter();
-        all.filter(|place| self.is_open(&closings, place))
-            .map(|place| place.subterm)
-            .collect()
+        let mut open = places(premise);
+        open.retain(|place| self.is_open(&closings, place));
+        open
     }
 
-    fn is_dead(&self, certificate: &Certificate, rule: &Rule) -> bool {
-        let open = self.open(certificate, rule);
-        open.iter()
-            .any(|term| is_listed(term, &certificate.secrets))
+    fn first_open_secret(&self, certificate: &Certificate, rule: &Rule) -> Option<usize> {
+        first_secret(&self.open(certificate, rule), &certificate.secrets)
     }
 
     fn first_uncovered(&self, certificate: &Certificate, rule: &Rule) -> Option<usize> {
-        if self.is_dead(certificate, rule) {
-            return None;
-        }
         let open = self.open(certificate, rule);
         let hats = sure_hats(certificate, &rule.conclusion);
         let all = places(&rule.conclusion).into_iter();
         let mut risky = all.filter(|place| is_risky(certificate, place));
         let found =
-            risky.find(|place| !self.has_hat(&hats, place) && !open.contains(&place.subterm));
-        found.map(|place| place.entry)
+            risky.find(|place| !self.has_hat(&hats, place) && !stands_at(&open, place.subterm));
+        found.map(|place| rule.premise_entries() + place.entry)
     }
 
-    /// The first rule that does not pass, and the entry.
-    fn answer(&self, certificate: &Certificate) -> Option<(usize, usize)> {
-        let mut rules = certificate.rules.iter();
-        rules.find_map(|rule| Some((rule.block, self.first_uncovered(certificate, rule)?)))
+    fn answer(&self, certificate: &Certificate) -> Option<Answer> {
+        answer_by(
+            certificate,
+            |rule| self.first_open_secret(certificate, rule),
+            |rule| self.first_uncovered(certificate, rule),
+        )
     }
 }
+
+/// Marked bad patterns open nothing.
+const MARKS_OPEN_NOTHING: Reading = Reading {
+    for_open: marks_take_nothing,
+    ..RIGHT
+};
+
+/// Marked bad patterns open all.
+const MARKS_OPEN_ALL: Reading = Reading {
+    for_open: |_, _| true,
+    ..RIGHT
+};
 
 /// At one subterm of a conclusion or a premise, marks of one bad pattern that
 /// are on a place where another's are not.
@@ -168,15 +181,17 @@ fn has_several(certificate: &Certificate, rule: &Rule) -> bool {
 }
 
 impl Uses {
-    fn add(&mut self, certificate: &Certificate, accepted: bool) {
-        let right = RIGHT.answer(certificate);
-        assert_eq!(accepted, right.is_none());
+    fn add(&mut self, certificate: &Certificate, right: Option<Answer>) {
+        assert_eq!(RIGHT.answer(certificate), right);
+        let accepted = right.is_none();
+        let is = |number: u8| right.is_some_and(|(found, ..)| found == number);
         let other = |for_hat, for_open| Reading { for_hat, for_open }.answer(certificate) != right;
         let plain = RIGHT.answer(&with_plain_bads(certificate));
         let add = |count: &mut u64, yes: bool| *count += u64::from(yes);
         self.all += 1;
         add(&mut self.accepted, accepted);
-        add(&mut self.uncovered, !accepted);
+        add(&mut self.uncovered, is(12));
+        add(&mut self.open_secret, is(15));
         add(&mut self.marks_decide, plain != right);
         add(&mut self.accepted_by_marks, accepted && plain.is_some());
         let fewer = RIGHT.answer(&without_marked_bads(certificate));
@@ -188,19 +203,22 @@ impl Uses {
             other(variables_only, exposes),
         );
         add(&mut self.below_for_open, other(may, may));
-        let without = Reading {
-            for_open: marks_take_nothing,
-            ..RIGHT
-        };
-        let mut rules = certificate.rules.iter();
-        let by_mark =
-            |rule| RIGHT.is_dead(certificate, rule) && !without.is_dead(certificate, rule);
-        add(&mut self.dead_by_mark, accepted && rules.any(by_mark));
+        self.add_secrets(certificate);
         let mut rules = certificate.rules.iter();
         add(
             &mut self.several,
             rules.any(|r| has_several(certificate, r)),
         );
+    }
+
+    fn add_secrets(&mut self, certificate: &Certificate) {
+        let first = |reading: &Reading, rule| reading.first_open_secret(certificate, rule);
+        let differs = |one: &Reading, other: &Reading| {
+            let mut rules = certificate.rules.iter();
+            rules.any(|rule| first(one, rule).is_some() && first(other, rule).is_none())
+        };
+        self.open_by_mark += u64::from(differs(&RIGHT, &MARKS_OPEN_NOTHING));
+        self.closed_by_mark += u64::from(differs(&MARKS_OPEN_ALL, &RIGHT));
     }
 }
 
@@ -209,12 +227,12 @@ fn files_rest_on_marks_of_bad_patterns() {
     let mut uses = Uses::default();
     let mut with_bads = 0;
     for seed in 0..FILES {
-        let Some((certificate, accepted)) = judged(seed) else {
+        let Some((certificate, right)) = judged(seed) else {
             continue;
         };
         with_bads += u64::from(!certificate.bads.is_empty());
         if has_marked_bad(&certificate) {
-            uses.add(&certificate, accepted);
+            uses.add(&certificate, right);
         }
     }
     println!("of {FILES} files, {with_bads} with bad patterns: {uses:?}");
@@ -231,6 +249,8 @@ fn files_rest_on_marks_of_bad_patterns() {
     assert!(share(uses.below_for_hat, uses.all, 5), "below, hat");
     assert!(share(uses.below_for_hat_of_nested, uses.all, 1), "nested");
     assert!(share(uses.below_for_open, uses.all, 1), "below, open");
-    assert!(share(uses.dead_by_mark, uses.accepted, 2), "dead");
+    assert!(share(uses.open_secret, uses.all, 5), "open secret");
+    assert!(share(uses.open_by_mark, uses.all, 1), "open by mark");
+    assert!(share(uses.closed_by_mark, uses.all, 2), "closed by mark");
     assert!(share(uses.several, uses.all, 5), "several");
 }

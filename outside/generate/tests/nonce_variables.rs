@@ -3,16 +3,18 @@
 mod common;
 mod judged;
 
+use common::{answer_by, Answer};
 use generate::certificate::{replace, variables_of};
 use judged::judged;
-use literal::hats::{has_sure_hat, is_listed, is_risky, Closing, Exception, SureHat};
+use literal::hats::{first_secret, has_sure_hat, is_risky, stands_at};
+use literal::hats::{Closing, Exception, SureHat};
 use literal::read::{Atom, Certificate, Listed, Rule};
 use literal::term::{is_one_nonce, joined, marks, places, strictly_above, Path, Place};
 use literal::Term;
 
 const FILES: u64 = 100_000;
 
-/// Files that are judged to the end and have a nonce variable, and how many of
+/// Files whose rules are judged and that have a nonce variable, and how many of
 /// them show it.
 #[derive(Default, Debug)]
 struct Uses {
@@ -22,6 +24,7 @@ struct Uses {
     in_rules: u64,
     accepted: u64,
     uncovered: u64,
+    open_secret: u64,
     /// Another answer if nonce variables are ordinary ones; of these, refused so
     /// and accepted with them.
     decide: u64,
@@ -178,43 +181,43 @@ impl Reading {
             .collect()
     }
 
-    fn open<'a>(&self, certificate: &Certificate, premise: &'a Term) -> Vec<&'a Term> {
-        let all = places(premise);
-        let closings = self.closings(certificate, &all);
+    fn open<'a>(&self, certificate: &Certificate, rule: &'a Rule) -> Vec<Place<'a>> {
+        let mut open = rule.premise.as_ref().map_or(Vec::new(), places);
+        let closings = self.closings(certificate, &open);
         let closes = |upper: &Closing, place: &Place| {
             strictly_above(&upper.path, &place.path)
                 && !upper.exceptions.iter().any(|bad| bad.exposes(place))
         };
-        let is_open = |place: &&Place| !closings.iter().any(|upper| closes(upper, place));
-        let open = all.iter().filter(is_open);
-        open.map(|place| place.subterm).collect()
+        open.retain(|place| !closings.iter().any(|upper| closes(upper, place)));
+        open
+    }
+
+    fn first_open_secret(&self, certificate: &Certificate, rule: &Rule) -> Option<usize> {
+        first_secret(&self.open(certificate, rule), &certificate.secrets)
     }
 
     fn first_uncovered(&self, certificate: &Certificate, rule: &Rule) -> Option<usize> {
-        let premise = rule.premise.as_ref();
-        let open = premise.map_or(Vec::new(), |p| self.open(certificate, p));
-        if open.iter().any(|t| is_listed(t, &certificate.secrets)) {
-            return None;
-        }
+        let open = self.open(certificate, rule);
         let hats = self.hats(certificate, &rule.conclusion);
         let all = places(&rule.conclusion);
         let mut risky = all.iter().filter(|place| is_risky(certificate, place));
         risky
-            .find(|place| !has_sure_hat(&hats, place) && !open.contains(&place.subterm))
-            .map(|place| place.entry)
+            .find(|place| !has_sure_hat(&hats, place) && !stands_at(&open, place.subterm))
+            .map(|place| rule.premise_entries() + place.entry)
     }
 
-    /// The first rule that does not pass, and the entry of its conclusion.
-    fn answer(&self, certificate: &Certificate) -> Option<(usize, usize)> {
-        let mut rules = certificate.rules.iter();
-        rules.find_map(|r| Some((r.block, self.first_uncovered(certificate, r)?)))
+    fn answer(&self, certificate: &Certificate) -> Option<Answer> {
+        let open_secret = |rule: &Rule| self.first_open_secret(certificate, rule);
+        let uncovered = |rule: &Rule| self.first_uncovered(certificate, rule);
+        answer_by(certificate, open_secret, uncovered)
     }
 }
 
 impl Uses {
-    fn add(&mut self, certificate: &Certificate, accepted: bool) {
-        let right = RIGHT.answer(certificate);
-        assert_eq!(accepted, right.is_none());
+    fn add(&mut self, certificate: &Certificate, right: Option<Answer>) {
+        assert_eq!(RIGHT.answer(certificate), right);
+        let accepted = right.is_none();
+        let is = |number: u8| right.is_some_and(|(found, ..)| found == number);
         let add = |count: &mut u64, yes: bool| *count += u64::from(yes);
         let in_list = |list: &[Listed]| list.iter().any(|listed| has_some(&listed.term));
         self.all += 1;
@@ -222,7 +225,8 @@ impl Uses {
         add(&mut self.in_bads, in_list(&certificate.bads));
         add(&mut self.in_rules, in_rules(certificate));
         add(&mut self.accepted, accepted);
-        add(&mut self.uncovered, !accepted);
+        add(&mut self.uncovered, is(12));
+        add(&mut self.open_secret, is(15));
         let otherwise = RIGHT.answer(&all_ordinary(certificate));
         add(&mut self.decide, otherwise != right);
         add(&mut self.accepted_by_them, accepted && otherwise.is_some());
@@ -260,17 +264,17 @@ fn has_nonce_variables(certificate: &Certificate) -> bool {
 #[test]
 fn files_rest_on_nonce_variables() {
     let mut uses = Uses::default();
-    let mut to_the_end = 0;
+    let mut with_rules_judged = 0;
     for seed in 0..FILES {
-        let Some((certificate, accepted)) = judged(seed) else {
+        let Some((certificate, right)) = judged(seed) else {
             continue;
         };
-        to_the_end += 1;
+        with_rules_judged += 1;
         if has_nonce_variables(&certificate) {
-            uses.add(&certificate, accepted);
+            uses.add(&certificate, right);
         }
     }
-    println!("of {FILES} files, {to_the_end} judged to the end: {uses:?}");
+    println!("of {FILES} files, the rules of {with_rules_judged} judged: {uses:?}");
     let share = |count: u64, of: u64, percent: u64| count * 100 > of * percent;
     assert!(share(uses.all, FILES, 22), "all");
     assert!(share(uses.in_goods, uses.all, 70), "goods");
@@ -278,6 +282,7 @@ fn files_rest_on_nonce_variables() {
     assert!(share(uses.in_rules, uses.all, 70), "rules");
     assert!(share(uses.accepted, uses.all, 20), "accepted");
     assert!(share(uses.uncovered, uses.all, 30), "uncovered");
+    assert!(share(uses.open_secret, uses.all, 4), "open secret");
     assert!(share(uses.decide, uses.all, 8), "decide");
     assert!(
         share(uses.accepted_by_them, uses.accepted, 5),

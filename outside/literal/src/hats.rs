@@ -201,24 +201,36 @@ fn exceptions_by_matching(certificate: &Certificate, place: &Place) -> Vec<Excep
 /// Open place of a premise: every encryption strictly above it either shares
 /// an instance with no good pattern, or is a bad pattern with its variables
 /// replaced by terms, without marks or with one at or above the place. The
-/// answer is the subterms at those places, in order.
-pub fn open_subterms<'a>(certificate: &Certificate, rule: &'a Rule) -> Vec<&'a Term> {
+/// answer is those places, entries rising.
+pub fn open_places<'a>(certificate: &Certificate, rule: &'a Rule) -> Vec<Place<'a>> {
     let Some(premise) = &rule.premise else {
         return Vec::new();
     };
-    let places = places(premise);
     let closings = closings(certificate, premise);
-    places
-        .iter()
-        .filter(|place| {
-            #[cfg(test)]
-            if let Some(open) = slip::open_otherwise(&places, &closings, place) {
-                return open;
-            }
-            !closings.iter().any(|upper| upper.closes(place))
-        })
-        .map(|place| place.subterm)
-        .collect()
+    let mut open = places(premise);
+    #[cfg(test)]
+    if slip::open_otherwise(&mut open, &closings) {
+        return open;
+    }
+    open.retain(|place| !closings.iter().any(|upper| upper.closes(place)));
+    open
+}
+
+/// The first entry of the premise at an open place where a listed secret
+/// stands, symbol for symbol; none for a rule that 15 does not refuse.
+pub fn first_open_secret(certificate: &Certificate, rule: &Rule) -> Option<usize> {
+    #[cfg(test)]
+    if let Some(other) = slip::open_secrets::first_otherwise(certificate, rule) {
+        return other;
+    }
+    let open = open_places(certificate, rule);
+    first_secret(&open, &certificate.secrets)
+}
+
+/// The entry of the first of these places where a listed secret stands.
+pub fn first_secret(places: &[Place], secrets: &[Listed]) -> Option<usize> {
+    let found = places.iter().find(|p| is_listed(p.subterm, secrets))?;
+    Some(found.entry)
 }
 
 /// Risky place of a conclusion: a variable, or a subterm that shares an
@@ -242,7 +254,7 @@ pub fn is_risky(certificate: &Certificate, place: &Place) -> bool {
 
 /// Covered: there is a sure hat for the place, or the same subterm, symbol for
 /// symbol, stands at an open place of the premise.
-pub fn is_covered(hats: &[SureHat], open: &[&Term], place: &Place) -> bool {
+pub fn is_covered(hats: &[SureHat], open: &[Place], place: &Place) -> bool {
     #[cfg(test)]
     if slip::is(Slip::PremiseNotRead) {
         return has_sure_hat(hats, place);
@@ -251,32 +263,18 @@ pub fn is_covered(hats: &[SureHat], open: &[&Term], place: &Place) -> bool {
     if slip::nonces::is_shown_otherwise(open, place.subterm) {
         return true;
     }
-    has_sure_hat(hats, place) || open.contains(&place.subterm)
+    has_sure_hat(hats, place) || stands_at(open, place.subterm)
 }
 
-/// Dead rule: a listed secret stands at an open place of its premise.
-pub fn is_dead(certificate: &Certificate, open: &[&Term]) -> bool {
-    #[cfg(test)]
-    if slip::is(Slip::DeadNotPassed) {
-        return false;
-    }
-    #[cfg(test)]
-    if slip::is(Slip::DeadBySharing) {
-        return open
-            .iter()
-            .any(|term| shares_with_some(&certificate.atoms, term, &certificate.secrets));
-    }
-    open.iter()
-        .any(|term| is_listed(term, &certificate.secrets))
+/// Whether the term, symbol for symbol, stands at one of the places.
+pub fn stands_at(places: &[Place], term: &Term) -> bool {
+    places.iter().any(|place| place.subterm == term)
 }
 
 /// The entry within the rule block of the first risky place that is not
 /// covered; none for a rule that passes.
 pub fn first_uncovered(certificate: &Certificate, rule: &Rule) -> Option<usize> {
-    let open = open_subterms(certificate, rule);
-    if is_dead(certificate, &open) {
-        return None;
-    }
+    let open = open_places(certificate, rule);
     let hats = sure_hats(certificate, &rule.conclusion);
     let mut places = places(&rule.conclusion);
     #[cfg(test)]

@@ -1,6 +1,7 @@
-//! The verdict: reading, then the numbers 9 to 12, each over all blocks.
+//! The verdict: reading, then the numbers 9, 10, 11, 15 and 12, each over all
+//! blocks.
 
-use crate::hats::{first_uncovered, is_listed};
+use crate::hats::{first_open_secret, first_uncovered, is_listed};
 use crate::read::{read, refuse, Certificate};
 #[cfg(test)]
 use crate::slip::{self, Slip};
@@ -23,7 +24,16 @@ fn judge(file: &[u8]) -> Result<Certificate, Refusal> {
     }
     known_secret(&certificate)?;
     secret_not_weakly_closed(&certificate)?;
+    #[cfg(test)]
+    if slip::is(Slip::OpenSecretBeforeKeys) {
+        rule_with_open_secret(&certificate)?;
+    }
     root_key_not_kept(&certificate)?;
+    #[cfg(test)]
+    if let Some(other) = slip::open_secrets::rules_judged_otherwise(&certificate) {
+        return other.map(|()| certificate);
+    }
+    rule_with_open_secret(&certificate)?;
     rule_not_passing(&certificate)?;
     Ok(certificate)
 }
@@ -88,8 +98,18 @@ fn root_key_not_kept(certificate: &Certificate) -> Result<(), Refusal> {
     Ok(())
 }
 
+/// 15: a listed secret stands at an open place of a premise.
+pub(crate) fn rule_with_open_secret(certificate: &Certificate) -> Result<(), Refusal> {
+    for rule in &certificate.rules {
+        if let Some(entry) = first_open_secret(certificate, rule) {
+            return Err(refuse(15, rule.block, entry));
+        }
+    }
+    Ok(())
+}
+
 /// 12: a risky place is not covered.
-fn rule_not_passing(certificate: &Certificate) -> Result<(), Refusal> {
+pub(crate) fn rule_not_passing(certificate: &Certificate) -> Result<(), Refusal> {
     for rule in &certificate.rules {
         if let Some(entry) = first_uncovered(certificate, rule) {
             #[cfg(test)]

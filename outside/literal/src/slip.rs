@@ -11,6 +11,7 @@ use std::cell::Cell;
 
 pub mod bads;
 pub mod nonces;
+pub mod open_secrets;
 
 #[derive(Clone, Copy, Debug, PartialEq, Eq)]
 pub enum Slip {
@@ -88,8 +89,24 @@ pub enum Slip {
     RiskyByEquality,
     RootNoPlace,
     PremiseNotRead,
-    DeadNotPassed,
-    DeadBySharing,
+    // Open secrets.
+    OpenSecretNotRefused,
+    OpenSecretPasses,
+    OpenSecretBySharing,
+    OpenSecretBySharingOfNested,
+    OpenSecretAtomsOnly,
+    OpenSecretAsWholePremiseOnly,
+    OpenSecretAtClosedPlace,
+    OpenSecretInConclusion,
+    OpenSecretOnlyIfUncovered,
+    OpenSecretInFirstRuleOnly,
+    OpenSecretOfLastRule,
+    OpenSecretBeforeKeys,
+    LastOpenSecret,
+    OpenSecretByOrderOfSecrets,
+    TwelveBeforeFifteen,
+    FifteenRuleByRule,
+    TwelveBeforeFifteenRuleByRule,
     // Matching and sharing.
     RepeatedVariableFree,
     MarkedAsPlain,
@@ -170,19 +187,20 @@ pub fn give_more_marks(certificate: &Certificate, hat: Option<&mut SureHat>) {
     }
 }
 
-/// Wrong ways to call a place open.
-pub fn open_otherwise(all: &[Place], closings: &[Closing], place: &Place) -> Option<bool> {
-    if is(Slip::EveryPlaceOpen) {
-        return Some(true);
-    }
+/// Keeps the places that a wrong reading calls open; false if none is on.
+pub fn open_otherwise(all: &mut Vec<Place>, closings: &[Closing]) -> bool {
     if is(Slip::OneEncryptionEnough) {
-        let encryptions = all.iter().filter(|upper| upper.subterm.is_encryption());
-        let is_above = |upper: &&Place| strictly_above(&upper.path, &place.path);
-        let above = encryptions.filter(is_above).count();
-        let closing = closings.iter().filter(|upper| upper.closes(place)).count();
-        return Some(above == 0 || closing < above);
+        let upper = all.iter().filter(|upper| upper.subterm.is_encryption());
+        let upper: Vec<Path> = upper.map(|upper| upper.path.clone()).collect();
+        all.retain(|place| {
+            let above = upper.iter().filter(|u| strictly_above(u, &place.path));
+            let closing = closings.iter().filter(|upper| upper.closes(place));
+            let above = above.count();
+            above == 0 || closing.count() < above
+        });
+        return true;
     }
-    None
+    is(Slip::EveryPlaceOpen)
 }
 
 /// Wrong ways to ask a bad pattern's marks about a place of a premise.
@@ -330,7 +348,7 @@ pub fn atom_reached(atom: Option<&Atom>, number: u16) -> Option<&Atom> {
     atom.filter(|_| kept)
 }
 
-const ALL: [Slip; 95] = [
+const ALL: [Slip; 110] = [
     Slip::BadAsInstanceForHat,
     Slip::MarkNotAsked,
     Slip::MarkStrictlyAbove,
@@ -399,8 +417,23 @@ const ALL: [Slip; 95] = [
     Slip::RiskyByEquality,
     Slip::RootNoPlace,
     Slip::PremiseNotRead,
-    Slip::DeadNotPassed,
-    Slip::DeadBySharing,
+    Slip::OpenSecretNotRefused,
+    Slip::OpenSecretPasses,
+    Slip::OpenSecretBySharing,
+    Slip::OpenSecretBySharingOfNested,
+    Slip::OpenSecretAtomsOnly,
+    Slip::OpenSecretAsWholePremiseOnly,
+    Slip::OpenSecretAtClosedPlace,
+    Slip::OpenSecretInConclusion,
+    Slip::OpenSecretOnlyIfUncovered,
+    Slip::OpenSecretInFirstRuleOnly,
+    Slip::OpenSecretOfLastRule,
+    Slip::OpenSecretBeforeKeys,
+    Slip::LastOpenSecret,
+    Slip::OpenSecretByOrderOfSecrets,
+    Slip::TwelveBeforeFifteen,
+    Slip::FifteenRuleByRule,
+    Slip::TwelveBeforeFifteenRuleByRule,
     Slip::RepeatedVariableFree,
     Slip::MarkedAsPlain,
     Slip::VariableInItself,

@@ -11,7 +11,7 @@ pub struct Counts {
     pub rules: u32,
 }
 
-/// The number of the fault (1 to 12), and where it is.
+/// The number of the fault (1 to 12, or 15), and where it is.
 #[derive(Clone, Copy, Debug, PartialEq, Eq)]
 pub struct Refusal {
     pub number: u8,

@@ -129,7 +129,10 @@ fn cases_h_i_and_j() {
 #[test]
 fn cases_k_and_l() {
     let k = usual(Some(N), Term::Atom(3));
-    assert_eq!(verdict(&k), accepted(5, 2, 1, 0, 1));
+    assert_eq!(verdict(&k), refused(15, 4, 0));
+    assert_eq!(line(&verdict(&k)), b"refused 15 block=4 place=0\n");
+    assert_eq!(packed(&verdict(&k)), 15 * 65_536 + 4 * 256);
+    assert_eq!(refused_part(&k, &verdict(&k)), &k[4 * 512..]);
     assert!(!shares(&[], &two(X, X), &two(Y, two(T, Y))));
     assert!(shares(&[], &two(X, X), &two(Y, Y)));
 }

@@ -76,11 +76,8 @@ fn a_mark_at_or_above_counts_for_an_open_place() {
 fn a_mark_below_does_not_count_for_an_open_place() {
     let premise = Some(after_i(two(N, T)));
     let below = after_i(two(X, M));
-    assert_eq!(
-        with_pair_secret(after_i(M), premise.clone(), N),
-        ACCEPTED,
-        "dead"
-    );
+    let at_the_pair = with_pair_secret(after_i(M), premise.clone(), N);
+    assert_eq!(at_the_pair, (15, 6, 3));
     assert_eq!(with_pair_secret(below, premise, N), (12, 6, 6));
 }
 

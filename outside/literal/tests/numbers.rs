@@ -1,4 +1,4 @@
-//! The numbers 2 to 12 by hand, their order, and the readings.
+//! The numbers 2 to 12 and 15 by hand, their order, and the readings.
 
 mod common;
 
@@ -176,12 +176,14 @@ fn a_block_is_judged_whole_before_the_next() {
     assert_eq!(spot(&blocks.concat()), (2, 0, 0));
 }
 
-/// 9 over all blocks before 10, 10 before 11, 11 before 12.
+/// 9 over all blocks before 10, 10 before 11, 11 before 15, 15 before 12.
 #[test]
-fn numbers_9_to_12_in_turn() {
+fn numbers_9_10_11_15_and_12_in_turn() {
     let mut parts = Parts::usual();
     parts.rules = vec![(None, enc(N, 4))];
     assert_eq!(spot(&parts.bytes()), (12, 4, 1));
+    parts.rules.push((Some(N), T));
+    assert_eq!(spot(&parts.bytes()), (15, 5, 0));
     parts.goods.push(enc(S, 4));
     assert_eq!(spot(&parts.bytes()), (11, 4, 0));
     parts.secrets.insert(0, two(T, I));
@@ -229,7 +231,7 @@ fn match_and_mark_of_one_pattern() {
     assert_eq!(spot(&parts.bytes()), (12, 5, 2));
 }
 
-/// Reading 8: dead by equality, risky by sharing; every variable is risky.
+/// Reading 8: 15 by equality, risky by sharing; every variable is risky.
 #[test]
 fn equality_and_sharing() {
     let mut parts = Parts::usual();
@@ -239,7 +241,7 @@ fn equality_and_sharing() {
     parts.rules = vec![(Some(two(X, T)), N)];
     assert_eq!(spot(&parts.bytes()), (12, 5, 3));
     parts.rules = vec![(Some(two(N, T)), Y)];
-    assert_eq!(spot(&parts.bytes()), (0, 0, 0));
+    assert_eq!(spot(&parts.bytes()), (15, 5, 0));
     parts.rules = vec![(Some(T), Y)];
     assert_eq!(spot(&parts.bytes()), (12, 5, 1));
 }
@@ -267,17 +269,13 @@ fn first_bad_counts_too() {
 
 #[test]
 fn longest_terms_and_last_places() {
-    let mut deep = N;
-    for _ in 0..62 {
-        deep = enc(deep, 4);
-    }
-    let mut parts = Parts::usual();
-    parts.rules = vec![(Some(deep.clone()), deep.clone())];
-    assert_eq!(spot(&parts.bytes()), (0, 0, 0));
-    let mut other = X;
-    for _ in 0..62 {
-        other = enc(other, 4);
-    }
-    parts.rules = vec![(Some(other), deep)];
-    assert_eq!(spot(&parts.bytes()), (12, 4, 125));
+    let chain = |inside: Term| (0..62).fold(inside, |term, _| enc(term, 4));
+    let answer = |premise: Term, conclusion: Term| {
+        let mut parts = Parts::usual();
+        parts.rules = vec![(Some(chain(premise)), chain(conclusion))];
+        spot(&parts.bytes())
+    };
+    assert_eq!(answer(X, X), (0, 0, 0));
+    assert_eq!(answer(X, N), (12, 4, 125));
+    assert_eq!(answer(N, X), (15, 4, 62));
 }

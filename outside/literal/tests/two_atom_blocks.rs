@@ -65,7 +65,7 @@ fn a_rule_with_atoms_of_the_second_block() {
     assert_eq!(with_rule(None, two(T, key.clone())), (12, 7, 2));
     assert_eq!(with_rule(Some(enc(X, 128)), X), (12, 7, 2));
     assert_eq!(with_rule(Some(enc(X, 130)), X), ACCEPTED);
-    assert_eq!(with_rule(Some(nonce), key), ACCEPTED);
+    assert_eq!(with_rule(Some(nonce), key), (15, 7, 0));
     assert_eq!(with_rule(None, Term::Atom(3)), ACCEPTED);
 }
 

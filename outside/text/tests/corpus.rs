@@ -35,7 +35,7 @@ fn needs_later_tags(text: &str) -> bool {
 #[test]
 fn lines_from_bytes() {
     let all = certificates();
-    assert_eq!(all.len(), 23);
+    assert_eq!(all.len(), 25);
     for (name, text, bytes) in &all {
         let expected = expected_line(text).expect(name);
         assert_eq!(line_of(bytes), expected, "{name}");
@@ -60,7 +60,7 @@ fn lines_from_texts() {
         assert_eq!(line_of(&assembled), expected_line(&text).unwrap(), "{name}");
         assembled_count += 1;
     }
-    assert_eq!(assembled_count, 19);
+    assert_eq!(assembled_count, 21);
 }
 
 #[test]

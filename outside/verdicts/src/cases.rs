@@ -1,5 +1,6 @@
-//! Document 01's certificates to try, with the document's answers. Case l is
-//! about two terms and is asked of the term layer.
+//! Document 01's certificates to try, with the document's answers; case k with
+//! that of document 02, No. 4. Case l is about two terms and is asked of the term
+//! layer.
 
 use crate::known::Known;
 use text::document::{ATOMS, GOOD, SECRETS};
@@ -69,7 +70,12 @@ const ROWS: [Row; 13] = [
         "refused 10 block=1 place=0",
         655_616,
     ),
-    ("k", &[SECRETS, GOOD, "rule N -> KAi"], FIVE, 0),
+    (
+        "k",
+        &[SECRETS, GOOD, "rule N -> KAi"],
+        "refused 15 block=4 place=0",
+        984_064,
+    ),
 ];
 
 /// So many zero bytes. 32,768 goes on to the kind of block 0, whose check is right.
@@ -109,7 +115,8 @@ pub(crate) fn of_rows(word: &str, rows: &[Row]) -> Result<Vec<Known>, String> {
     rows.iter().map(of).collect()
 }
 
-fn of_text(name: &str, rest: &str, line: &str, packed: u32) -> Result<Known, String> {
+/// These lines after the document's atoms.
+pub(crate) fn of_text(name: &str, rest: &str, line: &str, packed: u32) -> Result<Known, String> {
     let file = text::assemble(&format!("{ATOMS}{rest}")).map_err(|e| format!("{name}: {e}"))?;
     Ok(Known {
         name: name.to_string(),

@@ -8,6 +8,7 @@ pub mod lent;
 pub mod marked_bad;
 pub mod more_atoms;
 pub mod nonce_variables;
+pub mod open_secrets;
 pub mod proved;
 
 use std::fmt::{self, Display};

@@ -132,7 +132,7 @@ const HATS: [Row; 16] = [
     ),
 ];
 
-/// One rule that forwards, or is dead.
+/// One rule that forwards, or whose premise has a secret.
 const OPEN_PLACES: [Row; 16] = [
     (
         "shown without a mark",
@@ -171,25 +171,25 @@ const OPEN_PLACES: [Row; 16] = [
         787_977,
     ),
     (
-        "dead by a mark at the pair",
+        "a secret pair open by a mark at it",
         &[SECRETS, PAIR_SECRET, GOOD, ON_REST, TAKES_PAIR],
-        WITH_PAIR,
-        0,
+        "refused 15 block=6 place=3",
+        984_579,
     ),
     (
-        "not dead by a mark below the pair",
+        "a secret pair not open by a mark below it",
         &[SECRETS, PAIR_SECRET, GOOD, ON_SECOND, TAKES_PAIR],
         "refused 12 block=6 place=6",
         787_974,
     ),
     (
-        "dead by a mark at the first",
+        "a secret open by a mark at it",
         &[SECRETS, GOOD, ON_FIRST, TAKES_PAIR],
-        ACCEPTED,
-        0,
+        "refused 15 block=5 place=4",
+        984_324,
     ),
     (
-        "not dead by a mark beside the first",
+        "a secret not open by a mark beside it",
         &[SECRETS, GOOD, ON_SECOND, TAKES_PAIR],
         "refused 12 block=5 place=6",
         787_718,

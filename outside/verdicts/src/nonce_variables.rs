@@ -248,7 +248,7 @@ const SHARING: [Row; 17] = [
     ),
 ];
 
-/// Risky places, places that are shown, dead rules.
+/// Risky places, places that are shown, secrets in a premise.
 const PLACES: [Row; 13] = [
     (
         "a nonce variable that nothing shows",
@@ -311,19 +311,19 @@ const PLACES: [Row; 13] = [
         787_713,
     ),
     (
-        "dead by a secret nonce",
+        "an open secret nonce",
         &[SECRETS, AFTER_NONCE, "rule {(A, N)}KA -> KAi"],
-        ACCEPTED,
-        0,
+        "refused 15 block=4 place=3",
+        984_067,
     ),
     (
-        "not dead by a nonce variable",
+        "no open secret by a nonce variable",
         &[SECRETS, AFTER_NONCE, "rule {(A, ?n!x)}KA -> KAi"],
         "refused 12 block=4 place=4",
         787_460,
     ),
     (
-        "not dead below a hat for a nonce",
+        "no open secret below a hat for a nonce",
         &[SECRETS, ONE_NONCE, "rule {N}KA -> N"],
         "refused 12 block=4 place=2",
         787_458,

@@ -4,7 +4,8 @@ use generate::random::Random;
 use literal::{Refusal, Verdict};
 use verdicts::compare::differences;
 use verdicts::known::{self, Known};
-use verdicts::{cases, marked_bad, more_atoms, nonce_variables, proved, Checker, Spot};
+use verdicts::{cases, marked_bad, more_atoms, nonce_variables, open_secrets, proved};
+use verdicts::{Checker, Spot};
 
 const FILES: u64 = 300;
 
@@ -99,6 +100,11 @@ fn part_for_number_4(file: &[u8], spot: Spot, buffer: &mut [u8]) -> u32 {
     (proved::CHECKER.part)(file, Spot { number, ..spot }, buffer)
 }
 
+fn no_part_for_number_15(file: &[u8], spot: Spot, buffer: &mut [u8]) -> u32 {
+    let number = if spot.number == 15 { 1 } else { spot.number };
+    (proved::CHECKER.part)(file, Spot { number, ..spot }, buffer)
+}
+
 fn part_of_the_next_block(file: &[u8], spot: Spot, buffer: &mut [u8]) -> u32 {
     let block = spot.block.wrapping_add(1);
     (proved::CHECKER.part)(file, Spot { block, ..spot }, buffer)
@@ -129,6 +135,7 @@ fn wrong_checkers_are_noticed() {
     assert_eq!(with(|c| c.line = line_and_a_byte), ["line"]);
     assert_eq!(with(|c| c.line = line_in_a_short_buffer), ["line"]);
     assert_eq!(with(|c| c.part = part_for_number_4), ["part"]);
+    assert_eq!(with(|c| c.part = no_part_for_number_15), ["part"]);
     assert_eq!(with(|c| c.part = part_of_the_next_block), ["part"]);
     assert_eq!(with(|c| c.tally = tally_that_wraps), ["tally"]);
     assert_eq!(with(|c| c.seal = seal_and_a_byte), ["sealing"]);
@@ -154,6 +161,7 @@ fn by_hand() -> Vec<Known> {
         more_atoms::all(),
         marked_bad::all(),
         nonce_variables::all(),
+        open_secrets::all(),
     ];
     lists.into_iter().flat_map(Result::unwrap).collect()
 }

@@ -10,7 +10,7 @@ use Rattle.blocks.specs.Limits.{blockSize}
 use Rattle.blocks.specs.Block.{HasBlock, hasBlock, blockAt, behind}
 use Rattle.judge.specs.declared.verdict.Fault.{Fault}
 use Rattle.judge.specs.declared.verdict.Fault.the-variants.{Length, Check, Kind, Missing, Layout, AtomEntry}
-use Rattle.judge.specs.declared.verdict.Fault.the-variants.{TermEntry, NotOneTerm, KnownSecret, NotClosed, KeyNotKept, Uncovered}
+use Rattle.judge.specs.declared.verdict.Fault.the-variants.{TermEntry, NotOneTerm, KnownSecret, NotClosed, KeyNotKept, Uncovered, OpenSecret}
 use Rattle.judge.specs.declared.verdict.Counts.{Counts}
 use Rattle.judge.specs.declared.verdict.Verdict.{Verdict}
 use Rattle.judge.specs.declared.verdict.Verdict.the-variants.{Accepted, Refused}
@@ -29,8 +29,8 @@ pub packed-refused : {v : Verdict} {f : Fault} {n b p : ℕ} → v ≡ Refused f
     → n * 65536 + b * 256 + p ≡ packedOf v
 packed-refused e n b p = rw (e, n, b, p)
 
--- Every number is one of 1 to 12.
-pub numbers : (f : Fault) → (1 ≤ numberOf f) × (numberOf f ≤ 12)
+-- Every number is one of 1 to 15.
+pub numbers : (f : Fault) → (1 ≤ numberOf f) × (numberOf f ≤ 15)
 numbers Length = omega arith
 numbers (Check b) = omega arith
 numbers (Kind b) = omega arith
@@ -43,17 +43,18 @@ numbers (KnownSecret b) = omega arith
 numbers (NotClosed b) = omega arith
 numbers (KeyNotKept b) = omega arith
 numbers (Uncovered b p) = omega arith
+numbers (OpenSecret b p) = omega arith
 
-pub number-is : {r : Row} (f : Fault) → r ≡ rowOf f → (r .number ≡ numberOf f) × (r .number ≤ 12)
+pub number-is : {r : Row} (f : Fault) → r ≡ rowOf f → (r .number ≡ numberOf f) × (r .number ≤ 15)
 number-is f e = let same = ap (λ (r : Row). r .number) e in (same, omega (arith, numbers f))
 
 -- ---- a verdict is told by its number and values
 
--- The fault of a number, with this block and place.
+-- The fault of a number, with this block and place; 13 and 14 are of none.
 faultBy : ℕ → ℕ → ℕ → Fault
 faultBy n b p = getD
     (Length ∷ Length ∷ Check b ∷ Kind b ∷ Missing b ∷ Layout b ∷ AtomEntry b p ∷ TermEntry b p ∷ NotOneTerm b p
-    ∷ KnownSecret b ∷ NotClosed b ∷ KeyNotKept b ∷ Uncovered b p ∷ []) n Length
+    ∷ KnownSecret b ∷ NotClosed b ∷ KeyNotKept b ∷ Uncovered b p ∷ Length ∷ Length ∷ OpenSecret b p ∷ []) n Length
 
 fault-by : (f : Fault) → faultBy (numberOf f) (blockOf f) (placeOf f) ≡ f
 unfolding faultBy
@@ -69,6 +70,7 @@ fault-by (KnownSecret b) = refl
 fault-by (NotClosed b) = refl
 fault-by (KeyNotKept b) = refl
 fault-by (Uncovered b p) = refl
+fault-by (OpenSecret b p) = refl
 
 same-fault : (f g : Fault) → numberOf f ≡ numberOf g → blockOf f ≡ blockOf g → placeOf f ≡ placeOf g → f ≡ g
 same-fault f g n b p = sym (fault-by f) ∙ rw (n, b, p) (fault-by g)

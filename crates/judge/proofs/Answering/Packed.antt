@@ -2,25 +2,30 @@
 use mathlib.Core.Path.{_≡_, refl}
 use mathlib.Core.Logic.{_↔_}
 use mathlib.Core.List.{List}
+use mathlib.Core.Option.{some, Option·none-ne-some}
 use Prim.Native.Nat.{ℕ, _+_, _/_, _%_, _<_, _≤_}
 use native.Mathlib.Omega.{arith}
+use native.Mathlib.Decide.{ℕ-discrete}
+use borrow.Author.Tests.{eq-eqb, ne-eqb}
 use Rattle.blocks.specs.Kinds.{ruleKind}
 use Rattle.blocks.specs.Limits.{mostBlocks, mostEntries}
-use Rattle.blocks.specs.Block.{blockAt, kindOf, firstCount}
+use Rattle.blocks.specs.Block.{blockAt, kindOf, firstCount, firstEntries}
 use Rattle.blocks.proofs.Layouts.{counts-room}
-use Rattle.blocks.proofs.Parts.{second-length}
-use Rattle.terms.specs.Entry.{size}
-use Rattle.terms.proofs.PlacedLaws.{placed-within}
+use Rattle.blocks.proofs.Parts.{first-length, second-length}
+use Rattle.terms.specs.Term.{Term, Variable}
+use Rattle.terms.specs.Entry.{termOf, size}
+use Rattle.terms.proofs.PlacedLaws.{placed, placed-within}
 use Rattle.judge.specs.declared.verdict.Counts.{Counts}
 use Rattle.judge.specs.declared.verdict.Fault.{Fault}
 use Rattle.judge.specs.declared.verdict.Verdict.{Verdict}
 use Rattle.judge.specs.declared.verdict.Verdict.the-variants.{Accepted, Refused}
 use Rattle.judge.specs.Answer.{numberOf, blockOf, placeOf, packedOf}
 use Rattle.judge.specs.File.{blockCount, ruleOf}
+use Rattle.judge.specs.Laid.{RuleBlock}
 use Rattle.judge.specs.Verdict.{verdictOf}
 use Rattle.judge.specs.Meaning.{LengthRight, BlockFaulty, checkFails, kindFails, layoutFails, atomFails}
 use Rattle.judge.specs.Meaning.{entryFails, patternFails, premiseFails, conclusionFails, Formed, RefusedWith, lengthFails}
-use Rattle.judge.specs.Meaning.{blockFails, missing, secretKnown, secretNotClosed, keyNotKept, placeUncovered}
+use Rattle.judge.specs.Meaning.{blockFails, missing, secretKnown, secretNotClosed, keyNotKept, secretOpen, placeUncovered}
 use Rattle.judge.proofs.Answering.Answers.{numbers}
 use Rattle.judge.proofs.Files.AtomBlocks.{below}
 use Rattle.judge.proofs.Files.LaidLaws.{laid}
@@ -55,6 +60,23 @@ rule-place {file} {i} w inside is h =
     let r = laid file (w .long) (w .blocks) .rules i inside is in
     omega (arith, r .conclusion-whole, r .premise-short, r .conclusion-short, second-length (blockAt file i) (r .fitting))
 
+-- An entry of the premise.
+premise-place : {file : List ℕ} {i k : ℕ} {t : Term Variable} → Formed file → i < blockCount file → kindOf (blockAt file i) ≡ ruleKind
+    → ruleOf (blockAt file i) .premise ≡ some t → k < size t → k ≤ mostEntries
+unfolding ruleOf
+premise-place {file} {i} {k} {t} w inside is given h = go (ℕ-discrete (firstCount (blockAt file i)) 0)
+  where
+    r : RuleBlock (blockAt file i)
+    r = laid file (w .long) (w .blocks) .rules i inside is
+
+    go : Dec (firstCount (blockAt file i) ≡ 0) → k ≤ mostEntries
+    go (yes z) = let e = rw (eq-eqb (firstCount (blockAt file i)) 0 z) at given in absurd (Option·none-ne-some t e)
+    go (no off) =
+        let e = rw (ne-eqb (firstCount (blockAt file i)) 0 off) at given in
+        let same : t ≡ termOf (firstEntries (blockAt file i)) = cc in
+        let short : k < size (termOf (firstEntries (blockAt file i))) = rw same at h in
+        omega (arith, r .premise-whole off, r .premise-short, first-length (blockAt file i) (r .fitting))
+
 pub fault-small : (file : List ℕ) (f : Fault) → verdictOf file ≡ Refused f → Small f
 fault-small file f e = go (refused-iff file f .0 e)
   where
@@ -65,9 +87,13 @@ fault-small file f e = go (refused-iff file f .0 e)
     go (secretKnown e w i k) = rw e (record { block = omega (arith, i .inside, few-blocks (w .long)); place = omega arith })
     go (secretNotClosed e w u i) = rw e (record { block = omega (arith, i .inside, few-blocks (w .long)); place = omega arith })
     go (keyNotKept e w u c i) = rw e (record { block = omega (arith, i .inside, few-blocks (w .long)); place = omega arith })
-    go (placeUncovered e w u c k i n) = rw e (record {
+    go (secretOpen e w u c k i s) = rw e (record {
       block = omega (arith, i .inside, few-blocks (w .long));
-      place = rule-place w (i .inside) (i .is) (placed-within (n .stands));
+      place = premise-place w (i .inside) (i .is) (s .given) (omega (arith, s .entry, placed-within (placed (s .place) (s .premise) (s .openSecret .stands))));
+    })
+    go (placeUncovered e w u c k n i p) = rw e (record {
+      block = omega (arith, i .inside, few-blocks (w .long));
+      place = rule-place w (i .inside) (i .is) (placed-within (p .stands));
     })
 
 -- ---- the answer is read back

@@ -1,6 +1,7 @@
--- Laws of number 12 on the entries: searches through open entries, risky and covered entries, and the rule. Assumes nothing.
+-- Laws of numbers 15 and 12 on the entries: searches through open entries, secrets, risky and covered entries, and the rule.
+-- Assumes nothing.
 use mathlib.Core.Path.{_≡_, refl, sym, ap, subst, _∙_}
-use mathlib.Core.Bool.{Bool}
+use mathlib.Core.Bool.{Bool, true, false, false≢true}
 use mathlib.Core.List.{List, [], _∷_}
 use mathlib.Core.Logic.{_⊎_, inl, inr, _↔_}
 use mathlib.Core.Option.{Option, none, some, Option·none-ne-some}
@@ -9,33 +10,32 @@ use native.Mathlib.Omega.{arith}
 use native.Mathlib.Decide.{ℕ-discrete}
 use borrow.Rule.Slice.PartAt.{part-to-end}
 use borrow.Author.Tests.{eq-eqb, ne-eqb}
-use lib.ListN.{length, getD, drop}
+use lib.ListN.{length, getD, drop, replicate}
 use Rattle.blocks.specs.Kinds.{secretKind}
 use Rattle.blocks.specs.Block.{firstCount, secondCount, firstEntries, secondEntries}
 use Rattle.terms.specs.declared.valid.Found.{Found}
 use Rattle.terms.specs.declared.valid.Found.the-variants.{Nothing}
-use Rattle.terms.specs.Term.{Term, Variable, variable, named}
+use Rattle.terms.specs.Term.{Term, Variable, variable, named, asTerm}
 use Rattle.terms.specs.Tag.{VariableTag, SymbolTag, sort-tag}
 use Rattle.terms.specs.Place.{Place}
 use Rattle.terms.specs.Entry.{size, termOf, tagAt, valueAt, Reads, Begins, from, entryAt, Placed}
 use Rattle.terms.specs.Reading.{First, first-atom, first-pair, first-wrapped, first-variable, first}
 use Rattle.terms.proofs.EntryLaws.{termOf-reads, suffix, reads-variable, term-reads}
 use Rattle.terms.specs.Decisions.{Says, says-same}
-use Rattle.terms.proofs.AnswerLaws.{answer-yes, answer-no}
-use Rattle.terms.specs.First.{FirstNot}
+use Rattle.terms.specs.First.{FirstNot, fails, holds}
 use Rattle.terms.proofs.FirstLaws.{first-only, first-along}
 use Rattle.terms.proofs.PlacedLaws.{placed, within, spotted, subterm-at, spot-placed}
 use Rattle.judge.specs.Certificate.{Certificate, Rule}
 use Rattle.judge.specs.File.{certificateOf, ruleOf}
 use Rattle.judge.specs.Laid.{Laid, RuleBlock}
-use Rattle.judge.specs.Cover.{Risky, Covered, sureHat, inPremise, AtOpenPlace, Dead}
-use Rattle.judge.specs.Decisions.{dead?}
-use Rattle.judge.specs.Verdict.{spotAt, FineSpot, fine?, uncovered}
+use Rattle.judge.specs.Cover.{SecretOpenAt, Risky, Covered, sureHat, inPremise, AtOpenPlace}
+use Rattle.judge.specs.Verdict.{spotAt, no-secret?, openSecret, FineSpot, fine?, uncovered}
 use Rattle.judge.specs.Listed.{SharesListed, IsSecret}
 use Rattle.judge.specs.CoverEntries.{subAt, On, Cleared, Flags, Standing, HatBelow, Entries, OpenEntry, OpenFlags, OpenHolds, Flagged, FlaggedWith, SomeFlagged}
-use Rattle.judge.specs.CoverEntries.{RiskyEntry, Wanted, isSecret, isRisky, WantedEntry, FineEntry, Concluded}
-use Rattle.judge.proofs.Covering.Flags.{RaisedBelow}
-use Rattle.judge.proofs.Stages.ListedLaws.{risky-is, dead-is}
+use Rattle.judge.specs.CoverEntries.{EntryWith, RiskyEntry, AskedEntry, Wanted, isSecret, isRisky, WantedEntry, FineEntry, Concluded}
+use Rattle.judge.proofs.Covering.Flags.{RaisedBelow, zero-off, zero-bits}
+use Rattle.judge.proofs.Stages.ListedLaws.{secret-term, risky-is}
+use Rattle.judge.proofs.Files.Spots.{spot-stands}
 use Rattle.judge.proofs.Covering.Hats.{hat-place}
 use Rattle.judge.proofs.Covering.Opens.{open-place}
 
@@ -96,23 +96,51 @@ module _ (c : Certificate) {t : List ℕ} (b : Begins t) where
       go (inl w) = absurd (no-variable tag (w .0) (w .1))
       go (inr h) = h
 
--- The risky entries of the conclusion, as they are flagged.
-pub risky-flags : {c : Certificate} {e flags : List ℕ} {n : ℕ} → RaisedBelow flags (λ k. Risky c (subAt e k)) n → n ≡ size (termOf e) → 4 * size (termOf e) ≡ length e
-    → Flags flags (RiskyEntry c e)
-risky-flags {c} {e} w all whole = record {
-  long = w .long;
-  bits = w .bits;
-  on = λ k. (
-    λ o. (let v = w .on k .0 o in record { inside = let l = v .0 in omega arith; risky = v .1 }),
-    λ r. w .on k .1 (let l = r .inside in omega arith, r .risky),
-  );
-}
-
 pub concluded-entries : {file e : List ℕ} → Concluded file e → Entries e
 concluded-entries w = record { some-term = λ n. w .term; whole = λ n. w .whole; short = w .short }
 
-pub risky-flagged : {file : List ℕ} {c : Certificate} {e flags : List ℕ} → Concluded file e → Flags flags (RiskyEntry c e) → Flagged e flags
-risky-flagged w f = record { entries = concluded-entries w; long = f .long; within = λ k o. f .on k .0 o .inside }
+-- The entries with P, as they are flagged.
+pub entries-flags : {e flags : List ℕ} {P : ℕ → Type 0} {n : ℕ} → Entries e → RaisedBelow flags P n → length e / 4 ≡ n → Flags flags (EntryWith e P)
+entries-flags {e} {n = n} entries w all = record {
+  long = w .long;
+  bits = w .bits;
+  on = λ k. (
+    λ o. (let v = w .on k .0 o in record { inside = let l = v .0 in omega arith; holds = v .1 }),
+    λ r. w .on k .1 (below k (r .inside), r .holds),
+  );
+}
+  where
+    below : (k : ℕ) → 4 * k < length e → k < n
+    below k l = let whole = entries .whole (λ z. omega arith) in omega arith
+
+pub entries-flagged : {e flags : List ℕ} {P : ℕ → Type 0} → Entries e → Flags flags (EntryWith e P) → Flagged e flags
+entries-flagged entries f = record { entries = entries; long = f .long; within = λ k o. f .on k .0 o .inside }
+
+-- The risky entries, if they are asked for.
+module _ {asked : Bool} {c : Certificate} {e : List ℕ} where
+  pub asked-flags : {flags : List ℕ} → asked ≡ true → Flags flags (RiskyEntry c e) → Flags flags (AskedEntry asked c e)
+  asked-flags on f = record {
+    long = f .long;
+    bits = f .bits;
+    on = λ k. (
+      λ o. (let w = f .on k .0 o in record { inside = w .inside; holds = (on, w .holds) }),
+      λ w. f .on k .1 (record { inside = w .inside; holds = w .holds .1 }),
+    );
+  }
+
+  pub unasked-flags : asked ≡ false → Flags (replicate 64 0) (AskedEntry asked c e)
+  unasked-flags off =
+      record { long = refl; bits = zero-bits; on = λ k. (λ o. absurd (zero-off k o), λ w. absurd (false≢true (sym off ∙ w .holds .0))) }
+
+  pub flags-asked : {flags : List ℕ} → asked ≡ true → Flags flags (AskedEntry asked c e) → Flags flags (RiskyEntry c e)
+  flags-asked on f = record {
+    long = f .long;
+    bits = f .bits;
+    on = λ k. (
+      λ o. (let w = f .on k .0 o in record { inside = w .inside; holds = w .holds .1 }),
+      λ w. f .on k .1 (record { inside = w .inside; holds = (on, w .holds) }),
+    );
+  }
 
 -- The wanted entries of the premise.
 module _ (c : Certificate) (premise conclusion risky : List ℕ) (k : ℕ) where
@@ -128,24 +156,6 @@ pub wanted-none : {c : Certificate} {premise conclusion risky : List ℕ} {k : �
     → ¬ SomeFlagged conclusion risky (λ s. s ≡ subAt premise k) → ¬ Wanted c premise conclusion risky k
 wanted-none off empty (isSecret s) = off s
 wanted-none off empty (isRisky w) = empty w
-
-pub wanted-flags : {c : Certificate} {premise conclusion risky flags : List ℕ} {n : ℕ} → Entries premise → RaisedBelow flags (Wanted c premise conclusion risky) n
-    → length premise / 4 ≡ n → Flags flags (WantedEntry c premise conclusion risky)
-wanted-flags {c} {premise} {n = n} e w all = record {
-  long = w .long;
-  bits = w .bits;
-  on = λ k. (
-    λ o. (let v = w .on k .0 o in record { inside = let l = v .0 in omega arith; wanted = v .1 }),
-    λ r. w .on k .1 (below k (r .inside), r .wanted),
-  );
-}
-  where
-    below : (k : ℕ) → 4 * k < length premise → k < n
-    below k l = let whole = e .whole (λ z. omega arith) in omega arith
-
-pub wanted-flagged : {c : Certificate} {premise conclusion risky flags : List ℕ} → Entries premise → Flags flags (WantedEntry c premise conclusion risky)
-    → Flagged premise flags
-wanted-flagged e f = record { entries = e; long = f .long; within = λ k o. f .on k .0 o .inside }
 
 -- The premise's entries and the premise.
 pub record PremiseIs (e : List ℕ) (premise : Option (Term Variable)) : Type 0 where
@@ -196,31 +206,66 @@ module _ {file : List ℕ} (laid : Laid file) (rule : Rule) {e : List ℕ} (is :
             isOpen = open-place b (q .is) .0 (o .isOpen);
           }
 
-  -- The rule is dead if a listed secret stands at an open entry.
-  dead-entries : Dead (certificateOf file) rule ↔ OpenHolds (certificateOf file) e (IsSecret (certificateOf file))
-  dead-entries = (to, back)
-    where
-      to : Dead (certificateOf file) rule → OpenHolds (certificateOf file) e (IsSecret (certificateOf file))
-      to d =
-          let w = dead-is (certificateOf file) rule .0 d in
-          let o = at-open (w .0) .0 (w .2) in
-          record { number = o .number; isOpen = o .isOpen; holds = rw (o .holds) (w .1) }
+  -- Number 15, by the flags of the open entries among those that are wanted, with all secrets among them.
+  module _ {wanted opened : List ℕ} (f : OpenFlags (certificateOf file) e wanted opened)
+      (want : (k : ℕ) → 4 * k < length e → IsSecret (certificateOf file) (subAt e k) → On wanted k) where
+    abbrev FlaggedSecret : ℕ → Type 0
+    FlaggedSecret = FlaggedWith e opened (IsSecret (certificateOf file))
 
-      back : OpenHolds (certificateOf file) e (IsSecret (certificateOf file)) → Dead (certificateOf file) rule
-      back o =
-          let t = subAt e (o .number) in
-          dead-is (certificateOf file) rule .1 (t, o .holds, at-open t .1 (record { number = o .number; isOpen = o .isOpen; holds = refl }))
+    -- A flagged secret stands at an open place.
+    module _ (some-entry : ¬ (length e ≡ 0)) (k : ℕ) (inside : k < size (termOf e)) where
+      spot : Placed (termOf e) k (spotAt (termOf e) k .0) (spotAt (termOf e) k .1)
+      spot = spot-stands (termOf e) k inside
 
-  -- As the code finds it, by the flags of the open entries among the wanted ones.
+      begins : Begins e
+      begins = is .entries .some-term some-entry
+
+      subterm : subAt e k ≡ spotAt (termOf e) k .1
+      subterm = subterm-at spot (term-reads begins refl)
+
+      flagged-open : FlaggedSecret k ↔ SecretOpenAt (certificateOf file) (termOf e) (spotAt (termOf e) k .0)
+      flagged-open = (to, back)
+        where
+          to : FlaggedSecret k → SecretOpenAt (certificateOf file) (termOf e) (spotAt (termOf e) k .0)
+          to w =
+              let m = secret-term (certificateOf file) (subAt e k) .0 (w .holds) in
+              record {
+                secret = m .0;
+                listed = m .1;
+                stands = spot .stands ∙ ap some (sym subterm ∙ m .2);
+                isOpen = open-place begins spot .0 (f .on k .0 (w .on) .1 .isOpen);
+              }
+
+          back : SecretOpenAt (certificateOf file) (termOf e) (spotAt (termOf e) k .0) → FlaggedSecret k
+          back w =
+              let same : subAt e k ≡ asTerm (w .secret) = let x = spot .stands in let y = w .stands in cc (subterm) in
+              let secret = secret-term (certificateOf file) (subAt e k) .1 (w .secret, w .listed, same) in
+              let whole = is .entries .whole some-entry in
+              record {
+                on = f .on k .1 (want k (omega arith) secret, record { some-entry = some-entry; isOpen = open-place begins spot .1 (w .isOpen) });
+                holds = secret;
+              }
+
+    pub secret-rule : {r : Found} → FirstNot (λ k. ¬ FlaggedSecret k) (length e / 4) r → r ≡ openSecret (certificateOf file) rule
+    unfolding openSecret
+    secret-rule {r} found = go (ℕ-discrete (length e) 0)
+      where
+        nothing : length e ≡ 0 → FirstNot (λ k. ¬ FlaggedSecret k) (length e / 4) r → r ≡ Nothing
+        nothing z (fails e l off all) = absurd (omega arith)
+        nothing z (holds e all) = e
+
+        go : Dec (length e ≡ 0) → r ≡ openSecret (certificateOf file) rule
+        go (yes z) = rw (is .empty z, openSecret) (nothing z found)
+        go (no some-entry) =
+            let whole = is .entries .whole some-entry in
+            let count : length e / 4 ≡ size (termOf e) = omega arith in
+            rw (is .term some-entry, openSecret) (first-only (no-secret? (certificateOf file) (termOf e))
+            (first-along (λ k inside. let same = flagged-open some-entry k inside in (λ off o. off (same .1 o), λ off w. off (same .0 w)))
+            (rw count at found)))
+
+  -- Number 12, by the flags of the open entries among the wanted ones.
   module _ {conclusion risky wanted opened : List ℕ} (want : Flags wanted (WantedEntry (certificateOf file) e conclusion risky))
       (f : OpenFlags (certificateOf file) e wanted opened) where
-    secret-open : SomeFlagged e opened (IsSecret (certificateOf file)) ↔ OpenHolds (certificateOf file) e (IsSecret (certificateOf file))
-    secret-open = open-flags f (IsSecret (certificateOf file)) (λ k o s. want .on k .1 (record { inside = open-inside (is .entries) o; wanted = isSecret s }))
-
-    pub dead-rule : SomeFlagged e opened (IsSecret (certificateOf file)) → Nothing ≡ uncovered (certificateOf file) rule
-    unfolding uncovered
-    dead-rule o = rw (answer-yes (dead? (certificateOf file) rule) (dead-entries .1 (secret-open .0 o)), uncovered) refl
-
     -- The places of the conclusion, entry by entry.
     module _ (concluded : Concluded file conclusion) (term : rule .conclusion ≡ termOf conclusion)
         (g : Flags risky (RiskyEntry (certificateOf file) conclusion)) where
@@ -254,13 +299,13 @@ module _ {file : List ℕ} (laid : Laid file) (rule : Rule) {e : List ℕ} (is :
         stands-open : (k : ℕ) → On risky k → SomeFlagged e opened (λ s. s ≡ subAt conclusion k) ↔ OpenHolds (certificateOf file) e (λ s. s ≡ subAt conclusion k)
         stands-open k o = open-flags f (λ s. s ≡ subAt conclusion k) (λ j w same. want .on j .1 (record {
           inside = open-inside (is .entries) w;
-          wanted = isRisky (record { number = k; is = record { on = o; holds = sym same } });
+          holds = isRisky (record { number = k; is = record { on = o; holds = sym same } });
         }))
 
         not-fine : (k : ℕ) → On left k → ¬ FineEntry (certificateOf file) e conclusion k
         not-fine k on w =
             let v = l .kept k on in let u = b .kept k (v .0) in
-            go v u (w .covered (g .on k .0 (u .0) .risky))
+            go v u (w .covered (g .on k .0 (u .0) .holds))
           where
             go : On bare k × ¬ HatBelow (certificateOf file) conclusion (size (termOf conclusion)) k
                 → On risky k × ¬ SomeFlagged e opened (λ s. s ≡ subAt conclusion k)
@@ -271,7 +316,7 @@ module _ {file : List ℕ} (laid : Laid file) (rule : Rule) {e : List ℕ} (is :
         fine : (k : ℕ) → k < size (termOf conclusion) → ¬ On left k → FineEntry (certificateOf file) e conclusion k
         fine k inside off = record {
           covered = λ r. (
-              let on : On risky k = g .on k .1 (record { inside = let w = concluded .whole in omega arith; risky = r }) in go on (ℕ-discrete (getD bare k 0) 1)
+              let on : On risky k = g .on k .1 (record { inside = let w = concluded .whole in omega arith; holds = r }) in go on (ℕ-discrete (getD bare k 0) 1)
               );
         }
           where
@@ -291,12 +336,10 @@ module _ {file : List ℕ} (laid : Laid file) (rule : Rule) {e : List ℕ} (is :
         first-fine {r} found =
             subst (λ (n : ℕ). FirstNot (FineSpot (certificateOf file) rule) n r) (sym (ap size term)) (first-along left-fine found)
 
-        pub uncovered-rule : ¬ SomeFlagged e opened (IsSecret (certificateOf file)) → {r : Found} {n : ℕ} → n ≡ size (termOf conclusion)
-            → FirstNot (λ k. ¬ On left k) n r → r ≡ uncovered (certificateOf file) rule
+        pub uncovered-rule : {r : Found} {n : ℕ} → n ≡ size (termOf conclusion) → FirstNot (λ k. ¬ On left k) n r
+            → r ≡ uncovered (certificateOf file) rule
         unfolding uncovered
-        uncovered-rule none-secret all found =
-            rw (answer-no (dead? (certificateOf file) rule) (λ d. none-secret (secret-open .1 (dead-entries .0 d))), uncovered)
-            (first-only (fine? (certificateOf file) rule) (first-fine (rw all at found)))
+        uncovered-rule all found = first-only (fine? (certificateOf file) rule) (first-fine (rw all at found))
 
 -- The premise and the conclusion of a rule block.
 pub premise-is : {b e : List ℕ} → RuleBlock b → e ≡ firstEntries b → length e ≡ 4 * firstCount b → PremiseIs e (ruleOf b .premise)

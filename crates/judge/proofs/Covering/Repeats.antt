@@ -13,10 +13,8 @@ use Rattle.blocks.specs.Kinds.{ruleKind}
 use Rattle.blocks.specs.Block.{blockAt, kindOf, Fitting}
 use Rattle.terms.specs.Term.{Term, Variable}
 use Rattle.terms.specs.Decisions.{Says, says-same}
-use Rattle.terms.specs.declared.valid.Found.{Found}
-use Rattle.judge.specs.Certificate.{Certificate}
+use Rattle.judge.specs.Certificate.{Rule}
 use Rattle.judge.specs.File.{blockCount, ruleOf}
-use Rattle.judge.specs.Verdict.{uncovered}
 use Rattle.judge.specs.Laid.{Laid, RuleBlock}
 use Rattle.judge.specs.CoverEntries.{subAt, toldOf, Remembered, Forgotten, Renewed, Painted, AfterRule, Repeats, Carried}
 
@@ -41,8 +39,8 @@ pub other-kind : {b d : List ℕ} {k : ℕ} → b ≡ d → k ≡ kindOf b → �
 other-kind same kind off five = off (kind ∙ ap kindOf same ∙ five)
 
 -- What is told of block i is told of the block that was read.
-pub uncovered-of : (c : Certificate) {b d : List ℕ} {r : Found} → b ≡ d → r ≡ uncovered c (ruleOf d) → r ≡ uncovered c (ruleOf b)
-uncovered-of c same is = is ∙ ap (λ (b : List ℕ). uncovered c (ruleOf b)) (sym same)
+pub told-of : {A : Type 0} (told : Rule → A) {b d : List ℕ} {r : A} → b ≡ d → r ≡ told (ruleOf d) → r ≡ told (ruleOf b)
+told-of told same is = is ∙ ap (λ (b : List ℕ). told (ruleOf b)) (sym same)
 
 -- Its part, compared with that of block i.
 pub repeats-told : (part : List ℕ → List ℕ) (file : List ℕ) (i : ℕ) {b d e f : List ℕ} → AfterRule file i → b ≡ blockAt file (i - 1) → e ≡ part b

@@ -6,17 +6,18 @@ use mathlib.Core.Option.{some}
 use Prim.Native.Nat.{ℕ, _<_}
 use native.Mathlib.Omega.{arith}
 use Rattle.blocks.specs.Kinds.{secretKind, goodKind, ruleKind}
-use Rattle.terms.specs.Term.{Message, atom}
+use Rattle.terms.specs.Term.{Message, Variable, noVariable, atom, instance}
 use Rattle.terms.specs.Built.{Built}
+use Rattle.terms.specs.Instance.{PutsNonces}
 use Rattle.terms.specs.Place.{Place, subtermAt}
 use Rattle.judge.specs.declared.verdict.Counts.{Counts}
 use Rattle.judge.specs.declared.verdict.Verdict.the-variants.{Accepted}
 use Rattle.judge.specs.Answer.{packedOf}
-use Rattle.judge.specs.Certificate.{Secret}
+use Rattle.judge.specs.Certificate.{Rule, Secret}
 use Rattle.judge.specs.File.{patternOf, secretOf, ruleOf, certificateOf}
 use Rattle.judge.specs.Run.{Derives, Step, after}
 use Rattle.judge.specs.Hat.{Protected}
-use Rattle.judge.specs.Cover.{Passes}
+use Rattle.judge.specs.Cover.{HasOpenSecret, Passes}
 use Rattle.judge.specs.Conditions.{KnownAtom, WeaklyClosed, KeptKey, MeetsAll}
 use Rattle.judge.specs.Verdict.{verdictOf}
 use Rattle.judge.specs.Meaning.{Formed, Accepts}
@@ -24,7 +25,7 @@ use Rattle.judge.proofs.Files.Members.{listed, block-listed}
 use Rattle.judge.proofs.Files.ForeignLaws.{no-foreign}
 use Rattle.judge.proofs.Files.Verdicts.{accepted-iff}
 use Rattle.judge.proofs.Answering.Packed.{zero-accepted}
-use Rattle.judge.proofs.Runs.Secrecy.{protection, secrecy}
+use Rattle.judge.proofs.Runs.Secrecy.{protection, secrecy, never-enabled}
 
 pub accepts-meets : (file : List ℕ) → Accepts file → MeetsAll (certificateOf file)
 unfolding certificateOf Built
@@ -33,6 +34,7 @@ accepts-meets file w = record {
   notKnown = listed file secretKind secretOf (λ (s : Message). ¬ KnownAtom (certificateOf file) s) (w .unknown);
   weaklyClosed = listed file secretKind secretOf (WeaklyClosed (certificateOf file)) (w .closed);
   keptKeys = listed file goodKind patternOf (KeptKey (certificateOf file)) (w .kept);
+  noOpenSecret = listed file ruleKind ruleOf (λ (r : Rule). ¬ HasOpenSecret (certificateOf file) r) (w .noOpenSecret);
   passes = listed file ruleKind ruleOf (Passes (certificateOf file)) (w .passing);
 }
 
@@ -44,6 +46,7 @@ meets-accepts file formed meets = record {
   unknown = λ i inside kind. meets .notKnown _ (Memᴰ·map secretOf (block-listed file inside kind));
   closed = λ i inside kind. meets .weaklyClosed _ (Memᴰ·map secretOf (block-listed file inside kind));
   kept = λ i inside kind. meets .keptKeys _ (Memᴰ·map patternOf (block-listed file inside kind));
+  noOpenSecret = λ i inside kind. meets .noOpenSecret _ (Memᴰ·map ruleOf (block-listed file inside kind));
   passing = λ i inside kind. meets .passes _ (Memᴰ·map ruleOf (block-listed file inside kind));
 }
 
@@ -69,6 +72,14 @@ pub protection-of-accepted : (file : List ℕ) (counts : Counts) → verdictOf f
     → (steps : List (Step (certificateOf file))) (m : Message) → Derives (certificateOf file) (after (certificateOf file) steps) m
     → (p : Place) (s : Message) → Secret (certificateOf file) s → subtermAt p m ≡ some s → Protected (certificateOf file) m p
 protection-of-accepted file counts e = protection (certificateOf file) (accepted-meets file counts e)
+
+-- A rule that number 15 would refuse adds nothing to an accepted file (02, No. 4): after no list of steps is an instance of its
+-- premise derivable. So to drop it takes no run away.
+pub never-enabled-in-accepted : (file : List ℕ) (counts : Counts) → verdictOf file ≡ Accepted counts
+    → (steps : List (Step (certificateOf file))) (rule : Rule) → (x : HasOpenSecret (certificateOf file) rule)
+    → (by : Variable → Message) → PutsNonces (certificateOf file .atoms) noVariable by
+    → Derives (certificateOf file) (after (certificateOf file) steps) (instance by (x .premise)) → ⊥
+never-enabled-in-accepted file counts e = never-enabled (certificateOf file) (accepted-meets file counts e)
 
 -- Secrecy again, as the loader sees it: for every file that the C call answers with 0.
 pub secrecy-of-zero : (file : List ℕ) → packedOf (verdictOf file) ≡ 0

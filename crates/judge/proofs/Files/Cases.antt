@@ -5,17 +5,13 @@ use mathlib.Core.Logic.{_⊎_, inl, inr}
 use mathlib.Core.List.{List, [], _∷_, _++_, List·Memᴰ, List·Memᴰ·not-nil, List·Memᴰ·cases-cons}
 use Prim.Native.Nat.{ℕ, zero, suc, _+_}
 use Prim.Native.String.{String}
-use Rattle.blocks.specs.Block.{blockAt}
 use Rattle.blocks.specs.Check.{sealed}
 use Rattle.terms.specs.Term.{Term, Variable, variable, atom, pair, encrypted, sort, plain, marked, anyMessage, oneNonce, named}
 use Rattle.terms.specs.Entry.{termEntries, size}
 use Rattle.terms.specs.Instance.{Share}
 use Rattle.terms.specs.Decide.{share?}
 use Rattle.terms.specs.Atom.{atomsOf}
-use Rattle.terms.proofs.AnswerLaws.{yes-of, no-of}
-use Rattle.judge.specs.File.{ruleOf, certificateOf}
-use Rattle.judge.specs.Cover.{Dead}
-use Rattle.judge.specs.Decisions.{dead?}
+use Rattle.terms.proofs.AnswerLaws.{no-of}
 use Rattle.judge.specs.Verdict.{verdictOf, computing}
 use Rattle.judge.specs.Values.{VerdictValues, verdictValues}
 use Rattle.judge.specs.Line.{textOf, digitsOf, fieldOf, newline, threeFields, acceptedLine, refusedLine, lineOf}
@@ -175,15 +171,12 @@ pub data Case : Type 0 where
   judged : List ℕ → VerdictValues → Case
   -- This is its line.
   printed : List ℕ → String → Case
-  -- The rule of this block is dead.
-  isDead : List ℕ → ℕ → Case
   -- The two terms share no instance, over document 01's atoms.
   apart : Term Variable → Term Variable → Case
 
 abbrev pub Holds : Case → Type 0
 Holds (judged file values) = verdictValues (verdictOf file) ≡ values
 Holds (printed file line) = lineOf (verdictOf file) ≡ textOf line
-Holds (isDead file i) = Dead (certificateOf file) (ruleOf (blockAt file i))
 Holds (apart s t) = Share (atomsOf eight) s t → ⊥
 
 accepted : ℕ → ℕ → ℕ → ℕ → ℕ → VerdictValues
@@ -202,7 +195,7 @@ b : List ℕ
 unfolding usual start
 b = usual (start (encrypted 4 N) ∷ [])
 
--- k. N to 3
+-- k. N to 3, as 02, No. 4 changes it
 k : List ℕ
 unfolding usual from
 k = usual (from N K ∷ [])
@@ -232,8 +225,8 @@ table =
     ∷ judged (joined (atoms ∷ secret T ∷ secret N ∷ secret K ∷ good (encrypted 2 s) ∷ start (encrypted 2 N) ∷ [])) (refused 9 1 0)
     -- j. secret (N, T) alone, the rule of a
     ∷ judged (joined (atoms ∷ secret (pair N T) ∷ good (encrypted 2 s) ∷ start (encrypted 2 N) ∷ [])) (refused 10 1 0)
-    ∷ judged k (accepted 5 2 1 0 1)
-    ∷ isDead k 4
+    ∷ judged k (refused 15 4 0)
+    ∷ printed k "refused 15 block=4 place=0\n"
     -- l. (x, x) and (y, (T, y))
     ∷ apart (pair x x) (pair y (pair T y))
     -- two atom blocks, secrets N and 125, good {*s}126, conclusion {N}126: a rule that uses a key of the second
@@ -260,7 +253,7 @@ table =
     -- the same bad, {(I, (x, y))}2 to {x}4: the open place has the mark above it; with bad {(I, (x, *s))}2 the mark is beside it
     ∷ judged (usual (bad (encrypted 2 (pair I s)) ∷ from (encrypted 2 (pair I (pair x y))) (encrypted 4 x) ∷ [])) (accepted 6 2 1 1 1)
     ∷ judged (usual (bad (encrypted 2 (pair I (pair x s))) ∷ from (encrypted 2 (pair I (pair x y))) (encrypted 4 x) ∷ [])) (refused 12 5 7)
-    -- secret (N, T) too, {(I, (N, T))}2 to N: the mark lies below the place of (N, T), which is not open, so the rule is not dead
+    -- secret (N, T) too, {(I, (N, T))}2 to N: the mark lies below the place of (N, T), which is not open, so it is no 15
     ∷ judged
     (joined (atoms ∷ secret N ∷ secret K ∷ secret (pair N T) ∷ good (encrypted 2 s) ∷ bad (encrypted 2 (pair I (pair x s)))
     ∷ from (encrypted 2 (pair I (pair N T))) N ∷ []))
@@ -310,6 +303,28 @@ table =
     -- Lowe's protocol, with goods {(A, (x, *s))}2 and {*r}2; the uncorrected one, with {(x, *s)}2 in place of the first
     ∷ judged (handshake pair (encrypted 2 (pair (atom 0) (pair x s)))) (accepted 17 2 2 0 12)
     ∷ judged (handshake (λ b t. t) (encrypted 2 (pair x s))) (refused 12 7 5)
+    -- N to {N}2: every place of the conclusion is covered, and the premise has a secret all the same
+    ∷ judged (usual (from N (encrypted 2 N) ∷ [])) (refused 15 4 0)
+    -- {N}2 to {N}2: the secret's place is not open; {N}4 to {N}2: it is
+    ∷ judged (usual (from (encrypted 2 N) (encrypted 2 N) ∷ [])) (accepted 5 2 1 0 1)
+    ∷ judged (usual (from (encrypted 4 N) (encrypted 2 N) ∷ [])) (refused 15 4 1)
+    -- (T, (N, 3)) to T: the first such entry; with secret (N, T) too, (N, T) to T: the pair stands before its half
+    ∷ judged (usual (from (pair T (pair N K)) T ∷ [])) (refused 15 4 3)
+    ∷ judged (joined (atoms ∷ secret N ∷ secret K ∷ secret (pair N T) ∷ good (encrypted 2 s) ∷ from (pair N T) T ∷ [])) (refused 15 5 0)
+    -- x to x and n to n: what shares an instance with a secret is none
+    ∷ judged (usual (from x x ∷ [])) (accepted 5 2 1 0 1)
+    ∷ judged (usual (from n n ∷ [])) (accepted 5 2 1 0 1)
+    -- T to N: the secret stands in the conclusion
+    ∷ judged (usual (from T N ∷ [])) (refused 12 4 1)
+    -- conclusion {N}4, then N to 3: 15 of the later rule; secret N alone, N to T: 11 comes first; of 3 to T
+    -- and N to T the earlier rule
+    ∷ judged (usual (start (encrypted 4 N) ∷ from N K ∷ [])) (refused 15 5 0)
+    ∷ judged (joined (atoms ∷ secret N ∷ good (encrypted 2 s) ∷ from N T ∷ [])) (refused 11 2 0)
+    ∷ judged (usual (from T T ∷ from K T ∷ from N T ∷ [])) (refused 15 5 0)
+    -- bad {(I, x)}2, {(I, N)}2 to T: it opens the place; bad {(I, (x, *s))}2, a secret at its mark, and one beside it
+    ∷ judged (usual (bad (encrypted 2 (pair I x)) ∷ from (encrypted 2 (pair I N)) T ∷ [])) (refused 15 5 3)
+    ∷ judged (usual (bad (encrypted 2 (pair I (pair x s))) ∷ from (encrypted 2 (pair I (pair y N))) T ∷ [])) (refused 15 5 5)
+    ∷ judged (usual (bad (encrypted 2 (pair I (pair x s))) ∷ from (encrypted 2 (pair I (pair N y))) T ∷ [])) (accepted 6 2 1 1 1)
     ∷ []
 
 -- ---- the theorem
@@ -330,15 +345,17 @@ each (_also_ {c = d} {l = l} p h) c m = go (List·Memᴰ·cases-cons m) (each h 
 
 -- All rows, computed.
 rows : Hold table
-unfolding table computing lineOf acceptedLine refusedLine threeFields fieldOf newline digitsOf share? atomsOf eight dead?
+unfolding table computing lineOf acceptedLine refusedLine threeFields fieldOf newline digitsOf share? atomsOf eight
 rows =
     refl also refl also refl also refl also refl also refl also refl also refl also refl also refl also refl also refl also refl
-    also yes-of (dead? (certificateOf k) (ruleOf (blockAt k 4))) refl
+    also refl
     also no-of (share? (atomsOf eight) (pair x x) (pair y (pair T y))) refl
     also refl also refl also refl also refl also refl also refl also refl also refl
     also refl also refl also refl also refl also refl also refl also refl also refl also refl also refl
     also refl also refl also refl also refl also refl also refl also refl also refl also refl also refl
     also refl also refl also refl also refl also refl also refl also refl also refl also refl
+    also refl also refl also refl also refl also refl also refl also refl also refl also refl also refl
+    also refl also refl also refl also refl
     also none
 
 -- "The starred ones, gathered in one table under one theorem", with those of the requests: every row of the table holds.

@@ -3,15 +3,17 @@ use mathlib.Core.Path.{_≡_, refl, sym, _∙_}
 use mathlib.Core.List.{List, [], _∷_}
 use mathlib.Core.Option.{some, Option·none-ne-some}
 use Prim.Native.Nat.{ℕ}
-use Rattle.terms.specs.Term.{Term, atom, Message, Variable, instance}
+use Rattle.terms.specs.Term.{Term, atom, Message, Variable, noVariable, instance}
 use Rattle.terms.specs.Place.{left, right, inside, Place, subtermAt}
-use Rattle.judge.specs.Certificate.{Certificate, Secret}
+use Rattle.terms.specs.Instance.{PutsNonces}
+use Rattle.judge.specs.Certificate.{Rule, Certificate, Secret}
 use Rattle.judge.specs.Run.{Derives, Start, known, foreign, Step, Enabled, noPremise, derivable, AfterStep, kept, added, afterFrom, after}
 use Rattle.judge.specs.Hat.{Protected}
+use Rattle.judge.specs.Cover.{HasOpenSecret}
 use Rattle.judge.specs.Conditions.{MeetsAll}
 use Rattle.judge.proofs.Runs.Safe.{Safe, safe-no-secret}
 use Rattle.judge.proofs.Runs.Derive.{safe-derived}
-use Rattle.judge.proofs.Runs.Steps.{safe-conclusion}
+use Rattle.judge.proofs.Runs.Steps.{secret-unsafe, safe-conclusion}
 
 -- An atom that is no secret is safe.
 safe-atom : {certificate : Certificate} (a : ℕ) → (Secret certificate (atom a) → ⊥) → Safe certificate (atom a)
@@ -62,3 +64,11 @@ pub secrecy : (certificate : Certificate) → MeetsAll certificate → (steps : 
     Secret certificate s → Derives certificate (after certificate steps) s → ⊥
 secrecy certificate meets steps s secret derived =
     safe-no-secret (safe-derived meets (safe-after meets steps (safe-start meets)) derived) secret
+
+-- What number 15 refuses can never happen (02, No. 4): after no list of steps is the premise of a rule with a listed secret
+-- at an open place derivable, whatever the replacement. The rule need not be listed: it is the one that was dropped.
+pub never-enabled : (certificate : Certificate) → MeetsAll certificate → (steps : List (Step certificate)) (rule : Rule) →
+    (x : HasOpenSecret certificate rule) → (by : Variable → Message) → PutsNonces (certificate .atoms) noVariable by →
+    Derives certificate (after certificate steps) (instance by (x .premise)) → ⊥
+never-enabled certificate meets steps rule x by nonces derived =
+    secret-unsafe meets by nonces (x .openSecret) (safe-derived meets (safe-after meets steps (safe-start meets)) derived)

@@ -13,8 +13,8 @@ use Rattle.terms.proofs.PlaceLaws.{subtermAt-replace, beginnings, strictly-abov
 use Rattle.terms.proofs.PlaceLaws.{Edge, exact, below, Origin, origin}
 use Rattle.judge.specs.Certificate.{Rule, Certificate, Secret}
 use Rattle.judge.specs.Hat.{Cancels, everywhere, atMark, Hat, Protected}
-use Rattle.judge.specs.Cover.{MayCancel, cancels, belowPlace, SureHat, NoHat, sharesNoGood, isBad, Open, AtOpenPlace, Risky, isVariable}
-use Rattle.judge.specs.Cover.{sharesSecret, Covered, sureHat, inPremise, Passes, dead, covered}
+use Rattle.judge.specs.Cover.{MayCancel, cancels, belowPlace, SureHat, NoHat, sharesNoGood, isBad, Open, Risky, isVariable}
+use Rattle.judge.specs.Cover.{SecretOpenAt, sharesSecret, Covered, sureHat, inPremise, Passes}
 use Rattle.judge.specs.Conditions.{MeetsAll}
 use Rattle.judge.proofs.Runs.Safe.{Safe, HatAbove, safe-no-secret, protected-under, safe-part}
 use Rattle.judge.proofs.Runs.Derive.{HatRoot, hat-root}
@@ -72,10 +72,14 @@ module _ {certificate : Certificate} (meets : MeetsAll certificate) (by : Variab
           no-hat (x .rest) (isOpen .every (x .place) (x .above) k u (way .stands ∙ ap some e)) (rw (same, e) at (x .hat))
 
   -- What stands at an open place of a safe premise is safe itself.
-  open-safe : {rule : Rule} {t : Term Variable} (x : AtOpenPlace certificate rule t) →
-      Safe certificate (instance by (x .premise)) → Safe certificate (instance by t)
-  open-safe x = safe-part (x .place) (subtermAt-replace by (x .place) (x .premise) (x .stands))
-      (open-no-hat (x .isOpen) (x .stands))
+  open-safe : {premise t : Term Variable} {p : Place} → Open certificate premise p → subtermAt p premise ≡ some t →
+      Safe certificate (instance by premise) → Safe certificate (instance by t)
+  open-safe {premise} {p = p} isOpen stands = safe-part p (subtermAt-replace by p premise stands) (open-no-hat isOpen stands)
+
+  -- So a premise with a listed secret at an open place is not safe.
+  pub secret-unsafe : {premise : Term Variable} {p : Place} → SecretOpenAt certificate premise p → Safe certificate (instance by premise) → ⊥
+  secret-unsafe x safe =
+      safe-no-secret (rw (replace-asTerm by (x .secret)) at (open-safe (x .isOpen) (x .stands) safe)) (x .listed)
 
   -- The instance of a sure hat is a hat, and protects what lies at or below the place.
   sure-protected : {t : Term Variable} {p : Place} (r : Place) → SureHat certificate t p →
@@ -119,14 +123,11 @@ module _ {certificate : Certificate} (meets : MeetsAll certificate) (by : Variab
   pub safe-conclusion : (rule : Rule) → Passes certificate rule →
       ((premise : Term Variable) → rule .premise ≡ some premise → Safe certificate (instance by premise)) →
       Safe certificate (instance by (rule .conclusion))
-  safe-conclusion rule (dead x) safe =
-      let secret-safe = open-safe (x .stands) (safe (x .stands .premise) (x .stands .given)) in
-      absurd (safe-no-secret (rw (replace-asTerm by (x .secret)) at secret-safe) (x .listed))
-  safe-conclusion rule (covered every) safe = record { safe = go }
+  safe-conclusion rule passes safe = record { safe = go }
     where
       go : (p : Place) (s : Message) → Secret certificate s → subtermAt p (instance by (rule .conclusion)) ≡ some s →
           Protected certificate (instance by (rule .conclusion)) p
-      go p s secret e = rw (o .split) (shelter (every (o .place) (o .subterm) (o .stands) (origin-risky secret o)))
+      go p s secret e = rw (o .split) (shelter (passes .covered (o .place) (o .subterm) (o .stands) (origin-risky secret o)))
         where
           o : Origin by (rule .conclusion) p s
           o = origin by (rule .conclusion) p e
@@ -136,4 +137,4 @@ module _ {certificate : Certificate} (meets : MeetsAll certificate) (by : Variab
           shelter (sureHat x) = sure-protected (o .rest) x
           shelter (inPremise x) =
               protected-under (o .place) (subtermAt-replace by (o .place) (rule .conclusion) (o .stands))
-              (open-safe x (safe (x .premise) (x .given)) .safe (o .rest) s secret (o .found))
+              (open-safe (x .isOpen) (x .stands) (safe (x .premise) (x .given)) .safe (o .rest) s secret (o .found))

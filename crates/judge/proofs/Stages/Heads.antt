@@ -1,8 +1,8 @@
 -- The blocks before the rules are a file of their own, which lists the same secrets and patterns and so judges every rule
 -- as the whole file does. Assumes nothing.
-use mathlib.Core.Path.{_≡_, sym, ap, ap₂, subst, _∙_}
-use mathlib.Core.Bool.{Bool, true, false}
+use mathlib.Core.Path.{_≡_, refl, sym, ap, ap₂, subst, _∙_}
 use mathlib.Core.List.{List, map, List·Memᴰ, Memᴰ·cast, Memᴰ·map, Memᴰ·of-map}
+use mathlib.Core.Option.{Option, none, some}
 use Prim.Native.Nat.{ℕ, _-_, _*_, _<_, _≤_}
 use native.Mathlib.Omega.{arith}
 use native.Mathlib.Decide.{ℕ-discrete, decLt}
@@ -19,16 +19,14 @@ use Rattle.terms.specs.Place.{Place}
 use Rattle.terms.specs.Atom.{joinedAtoms}
 use Rattle.terms.specs.Instance.{Matches, Share}
 use Rattle.terms.specs.Entry.{size}
-use Rattle.terms.specs.Decide.{answer}
-use Rattle.terms.proofs.AnswerLaws.{answer-same}
 use Rattle.terms.specs.First.{firstNot}
 use Rattle.terms.proofs.FirstLaws.{first-is, first-only, first-along}
 use Rattle.judge.specs.Certificate.{Certificate, Rule, Secret, Good, Bad}
 use Rattle.judge.specs.File.{blockCount, TwoAtomBlocks, moreEntries, fileAtoms, blocksOf, ofKind, patternOf, secretOf, certificateOf}
 use Rattle.judge.specs.Laid.{Laid}
-use Rattle.judge.specs.Cover.{SureHat, NoHat, sharesNoGood, isBad, AtOpenPlace, Risky, isVariable, sharesSecret, Covered, sureHat, inPremise, Dead}
-use Rattle.judge.specs.Decisions.{dead?}
-use Rattle.judge.specs.Verdict.{FineSpot, fine?, uncovered}
+use Rattle.judge.specs.Cover.{SureHat, NoHat, sharesNoGood, isBad, Open, AtOpenPlace, SecretOpenAt, Risky, isVariable, sharesSecret}
+use Rattle.judge.specs.Cover.{Covered, sureHat, inPremise}
+use Rattle.judge.specs.Verdict.{no-secret?, openSecret, FineSpot, fine?, uncovered}
 use Rattle.judge.specs.Judgement.{OnlyRulesFrom, Heads}
 use Rattle.judge.proofs.Files.AtomBlocks.{one-block, two-blocks, two-inside}
 use Rattle.judge.proofs.Files.Members.{block-listed, listed-block}
@@ -53,20 +51,18 @@ module _ {c d : Certificate} (out : Sublists c d) (back : Sublists d c) where
   match h = rw (out .atoms) h
 
   no-hat : {t : Term Variable} {q p : Place} → NoHat c t q p → NoHat d t q p
-  no-hat (sharesNoGood none) = sharesNoGood (λ g l s. none g (back .good g l) (share-back s))
+  no-hat (sharesNoGood off) = sharesNoGood (λ g l s. off g (back .good g l) (share-back s))
   no-hat (isBad {bad} l m over) = isBad (out .bad bad l) (match m) over
 
-  at-open : {rule : Rule} {t : Term Variable} → AtOpenPlace c rule t → AtOpenPlace d rule t
-  at-open o = record {
-    premise = o .premise;
-    given = o .given;
-    place = o .place;
-    stands = o .stands;
-    isOpen = record { every = λ q a k t s. no-hat (o .isOpen .every q a k t s) };
-  }
+  stays-open : {premise : Term Variable} {p : Place} → Open c premise p → Open d premise p
+  stays-open o = record { every = λ q a k t s. no-hat (o .every q a k t s) }
 
-  dead : {rule : Rule} → Dead c rule → Dead d rule
-  dead r = record { secret = r .secret; listed = out .secret (r .secret) (r .listed); stands = at-open (r .stands) }
+  at-open : {rule : Rule} {t : Term Variable} → AtOpenPlace c rule t → AtOpenPlace d rule t
+  at-open o = record { premise = o .premise; given = o .given; place = o .place; stands = o .stands; isOpen = stays-open (o .isOpen) }
+
+  secret-open : {premise : Term Variable} {p : Place} → SecretOpenAt c premise p → SecretOpenAt d premise p
+  secret-open o =
+      record { secret = o .secret; listed = out .secret (o .secret) (o .listed); stands = o .stands; isOpen = stays-open (o .isOpen) }
 
   risky : {t : Term Variable} → Risky c t → Risky d t
   risky (isVariable e) = isVariable e
@@ -92,14 +88,23 @@ module _ {c d : Certificate} (out : Sublists c d) (back : Sublists d c) where
 fine : {c d : Certificate} → Sublists c d → Sublists d c → (rule : Rule) (k : ℕ) → FineSpot c rule k → FineSpot d rule k
 fine out back rule k f r = covered out back (f (risky back out r))
 
-same-rule : {c d : Certificate} → Sublists c d → Sublists d c → (rule : Rule) → uncovered c rule ≡ uncovered d rule
+same-places : {c d : Certificate} → Sublists c d → Sublists d c → (rule : Rule) → uncovered c rule ≡ uncovered d rule
 unfolding uncovered
-same-rule {c} {d} out back rule =
-    let one : answer (dead? c rule) ≡ answer (dead? d rule) = answer-same (dead? c rule) (dead? d rule) (dead out back) (dead back out) in
-    let two : firstNot (fine? c rule) (size (rule .conclusion)) ≡ firstNot (fine? d rule) (size (rule .conclusion)) =
-    first-only (fine? d rule) (first-along (λ k h. (fine out back rule k, fine back out rule k)) (first-is (fine? c rule) (size (rule .conclusion)))) in
-    ap (λ (b : Bool). elim b [ true ↦ Nothing | false ↦ firstNot (fine? c rule) (size (rule .conclusion)) ]) one
-    ∙ ap (λ (f : Found). elim (answer (dead? d rule)) [ true ↦ Nothing | false ↦ f ]) two
+same-places {c} {d} out back rule =
+    first-only (fine? d rule) (first-along (λ k h. (fine out back rule k, fine back out rule k)) (first-is (fine? c rule) (size (rule .conclusion))))
+
+same-secrets : {c d : Certificate} → Sublists c d → Sublists d c → (rule : Rule) → openSecret c rule ≡ openSecret d rule
+unfolding openSecret
+same-secrets {c} {d} out back rule = go (rule .premise)
+  where
+    first-of : Certificate → Option (Term Variable) → Found
+    first-of certificate premise = elim premise [ none ↦ Nothing | some t ↦ firstNot (no-secret? certificate t) (size t) ]
+
+    go : (premise : Option (Term Variable)) → first-of c premise ≡ first-of d premise
+    go none = refl
+    go (some t) =
+        first-only (no-secret? d t)
+        (first-along (λ k h. (λ off o. off (secret-open back out o), λ off o. off (secret-open out back o))) (first-is (no-secret? c t) (size t)))
 
 -- ---- the head of a file
 
@@ -218,4 +223,4 @@ module _ {file : List ℕ} {n : ℕ} (laid : Laid file) (only : OnlyRulesFrom fi
       within h = omega (arith, only .inside)
 
   pub heads : Heads head file
-  heads = record { laid = head-laid; same = same-rule from-head to-head }
+  heads = record { laid = head-laid; openSecrets = same-secrets from-head to-head; places = same-places from-head to-head }

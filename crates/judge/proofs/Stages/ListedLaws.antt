@@ -7,8 +7,8 @@ use Rattle.terms.specs.Term.{Term, Message, Variable, variable, atom, replace, 
 use Rattle.terms.specs.declared.atom.Atom.{Atom}
 use Rattle.terms.specs.Instance.{Share}
 use Rattle.terms.proofs.InstanceLaws.{replace-asTerm}
-use Rattle.judge.specs.Certificate.{Certificate, Rule, Secret}
-use Rattle.judge.specs.Cover.{Risky, isVariable, sharesSecret, Dead, AtOpenPlace}
+use Rattle.judge.specs.Certificate.{Certificate, Secret}
+use Rattle.judge.specs.Cover.{Risky, isVariable, sharesSecret}
 use Rattle.judge.specs.Listed.{listedOf, SharesListed, IsSecret}
 
 -- Sharing is symmetric.
@@ -20,24 +20,18 @@ pub asTerm-only : {m n : Message} → asTerm {X = Variable} m ≡ asTerm n → m
 asTerm-only {m} {n} e = sym (replace-asTerm (λ x. atom 0) m) ∙ ap (replace (λ x. atom 0)) e ∙ replace-asTerm (λ x. atom 0) n
 
 module _ (c : Certificate) where
-  -- The term of a message is a listed secret if the message is.
-  pub secret-is : (m : Message) → IsSecret c (asTerm m) ↔ Secret c m
+  -- A term is a listed secret if it is that of a listed message.
+  pub secret-term : (t : Term Variable) → IsSecret c t ↔ ((m : Message) × Secret c m × (t ≡ asTerm m))
   unfolding listedOf
-  secret-is m = (
-    λ h. to (Memᴰ·of-map asTerm (c .secrets) (h .listed)) (h .holds),
-    λ s. record { term = asTerm m; listed = Memᴰ·map asTerm s; holds = refl },
+  secret-term t = (
+    λ h. (let o = Memᴰ·of-map asTerm (c .secrets) (h .listed) in (o .0, o .1, sym (o .2 ∙ h .holds))),
+    λ w. record { term = asTerm (w .0); listed = Memᴰ·map asTerm (w .1); holds = sym (w .2) },
   )
-    where
-      to : {p : Term Variable} → (n : Message) × Secret c n × (asTerm n ≡ p) → p ≡ asTerm m → Secret c m
-      to w e = Memᴰ·cast (sym (asTerm-only (w .2 ∙ e))) (w .1)
 
-  -- A rule is dead if a listed secret stands at an open place of its premise.
-  pub dead-is : (rule : Rule) → Dead c rule ↔ ((t : Term Variable) × IsSecret c t × AtOpenPlace c rule t)
-  unfolding listedOf
-  dead-is rule = (
-    λ h. (asTerm (h .secret), secret-is (h .secret) .1 (h .listed), h .stands),
-    λ w. (let o = Memᴰ·of-map asTerm (c .secrets) (w .1 .listed) in
-        record { secret = o .0; listed = o .1; stands = rw (o .2 ∙ w .1 .holds) (w .2) }),
+  pub secret-is : (m : Message) → IsSecret c (asTerm m) ↔ Secret c m
+  secret-is m = (
+    λ h. (let w = secret-term (asTerm m) .0 h in Memᴰ·cast (asTerm-only (w .2)) (w .1)),
+    λ s. secret-term (asTerm m) .1 (m, s, refl),
   )
 
   module _ (t : Term Variable) where

@@ -24,13 +24,14 @@ impl Found {
 /// A climb begins anew after so many changes in a row that did not help.
 const PATIENCE: usize = 25;
 
-/// How good this sketch is; nothing if it is refused before number 12.
+/// How good this sketch is; nothing if it is refused before its rules are
+/// judged.
 fn score(sketch: &Sketch, scale: &Scale, by: By) -> f64 {
     let file = sketch.bytes();
     let answer = fast::check(&file);
     assert_eq!(answer, proved::check(&file), "fast and proved, {sketch:?}");
     match answer >> 16 {
-        0 | 12 => scale.score(by, &file),
+        0 | 12 | 15 => scale.score(by, &file),
         _ => 0.0,
     }
 }

@@ -14,7 +14,7 @@ pub fn is_marked(pattern: &Term) -> bool {
     variables_of(pattern).iter().any(Term::is_mark)
 }
 
-fn subterm(term: &Term, entry: usize) -> Term {
+pub fn subterm(term: &Term, entry: usize) -> Term {
     places(term)[entry].subterm.clone()
 }
 
@@ -151,7 +151,7 @@ impl Maker<'_> {
         (entry, self.wanted(all[entry].subterm))
     }
 
-    fn nested_secrets(&self) -> Vec<Term> {
+    pub(super) fn nested_secrets(&self) -> Vec<Term> {
         let mut secrets = self.sketch.secrets.clone();
         secrets.retain(|secret| secret.size() > 1);
         secrets
@@ -282,7 +282,7 @@ impl Maker<'_> {
     }
 
     /// The same with this term at one entry of the pattern.
-    fn filled_around(&mut self, pattern: &Term, entry: usize, term: &Term) -> Term {
+    pub(super) fn filled_around(&mut self, pattern: &Term, entry: usize, term: &Term) -> Term {
         let open = self.filled(&replace_at(pattern, entry, &PUT_LAST));
         replace(&open, &[(PUT_LAST, term.clone())])
     }

@@ -3,7 +3,7 @@
 use super::{is, Slip};
 use crate::atom::{is_nonce, Atom};
 use crate::block::Entry;
-use crate::hats::shares_with_some;
+use crate::hats::{shares_with_some, stands_at};
 use crate::numbers::{atom_kind, kind, tag, VARIABLES};
 use crate::read::Certificate;
 use crate::share::Symbol;
@@ -133,13 +133,13 @@ pub fn is_risky_otherwise(certificate: &Certificate, place: &Place) -> Option<bo
 }
 
 /// Shown by a variable of the same number, nonce variable or not.
-pub fn is_shown_otherwise(open: &[&Term], subterm: &Term) -> bool {
+pub fn is_shown_otherwise(open: &[Place], subterm: &Term) -> bool {
     let other = match subterm {
         Term::Plain(number) => Term::PlainNonce(*number),
         Term::PlainNonce(number) => Term::Plain(*number),
         _ => return false,
     };
-    is(Slip::ShownByItsNumber) && open.contains(&&other)
+    is(Slip::ShownByItsNumber) && stands_at(open, &other)
 }
 
 /// Wrong places and values for the tags of nonce variables.

@@ -5,8 +5,8 @@ use generate::random::Random;
 use std::process::ExitCode;
 use verdicts::known::Known;
 use verdicts::lent::Lent;
-use verdicts::{cases, failed, known, marked_bad, more_atoms, nonce_variables, proved};
-use verdicts::{Checker, Difference};
+use verdicts::{cases, marked_bad, more_atoms, nonce_variables, open_secrets};
+use verdicts::{failed, known, proved, Checker, Difference};
 
 fn main() -> ExitCode {
     command::run(|_| Ok(run()? == 0))
@@ -19,6 +19,7 @@ fn run() -> Result<usize, String> {
         ("document 02, No. 1", more_atoms::all()?),
         ("document 02, No. 2", marked_bad::all()?),
         ("document 02, No. 3", nonce_variables::all()?),
+        ("document 02, No. 4", open_secrets::all()?),
         ("corpus", known::corpus()?),
         ("examples", known::texts("../../examples")?),
         ("loader", known::texts("../../loader/certificates")?),

@@ -49,8 +49,8 @@ fn compared(seeds: Seeds) -> Tally {
 
 #[derive(Default)]
 struct Tally {
-    /// Accepted, then refused with 1 to 12.
-    numbers: [u64; 13],
+    /// Accepted, then refused with 1 to 15; 13 and 14 are no verdicts.
+    numbers: [u64; 16],
     wrong: u64,
 }
 
@@ -88,8 +88,8 @@ impl Tally {
 
     fn show(&self) {
         println!("accepted: {}", self.numbers[0]);
-        for (number, count) in self.numbers.iter().enumerate().skip(1) {
-            println!("refused {number}: {count}");
+        for number in (1..=12).chain([15]) {
+            println!("refused {number}: {}", self.numbers[number]);
         }
     }
 }

@@ -9,7 +9,7 @@ use Rattle.judge.specs.File.{certificateOf}
 use Rattle.judge.specs.CoverEntries.{subAt}
 use Rattle.judge.proofs.Covering.Flags.{RaisedBelow, raised-start, raised-more}
 use Rattle.judge.proofs.Covering.Hats.{searching-at}
-use Rattle.judge.proofs.Covering.Covers.{standing-concluded, risky-flags}
+use Rattle.judge.proofs.Covering.Covers.{standing-concluded, concluded-entries, entries-flags}
 use Rattle.judge.proofs.cover.risky_places.Statement.{statement}
 use Rattle.judge.proofs.cover.risky_places.Tie as tie
 
@@ -33,5 +33,5 @@ risky-places-spec = tie.close (tie.spec Inv-loop μ-loop
     (λ c. let whole = c .before .before .before .before .before .before .before .pre .0 .whole in search needs)  -- loop-less
     (λ c. let whole = c .before .before .before .before .before .before .before .pre .0 .whole in let short = c .before .before .before .before .before .before .before .pre .0 .short in
     (search needs, raised-more (c .before .before .before .before .loop .inv .1) (search needs) (c .before .is-risky .result) (c .flag-of .ensures) (c .before .is-risky .ensures)))  -- loop-again
-    (λ c. let whole = c .before .before .before .before .pre .0 .whole in risky-flags (c .before .loop .inv .1) (search needs) whole)  -- returns
+    (λ c. let whole = c .before .before .before .before .pre .0 .whole in entries-flags (concluded-entries (c .before .before .before .before .pre .0)) (c .before .loop .inv .1) (search needs))  -- returns
     )

@@ -5,7 +5,7 @@ use lib.ListN.{length}
 use Rattle.judge.specs.File.{certificateOf}
 use Rattle.judge.specs.CoverEntries.{Wanted}
 use Rattle.judge.proofs.Covering.Flags.{RaisedBelow, raised-start, raised-more}
-use Rattle.judge.proofs.Covering.Covers.{wanted-flags}
+use Rattle.judge.proofs.Covering.Covers.{entries-flags}
 use Rattle.judge.proofs.cover.wanted_places.Statement.{statement}
 use Rattle.judge.proofs.cover.wanted_places.Tie as tie
 
@@ -27,5 +27,5 @@ wanted-places-spec = tie.close (tie.spec Inv-loop μ-loop
     (λ c. search needs)  -- loop-less
     (λ c. let short = c .before .before .before .before .before .before .before .before .before .pre .1 .short in
     (search needs, raised-more (c .before .before .before .before .loop .inv .1) (search needs) (c .before .is-wanted .result) (c .flag-of .ensures) (c .before .is-wanted .ensures)))  -- loop-again
-    (λ c. wanted-flags (c .before .before .before .before .before .before .pre .1) (c .before .loop .inv .1) (search needs))  -- returns
+    (λ c. entries-flags (c .before .before .before .before .before .before .pre .1) (c .before .loop .inv .1) (search needs))  -- returns
     )

@@ -1,6 +1,8 @@
 //! Encryptions in encryptions, all under one key, that differ at the very end.
 
+use super::hats::bottom;
 use crate::search::shapes::*;
+use generate::certificate::replace;
 use generate::pairs::term_pair;
 use generate::random::Random;
 use generate::sketch::Sketch;
@@ -25,13 +27,16 @@ pub fn irrelevant(random: &mut Random) -> Sketch {
     })
 }
 
-/// A secret at the bottom of the premise: the rule is dead if all is open.
+/// A secret at the bottom of the premise, which the innermost encryption alone
+/// closes.
 pub fn to_a_secret(random: &mut Random) -> Sketch {
-    let length = random.between(50, 60);
-    let sketch = with_goods(random, length + 1);
+    let length = random.between(50, 59);
+    let mut sketch = with_goods(random, length + 1);
+    sketch.secrets.push(Term::Atom(OTHER_KEY));
+    sketch.goods.push(bottom());
     fill(sketch, |i| {
-        let inside = Term::pair(leaf(i), nonce());
-        (Some(chain(length, KEY, inside)), plain(i))
+        let inside = Term::pair(leaf(i), under(OTHER_KEY, nonce()));
+        (Some(chain(length, KEY, inside)), leaf(i))
     })
 }
 
@@ -63,9 +68,10 @@ pub fn of_pairs(random: &mut Random) -> Sketch {
         let items: Vec<Term> = (0..levels).map(item).collect();
         sketch.goods.push(links(items.into_iter(), KEY, leaf(i)));
     }
-    fill(sketch, |_| {
+    fill(sketch, |i| {
         let items = (0..levels).map(|_| leaf(0));
-        (Some(links(items, KEY, nonce())), nonce())
+        let inside = Term::pair(plain(i), leaf(0));
+        (Some(links(items, KEY, inside)), plain(i))
     })
 }
 
@@ -85,10 +91,11 @@ pub fn compared(random: &mut Random) -> Sketch {
 }
 
 /// Chains of variables, each the pair of the next one with itself, that have
-/// no shared instance; a secret beside them.
+/// no shared instance; what is sent on stands beside them.
 pub fn doubling(random: &mut Random) -> Sketch {
     let mut sketch = base();
-    let term = long_pair(random).1;
+    let no_secrets = [(nonce(), leaf(0)), (Term::Atom(KEY), leaf(1))];
+    let term = replace(&long_pair(random).1, &no_secrets);
     let mut tried = 0;
     while sketch.goods.len() < 30 && tried < 3_000 {
         let (pattern, _) = long_pair(random);
@@ -99,8 +106,8 @@ pub fn doubling(random: &mut Random) -> Sketch {
         tried += 1;
     }
     fill(sketch, |i| {
-        let with_secret = Term::pair(moved(&term, i), nonce());
-        (Some(under(KEY, with_secret)), plain(i))
+        let with_variable = Term::pair(moved(&term, i), plain(i));
+        (Some(under(KEY, with_variable)), plain(i))
     })
 }
 

@@ -9,7 +9,7 @@ use literal::Term;
 const LEVELS: usize = 19;
 
 /// Variables by the digits of a number, so that no two patterns begin alike.
-fn digits(i: usize, levels: usize) -> Vec<Term> {
+pub fn digits(i: usize, levels: usize) -> Vec<Term> {
     (0..levels)
         .map(|at| either((i >> (at % 6)) ^ (3 * at)))
         .collect()
@@ -73,9 +73,9 @@ pub fn late_clash(random: &mut Random) -> Sketch {
     })
 }
 
-/// A secret, where no pattern reaches.
-fn bottom(i: usize) -> Term {
-    under(OTHER_KEY, Term::pair(plain(i), nonce()))
+/// A variable, where no pattern reaches.
+pub fn bottom(i: usize) -> Term {
+    under(OTHER_KEY, Term::pair(plain(i), leaf(50)))
 }
 
 /// A variable at two levels, beside long terms that differ at the end.

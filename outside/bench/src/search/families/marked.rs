@@ -21,7 +21,7 @@ fn down_to_a_mark(i: usize, levels: usize) -> Term {
 }
 
 /// At the first or at the last place: symbols or blocks may decide the order.
-fn some_end(random: &mut Random) -> usize {
+pub fn some_end(random: &mut Random) -> usize {
     match random.chance(50) {
         true => 0,
         false => usize::MAX,

@@ -7,6 +7,7 @@ mod joined;
 mod links;
 mod marked;
 mod nonces;
+mod open_secrets;
 mod secrets;
 mod wide;
 
@@ -34,6 +35,7 @@ pub fn written() -> Vec<Family> {
     let mut all = without_marks_in_bads();
     all.extend(with_marks_in_bads());
     all.extend(with_nonce_variables());
+    all.extend(with_secrets_in_premises());
     all.push(family("generated", generated));
     all
 }
@@ -54,6 +56,14 @@ fn with_nonce_variables() -> [Family; 4] {
         family("nonces-late-clash", nonces::late_clash),
         family("nonces-classes", nonces::classes),
         family("nonces-hats", nonces::hats),
+    ]
+}
+
+fn with_secrets_in_premises() -> [Family; 3] {
+    [
+        family("open-secrets-closed", open_secrets::closed),
+        family("open-secrets-behind", open_secrets::behind),
+        family("open-secrets-last", open_secrets::last),
     ]
 }
 

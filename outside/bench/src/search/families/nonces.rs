@@ -2,7 +2,7 @@
 //! variable, at the end or through others, rules out what it meets.
 
 use super::hats::{bottom, conclusion, own_item, two_keys};
-use super::links::first_again;
+use super::links::{self, first_again};
 use crate::search::shapes::*;
 use generate::random::Random;
 use generate::sketch::Sketch;
@@ -67,8 +67,7 @@ pub fn classes(random: &mut Random) -> Sketch {
     }
     fill(sketch, |i| {
         let items = (0..LEVELS).map(|at| plain(i + at * step / 2));
-        let inside = under(OTHER_KEY, Term::pair(plain(i), nonce()));
-        (Some(links(items, KEY, inside)), plain(i))
+        (Some(links(items, KEY, links::bottom(i))), plain(i))
     })
 }
 

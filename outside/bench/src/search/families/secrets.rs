@@ -21,7 +21,8 @@ pub fn everywhere(random: &mut Random) -> Sketch {
     })
 }
 
-/// Secrets with equal long beginnings, and conclusions with the same ones.
+/// Secrets with equal long beginnings, and rules with the same ones that end in
+/// leaves of their own.
 pub fn prefixes(random: &mut Random) -> Sketch {
     let length = random.between(20, 62);
     let mut sketch = base();
@@ -30,11 +31,8 @@ pub fn prefixes(random: &mut Random) -> Sketch {
     }
     let with_premise = random.chance(50);
     fill(sketch, |i| {
-        let conclusion = chain(62, KEY, leaf(i + 40));
-        (
-            with_premise.then(|| chain(62, KEY, leaf(i + 41))),
-            conclusion,
-        )
+        let of = |i: usize| chain(62, KEY, leaf(40 + i % 20));
+        (with_premise.then(|| of(i + 1)), of(i))
     })
 }
 
