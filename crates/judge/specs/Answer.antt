@@ -1,6 +1,5 @@
--- What is made of a verdict: its number, block and place, the packed answer, the refused part and the tally (document
--- 01, "Verdicts").
-use mathlib.Core.Bool.{cond}
+-- What is made of a verdict: its number, block and place, the packed answer and the refused part (document 01, "Verdicts").
+use mathlib.Core.Bool.{Bool, cond, _||_}
 use mathlib.Core.List.{List, []}
 use Prim.Native.Nat.{ℕ, _+_, _*_}
 use lib.Dec.{eqb}
@@ -11,7 +10,6 @@ use Rattle.judge.specs.declared.verdict.Fault.the-variants.{TermEntry, N
 use Rattle.judge.specs.declared.verdict.Verdict.{Verdict}
 use Rattle.judge.specs.declared.verdict.Verdict.the-variants.{Accepted, Refused}
 use Rattle.judge.specs.declared.answer.Row.{Row}
-use Rattle.judge.specs.declared.answer.Tally.{Tally}
 use Rattle.blocks.specs.Block.{hasBlock, blockAt}
 
 -- ---- the table of verdicts
@@ -53,11 +51,15 @@ packedOf (Refused f) = numberOf f * 65536 + blockOf f * 256 + placeOf f
 unfoldable pub blockOrNone : List ℕ → ℕ → List ℕ
 blockOrNone file i = cond (hasBlock file i) (blockAt file i) []
 
+-- The numbers that leave an empty part, whatever block they name: number 1, and by the table number 4.
+unfoldable pub partless : ℕ → Bool
+partless n = eqb n 1 || eqb n 4
+
 -- "The caller gets back the refused block as a part of its own file; on acceptance, for number 1, or for a block number
--- the file lacks, an empty part." The table leaves an empty part for number 4 too, whatever block it names.
+-- the file lacks, an empty part."
 unfoldable pub partOf : List ℕ → Verdict → List ℕ
 partOf file (Accepted c) = []
-partOf file (Refused f) = cond (eqb (numberOf f) 1) [] (cond (eqb (numberOf f) 4) [] (blockOrNone file (blockOf f)))
+partOf file (Refused f) = cond (partless (numberOf f)) [] (blockOrNone file (blockOf f))
 
 -- Where it stands in the file: at the start of its block; an empty part at the start of the file.
 unfoldable pub blockStart : List ℕ → ℕ → ℕ
@@ -65,19 +67,4 @@ blockStart file i = cond (hasBlock file i) (blockSize * i) 0
 
 unfoldable pub partStart : List ℕ → Verdict → ℕ
 partStart file (Accepted c) = 0
-partStart file (Refused f) = cond (eqb (numberOf f) 1) 0 (cond (eqb (numberOf f) 4) 0 (blockStart file (blockOf f)))
-
--- ---- the tally
-
--- The largest number of 32 bits.
-abbrev pub full : ℕ
-full = 4_294_967_295
-
--- "Raised by 1; a full count stays."
-abbrev pub raisedOf : ℕ → ℕ
-raisedOf n = cond (eqb n full) n (n + 1)
-
--- "Each check takes a tally (accepted, refused, 32 bits each) by value and returns it with one of the two raised by 1."
-abbrev pub talliedOf : Tally → Verdict → Tally
-talliedOf t (Accepted c) = record { accepted = raisedOf (t .accepted); refused = t .refused }
-talliedOf t (Refused f) = record { accepted = t .accepted; refused = raisedOf (t .refused) }
+partStart file (Refused f) = cond (partless (numberOf f)) 0 (blockStart file (blockOf f))

@@ -1,10 +1,10 @@
-// What is made of a verdict: its number, block and place, the packed answer, the refused part and the tally.
+// What is made of a verdict: its number, block and place, the packed answer and the refused part.
 ghost use mathlib.Core.Path.{_≡_};
 ghost use Prim.Native.Nat.{_≤_};
 ghost use denote.Ref.{ptr};
 ghost use Rattle.blocks.specs.Block.{behind};
-ghost use Rattle.judge.specs.Answer.{rowOf, numberOf, blockOf, placeOf, packedOf, raisedOf, talliedOf};
-ghost use Rattle.judge.specs.Answer.{blockOrNone, blockStart, partOf, partStart};
+ghost use Rattle.judge.specs.Answer.{rowOf, numberOf, blockOf, placeOf, packedOf};
+ghost use Rattle.judge.specs.Answer.{partless, blockOrNone, blockStart, partOf, partStart};
 use crate::verdict::Fault;
 use crate::verdict::Verdict;
 
@@ -13,12 +13,6 @@ pub struct Row {
     pub number: u32,
     pub block: u8,
     pub place: u8,
-}
-
-// How many files were accepted and how many refused.
-pub struct Tally {
-    pub accepted: u32,
-    pub refused: u32,
 }
 
 // A row from its three columns.
@@ -84,6 +78,16 @@ pub fn packed(v: Verdict) -> u32
     }
 }
 
+// Is the part for this number empty, whatever block is named?
+fn is_partless(n: u32) -> bool
+    ensures { λ r. ⌜ r ≡ partless n ⌝ }
+{
+    match n {
+        1 | 4 => true,
+        _ => false,
+    }
+}
+
 // Block i of the file, empty if the file lacks it.
 fn block_or_none<'a>(file: &'a [u8], i: usize) -> &'a [u8]
     ensures part { λ r. ⌜ now r ≡ blockOrNone (now (file .entry)) i ⌝ }
@@ -103,40 +107,10 @@ pub fn refused_part<'a>(file: &'a [u8], v: Verdict) -> &'a [u8]
     match v {
         Verdict::Accepted(_) => &file[0..0],
         Verdict::Refused(f) => {
-            let n = number(f);
-            if n == 1 {
-                return &file[0..0];
-            }
-            if n == 4 {
+            if is_partless(number(f)) {
                 return &file[0..0];
             }
             block_or_none(file, block_of(f) as usize)
         }
-    }
-}
-
-// One more; a full count stays.
-fn raised(n: u32) -> u32
-    ensures { λ r. ⌜ r ≡ raisedOf n ⌝ }
-{
-    if n == 4_294_967_295 {
-        return n;
-    }
-    n + 1
-}
-
-// The tally with the verdict counted.
-pub fn tallied(t: Tally, v: Verdict) -> Tally
-    ensures { λ r. ⌜ r ≡ talliedOf t v ⌝ }
-{
-    match v {
-        Verdict::Accepted(_) => Tally {
-            accepted: raised(t.accepted),
-            refused: t.refused,
-        },
-        Verdict::Refused(_) => Tally {
-            accepted: t.accepted,
-            refused: raised(t.refused),
-        },
     }
 }

@@ -10,7 +10,7 @@ use Rattle.judge.specs.declared.verdict.Fault.the-variants.{Length, Missing, Un
 use Rattle.judge.specs.declared.verdict.Counts.{Counts}
 use Rattle.judge.specs.declared.verdict.Verdict.{Verdict}
 use Rattle.judge.specs.declared.verdict.Verdict.the-variants.{Accepted, Refused}
-use Rattle.judge.specs.declared.answer.Tally.{Tally}
+use Rattle.judge.specs.declared.checking.Tally.{Tally}
 use Rattle.judge.specs.Answer.{partOf}
 use Rattle.judge.specs.Checked.{checkedOf}
 use Rattle.judge.specs.Line.{pasted}

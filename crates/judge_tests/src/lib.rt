@@ -1,7 +1,7 @@
 // What is made of a verdict, for programs in other languages: the line, the refused part, the tally, and sealing.
 use blocks::Writing;
-use judge::answer::Tally;
 use judge::answer::refused_part;
+use judge::checking::Tally;
 use judge::checking::check;
 use judge::judging::judge;
 use judge::line::print_line;

@@ -1,11 +1,12 @@
 -- Laws of specs/Answer.antt: the answers of the code, and what tells a verdict. Assumes nothing.
 use mathlib.Core.Path.{_≡_, refl, sym, ap, _∙_}
 use mathlib.Core.Bool.{Bool, true, false}
+use mathlib.Core.Logic.{_⊎_, inl, inr}
 use mathlib.Core.List.{List, [], _∷_}
 use Prim.Native.Nat.{ℕ, _+_, _*_, _≤_}
 use native.Mathlib.Omega.{arith}
 use lib.ListN.{getD}
-use borrow.Author.Tests.{eq-eqb, ne-eqb, leb-true}
+use borrow.Author.Tests.{ne-eqb, leb-true}
 use Rattle.blocks.specs.Limits.{blockSize}
 use Rattle.blocks.specs.Block.{HasBlock, hasBlock, blockAt, behind}
 use Rattle.judge.specs.declared.verdict.Fault.{Fault}
@@ -15,13 +16,9 @@ use Rattle.judge.specs.declared.verdict.Counts.{Counts}
 use Rattle.judge.specs.declared.verdict.Verdict.{Verdict}
 use Rattle.judge.specs.declared.verdict.Verdict.the-variants.{Accepted, Refused}
 use Rattle.judge.specs.declared.answer.Row.{Row}
-use Rattle.judge.specs.declared.answer.Tally.{Tally}
-use Rattle.judge.specs.Answer.{rowOf, numberOf, blockOf, placeOf, packedOf, full, raisedOf, talliedOf}
-use Rattle.judge.specs.Answer.{blockOrNone, blockStart, partOf, partStart}
-use Rattle.judge.specs.declared.checking.Checked.{Checked}
-use Rattle.judge.specs.Checked.{checkedOf}
-use Rattle.judge.specs.Verdict.{verdictOf}
-use Rattle.judge.specs.Values.{VerdictValues, verdictValues, judgingValues}
+use Rattle.judge.specs.Answer.{rowOf, numberOf, blockOf, placeOf, packedOf}
+use Rattle.judge.specs.Answer.{partless, blockOrNone, blockStart, partOf, partStart}
+use Rattle.judge.specs.Values.{VerdictValues, verdictValues}
 
 -- ---- the packed number
 
@@ -110,6 +107,16 @@ module _ (file : List ℕ) (start : ℕ × ℕ) (i : ℕ) {t : Bool} (e : t ≡ 
   unfolding blockOrNone blockStart
   block-lacking h = (rw (← e, h), rw (← e, h))
 
+-- Which numbers have none.
+pub partless-yes : (n : ℕ) → (n ≡ 1) ⊎ (n ≡ 4) → true ≡ partless n
+unfolding partless
+partless-yes n (inl h) = rw h
+partless-yes n (inr h) = rw h
+
+pub partless-no : (n : ℕ) → ¬ ((n ≡ 1) ⊎ (n ≡ 4)) → false ≡ partless n
+unfolding partless
+partless-no n h = rw (ne-eqb n 1 (λ e. h (inl e)), ne-eqb n 4 (λ e. h (inr e)))
+
 -- The same of the refused part.
 module _ (file : List ℕ) (start : ℕ × ℕ) where
   abbrev IsPart : Verdict → List ℕ → ℕ × ℕ → Type 0
@@ -120,41 +127,11 @@ module _ (file : List ℕ) (start : ℕ × ℕ) where
   part-accepted e = (rw e, rw e)
 
   module _ {v : Verdict} {f : Fault} (e : v ≡ Refused f) {n : ℕ} (number : n ≡ numberOf f) where
-    pub part-of-one : n ≡ 1 → IsPart v [] (behind 0 start)
+    pub part-none : true ≡ partless n → IsPart v [] (behind 0 start)
     unfolding partOf partStart
-    part-of-one h = let one = eq-eqb n 1 h in (rw (e, ← number, one), rw (e, ← number, one))
+    part-none h = (rw (e, ← number, ← h), rw (e, ← number, ← h))
 
-    pub part-of-four : (n ≡ 1 → ⊥) → n ≡ 4 → IsPart v [] (behind 0 start)
-    unfolding partOf partStart
-    part-of-four l h =
-        let one = ne-eqb n 1 l in let four = eq-eqb n 4 h in (rw (e, ← number, one, four), rw (e, ← number, one, four))
-
-    pub part-of-other : (n ≡ 1 → ⊥) → (n ≡ 4 → ⊥) → {b : ℕ} {part : List ℕ} {place : ℕ × ℕ} → b ≡ blockOf f
+    pub part-there : false ≡ partless n → {b : ℕ} {part : List ℕ} {place : ℕ × ℕ} → b ≡ blockOf f
         → (part ≡ blockOrNone file b) × (place ≡ behind (blockStart file b) start) → IsPart v part place
     unfolding partOf partStart
-    part-of-other l m q p =
-        let one = ne-eqb n 1 l in let four = ne-eqb n 4 m in
-        (rw (e, ← number, one, four, ← q) (p .0), rw (e, ← number, one, four, ← q) (p .1))
-
--- ---- the tally
-
-pub raised-full : (n : ℕ) → n ≡ full → n ≡ raisedOf n
-raised-full n h = rw (eq-eqb n full h)
-
-pub raised-one : (n : ℕ) → (n ≡ full → ⊥) → n + 1 ≡ raisedOf n
-raised-one n h = rw (ne-eqb n full h)
-
-pub tallied-accepted : (t : Tally) {v : Verdict} {c : Counts} {n : ℕ} → v ≡ Accepted c → n ≡ raisedOf (t .accepted)
-    → _≡_ {A = Tally} (record { accepted = n; refused = t .refused }) (talliedOf t v)
-tallied-accepted t e h = rw (e, h)
-
-pub tallied-refused : (t : Tally) {v : Verdict} {f : Fault} {n : ℕ} → v ≡ Refused f → n ≡ raisedOf (t .refused)
-    → _≡_ {A = Tally} (record { accepted = t .accepted; refused = n }) (talliedOf t v)
-tallied-refused t e h = rw (e, h)
-
--- ---- one check
-
-pub checked-is : (file : List ℕ) (t : Tally) {u : Tally} {v : Verdict}
-    → (v ≡ verdictOf file) × (verdictValues v ≡ judgingValues file) → u ≡ talliedOf t v
-    → (_≡_ {A = Checked} (record { verdict = v; tally = u }) (checkedOf file t)) × (verdictValues v ≡ judgingValues file)
-checked-is file t e h = (rw (h, e .0), e .1)
+    part-there h q p = (rw (e, ← number, ← h, ← q) (p .0), rw (e, ← number, ← h, ← q) (p .1))

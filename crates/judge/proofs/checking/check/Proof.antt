@@ -1,5 +1,5 @@
 -- `judge::checking::check` meets its contract. Assumes nothing.
-use Rattle.judge.proofs.Answering.Answers.{checked-is}
+use Rattle.judge.proofs.Answering.Tallies.{checked-is}
 use borrow.Author.Needs.{needs}
 use Rattle.judge.proofs.checking.check.Statement.{statement}
 use Rattle.judge.proofs.checking.check.Tie as tie

@@ -1,8 +1,8 @@
--- `judge::answer::tallied` meets its contract. Assumes nothing.
-use Rattle.judge.proofs.Answering.Answers.{tallied-accepted, tallied-refused}
+-- `judge::checking::tallied` meets its contract. Assumes nothing.
+use Rattle.judge.proofs.Answering.Tallies.{tallied-accepted, tallied-refused}
 use borrow.Author.Needs.{needs}
-use Rattle.judge.proofs.answer.tallied.Statement.{statement}
-use Rattle.judge.proofs.answer.tallied.Tie as tie
+use Rattle.judge.proofs.checking.tallied.Statement.{statement}
+use Rattle.judge.proofs.checking.tallied.Tie as tie
 
 pub tallied-spec : {M : Type 1} → statement M
 tallied-spec = tie.close (tie.spec
