@@ -4,10 +4,8 @@
 #include <stdio.h>
 #include <stdlib.h>
 
+#include "read_file.h"
 #include "zepayong.h"
-
-/* One byte more than the longest certificate, so that a longer file is seen to be too long. */
-enum { MOST = ZEPAYONG_LONGEST + 1 };
 
 static const char *const what_is_wrong[] = {
     [ZEPAYONG_LENGTH] = "the length is 0, not a multiple of 512, or above 32,768",
@@ -32,25 +30,6 @@ static const char *words(unsigned number)
     if (number < sizeof what_is_wrong / sizeof what_is_wrong[0] && what_is_wrong[number] != NULL)
         return what_is_wrong[number];
     return "a number that this loader does not know";
-}
-
-/* At most MOST bytes of the file, in memory of just that size; null if it cannot be read. */
-static uint8_t *read_file(const char *name, size_t *length)
-{
-    FILE *in = fopen(name, "rb");
-    uint8_t *bytes = malloc(MOST);
-    uint8_t *exact = NULL;
-
-    if (in != NULL && bytes != NULL) {
-        *length = fread(bytes, 1, MOST, in);
-        if (!ferror(in))
-            exact = realloc(bytes, *length > 0 ? *length : 1);
-    }
-    if (exact == NULL)
-        free(bytes);
-    if (in != NULL)
-        fclose(in);
-    return exact;
 }
 
 /* Says what is done with the certificate, and why. A loader takes the rules from these very bytes. */

@@ -18,12 +18,14 @@ extern "C" {
 
 /* Which documents header and archive follow: 1 is document 01, and each change
  * request that lands raises the number by 1. Load nothing if the two differ. */
-#define ZEPAYONG_VERSION 5
+#define ZEPAYONG_VERSION 6
 uint32_t zepayong_version(void);
 
 /* Judges a certificate of any length. Answers 0 if it is accepted, and else
  * number * 65536 + block * 256 + place. The bytes are only read; nothing may
- * write them during the call. With length 0 the pointer may be null. */
+ * write them during the call. With length 0 the pointer may be null. The call
+ * takes no loader number and no tally, and keeps nothing: a process that serves
+ * several loaders counts the answers itself. */
 uint32_t zepayong_check(const uint8_t *file, size_t length);
 
 /* The longest certificate: 64 blocks of 512 bytes. */
@@ -61,7 +63,7 @@ enum zepayong_verdict {
     /* The risky place of this rule is not covered. */
     ZEPAYONG_UNCOVERED = 12,
     /* A listed secret stands at this place, an open one, of this rule's premise. Asked of every rule before any 12.
-     * (13 and 14 are answers of other calls.) */
+     * (13, 14 and 16 are answers of other calls.) */
     ZEPAYONG_OPEN_SECRET = 15
 };
 

@@ -1,3 +1,3 @@
 fn main() {
-    link::archives(&["c_call"]);
+    link::archives(&["c_call", "judge_tests"]);
 }

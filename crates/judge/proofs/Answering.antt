@@ -4,3 +4,4 @@ pub mod Packed
 pub mod Digits
 pub mod Printing
 pub mod Tallies
+pub mod Loaders

@@ -6,7 +6,7 @@ use lib.Dec.{eqb}
 use Rattle.blocks.specs.Limits.{blockSize}
 use Rattle.judge.specs.declared.verdict.Fault.{Fault}
 use Rattle.judge.specs.declared.verdict.Fault.the-variants.{Length, Check, Kind, Missing, Layout, AtomEntry}
-use Rattle.judge.specs.declared.verdict.Fault.the-variants.{TermEntry, NotOneTerm, KnownSecret, NotClosed, KeyNotKept, Uncovered, OpenSecret}
+use Rattle.judge.specs.declared.verdict.Fault.the-variants.{TermEntry, NotOneTerm, KnownSecret, NotClosed, KeyNotKept, Uncovered, OpenSecret, Loader}
 use Rattle.judge.specs.declared.verdict.Verdict.{Verdict}
 use Rattle.judge.specs.declared.verdict.Verdict.the-variants.{Accepted, Refused}
 use Rattle.judge.specs.declared.answer.Row.{Row}
@@ -15,7 +15,7 @@ use Rattle.blocks.specs.Block.{hasBlock, blockAt}
 -- ---- the table of verdicts
 
 -- The columns "Nr" and "Block, place", for each kind of fault. For number 4 the block is "number of blocks". Number 15 is
--- of 02, No. 4.
+-- of 02, No. 4, number 16 of No. 5: "16, block 0, place 0".
 abbrev pub rowOf : Fault → Row
 rowOf Length = record { number = 1; block = 0; place = 0 }
 rowOf (Check b) = record { number = 2; block = b; place = 0 }
@@ -30,6 +30,7 @@ rowOf (NotClosed b) = record { number = 10; block = b; place = 0 }
 rowOf (KeyNotKept b) = record { number = 11; block = b; place = 0 }
 rowOf (Uncovered b p) = record { number = 12; block = b; place = p }
 rowOf (OpenSecret b p) = record { number = 15; block = b; place = p }
+rowOf Loader = record { number = 16; block = 0; place = 0 }
 
 abbrev pub numberOf : Fault → ℕ
 numberOf f = rowOf f .number
@@ -51,9 +52,9 @@ packedOf (Refused f) = numberOf f * 65536 + blockOf f * 256 + placeOf f
 unfoldable pub blockOrNone : List ℕ → ℕ → List ℕ
 blockOrNone file i = cond (hasBlock file i) (blockAt file i) []
 
--- The numbers that leave an empty part, whatever block they name: number 1, and by the table number 4.
+-- The numbers that leave an empty part, whatever block they name: number 1, by the table number 4, and 16 (02, No. 5).
 unfoldable pub partless : ℕ → Bool
-partless n = eqb n 1 || eqb n 4
+partless n = eqb n 1 || (eqb n 4 || eqb n 16)
 
 -- "The caller gets back the refused block as a part of its own file; on acceptance, for number 1, or for a block number
 -- the file lacks, an empty part."

@@ -10,11 +10,13 @@ pub mod Foreign
 pub mod Decisions
 pub mod Meaning
 pub mod Verdict
--- What is made of a verdict: number, block and place, the refused part, the tally, the line.
+-- What is made of a verdict: number, block and place, the refused part, the line.
 pub mod Answer
 pub mod Values
-pub mod Checked
 pub mod Line
+-- Checks that count: one, and many for eight loaders.
+pub mod Checked
+pub mod Calls
 -- What the parts of the code promise to each other.
 pub mod Judgement
 pub mod Laid

@@ -44,12 +44,13 @@ fn row_of(f: Fault) -> Row
         Fault::KeyNotKept(b) => columns(11, b, 0),
         Fault::Uncovered(b, p) => columns(12, b, p),
         Fault::OpenSecret(b, p) => columns(15, b, p),
+        Fault::Loader => columns(16, 0, 0),
     }
 }
 
 // The number of a fault.
 pub fn number(f: Fault) -> u32
-    ensures { λ r. ⌜ (r ≡ numberOf f) × (r ≤ 15) ⌝ }
+    ensures { λ r. ⌜ (r ≡ numberOf f) × (r ≤ 16) ⌝ }
 {
     row_of(f).number
 }
@@ -83,7 +84,7 @@ fn is_partless(n: u32) -> bool
     ensures { λ r. ⌜ r ≡ partless n ⌝ }
 {
     match n {
-        1 | 4 => true,
+        1 | 4 | 16 => true,
         _ => false,
     }
 }
@@ -99,7 +100,8 @@ fn block_or_none<'a>(file: &'a [u8], i: usize) -> &'a [u8]
     &file[0..0]
 }
 
-// The refused block, as a part of the file; empty on acceptance, for numbers 1 and 4, and for a block that the file lacks.
+// The refused block, as a part of the file; empty on acceptance, for numbers 1, 4 and 16, and for a block that
+// the file lacks.
 pub fn refused_part<'a>(file: &'a [u8], v: Verdict) -> &'a [u8]
     ensures part { λ r. ⌜ now r ≡ partOf (now (file .entry)) v ⌝ }
     ensures place { λ r. ⌜ ptr r ≡ behind (partStart (now (file .entry)) v) (ptr (file .entry)) ⌝ }

@@ -37,6 +37,8 @@ pub enum Fault {
     Uncovered(u8, u8),
     // 15: a listed secret at an open place of a premise: rule block, entry.
     OpenSecret(u8, u8),
+    // 16: no loader has this number. A check that names its loader says so; no file has this fault.
+    Loader,
 }
 
 pub enum Verdict {

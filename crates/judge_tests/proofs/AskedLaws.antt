@@ -7,15 +7,13 @@ use lib.ListN.{length}
 use borrow.Author.Tests.{eq-eqb, ne-eqb, le-leb, lt-leb}
 use Rattle.blocks.specs.declared.Writing.{Writing}
 use Rattle.blocks.specs.declared.Writing.the-variants.{Wrote, WrongLength, ShortBuffer}
-use Rattle.judge.specs.declared.verdict.Fault.the-variants.{Length, Missing, Uncovered}
+use Rattle.judge.specs.declared.verdict.Fault.the-variants.{Length, Missing, Uncovered, Loader}
 use Rattle.judge.specs.declared.verdict.Verdict.{Verdict}
 use Rattle.judge.specs.declared.verdict.Verdict.the-variants.{Accepted, Refused}
-use Rattle.judge.specs.declared.checking.Checked.{Checked}
 use Rattle.judge.specs.Answer.{partOf}
-use Rattle.judge.specs.Checked.{checkedOf}
 use Rattle.judge.specs.Verdict.{verdictOf}
 use Rattle.judge.specs.Line.{Room, Put, printing, afterPrinting}
-use Rattle.judge_tests.specs.Asked.{packedWriting, tallyNumber, packedTally, noCounts, verdictFrom, copying, afterCopying}
+use Rattle.judge_tests.specs.Asked.{packedWriting, noCounts, verdictFrom, copying, afterCopying}
 
 pub wrote : {w : Writing} {n : ℕ} → w ≡ Wrote n → n % 65536 ≡ packedWriting w
 unfolding packedWriting
@@ -35,11 +33,6 @@ pub printed : (file buffer : List ℕ) {v : Verdict} {w : Writing} {after : List
 printed file buffer v w b n =
     (n ∙ ap packedWriting (w ∙ ap (λ (x : Verdict). printing x buffer) v), b ∙ ap (λ (x : Verdict). afterPrinting x buffer) v)
 
-pub tallied : (file : List ℕ) (accepted refused : ℕ) {c : Checked} → c ≡ checkedOf file (record { accepted = accepted; refused = refused })
-    → tallyNumber (c .tally) ≡ packedTally file accepted refused
-unfolding packedTally
-tallied file accepted refused e = ap (λ (c : Checked). tallyNumber (c .tally)) e
-
 module _ (n b p : ℕ) where
   pub from-none : n ≡ 0 → Accepted noCounts ≡ verdictFrom n b p
   unfolding verdictFrom
@@ -53,9 +46,13 @@ module _ (n b p : ℕ) where
   unfolding verdictFrom
   from-missing x y e = sym (rw (ne-eqb n 0 x, ne-eqb n 1 y, eq-eqb n 4 e))
 
-  pub from-other : (n ≡ 0 → ⊥) → (n ≡ 1 → ⊥) → (n ≡ 4 → ⊥) → Refused (Uncovered b p) ≡ verdictFrom n b p
+  pub from-loader : (n ≡ 0 → ⊥) → (n ≡ 1 → ⊥) → (n ≡ 4 → ⊥) → n ≡ 16 → Refused Loader ≡ verdictFrom n b p
   unfolding verdictFrom
-  from-other x y z = sym (rw (ne-eqb n 0 x, ne-eqb n 1 y, ne-eqb n 4 z))
+  from-loader x y z e = sym (rw (ne-eqb n 0 x, ne-eqb n 1 y, ne-eqb n 4 z, eq-eqb n 16 e))
+
+  pub from-other : (n ≡ 0 → ⊥) → (n ≡ 1 → ⊥) → (n ≡ 4 → ⊥) → (n ≡ 16 → ⊥) → Refused (Uncovered b p) ≡ verdictFrom n b p
+  unfolding verdictFrom
+  from-other x y z w = sym (rw (ne-eqb n 0 x, ne-eqb n 1 y, ne-eqb n 4 z, ne-eqb n 16 w))
 
 module _ (file buffer : List ℕ) {v u : Verdict} {part : List ℕ} (made : v ≡ u) (is : part ≡ partOf file v) where
   pub too-short : length buffer < length part → (65536 ≡ copying file u buffer) × (buffer ≡ afterCopying file u buffer)

@@ -1,5 +1,6 @@
-//! Test files and pairs of terms, each from its seed alone.
+//! Test files, pairs of terms and lists of calls, each from its seed alone.
 
+pub mod calls;
 pub mod certificate;
 pub mod damage;
 pub mod deep;
@@ -9,6 +10,7 @@ pub mod random;
 pub mod sketch;
 pub mod spread;
 
+pub use calls::{calls, Call, Calls};
 pub use pairs::{pair, TermPair};
 
 use random::Random;

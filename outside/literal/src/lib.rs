@@ -5,6 +5,7 @@ pub mod atom;
 pub mod block;
 pub mod hats;
 pub mod judge;
+pub mod loaders;
 pub mod numbers;
 pub mod read;
 pub mod share;
@@ -15,6 +16,7 @@ pub mod verdict;
 
 pub use block::seal;
 pub use judge::verdict;
+pub use loaders::{check, LoaderCounts, Tally};
 pub use share::shares;
 pub use term::{decode, encode, matches, Term};
-pub use verdict::{line, packed, print_line, refused_part, tally, Counts, Refusal, Tally, Verdict};
+pub use verdict::{line, packed, print_line, refused_part, Counts, Refusal, Verdict};

@@ -24,6 +24,8 @@ pub const MOST_ENTRIES: usize = 63;
 pub const FIRST_FOREIGN: u16 = 1_000;
 /// Variables of each sort are numbered from 0 up to but not including this.
 pub const VARIABLES: u8 = 8;
+/// Loaders are numbered from 0 up to but not including this.
+pub const LOADERS: usize = 8;
 
 /// Kinds of blocks.
 pub mod kind {

@@ -1,5 +1,6 @@
 //! Test builds only: wrong readings of the document, switched on one at a
-//! time, to see that the generated files tell each from the right reading.
+//! time, to see that the generated files or calls tell each from the right
+//! reading.
 
 use crate::block;
 use crate::hats::{marks_below, Closing, Exception, SureHat};
@@ -10,6 +11,7 @@ use crate::verdict::Refusal;
 use std::cell::Cell;
 
 pub mod bads;
+pub mod loaders;
 pub mod nonces;
 pub mod open_secrets;
 
@@ -135,6 +137,30 @@ pub enum Slip {
     PartnerInItsBlock,
     SymmetricNamesItsPlace,
     ThirdAtomBlock,
+    // A tally for each loader; told apart by calls.
+    NextLoaderRaised,
+    FirstLoaderRaised,
+    EveryLoaderRaised,
+    OtherLoadersForgotten,
+    AcceptedAsRefused,
+    RefusedAsAccepted,
+    WrongLengthNotCounted,
+    CountWraps,
+    FullRefusedKeepsAccepted,
+    FullAcceptedKeepsRefused,
+    FullCountRefused,
+    LoaderModulo8,
+    LoaderModulo256,
+    LoaderModulo65536,
+    LoaderSigned,
+    LoaderEightAllowed,
+    LoaderSevenRefused,
+    SixteenRaisesACount,
+    SixteenAfterTheFile,
+    SixteenAfterTheLength,
+    SixteenForgetsTheTally,
+    SixteenNamesTheLoader,
+    SixteenHasAPart,
 }
 
 thread_local! {

@@ -1,6 +1,8 @@
 //! What the checker answers, and the forms in which it is handed on.
 
 use crate::numbers::BLOCK;
+#[cfg(test)]
+use crate::slip::{self, Slip};
 
 #[derive(Clone, Copy, Debug, PartialEq, Eq)]
 pub struct Counts {
@@ -11,7 +13,8 @@ pub struct Counts {
     pub rules: u32,
 }
 
-/// The number of the fault (1 to 12, or 15), and where it is.
+/// The number of the fault, and where it is: 1 to 12 or 15 of a file; 16 of a
+/// loader's number, in a check that takes a tally.
 #[derive(Clone, Copy, Debug, PartialEq, Eq)]
 pub struct Refusal {
     pub number: u8,
@@ -59,11 +62,11 @@ pub fn print_line(verdict: &Verdict, buffer: &mut [u8]) -> Result<usize, u32> {
 }
 
 /// The refused block as a part of the file. Empty on acceptance, for the
-/// numbers 1 and 4, and for a block that the file lacks.
+/// numbers 1, 4 and 16, and for a block that the file lacks.
 pub fn refused_part<'a>(file: &'a [u8], verdict: &Verdict) -> &'a [u8] {
     match verdict {
         Verdict::Accepted(_) => &[],
-        Verdict::Refused(r) if r.number == 1 || r.number == 4 => &[],
+        Verdict::Refused(r) if has_no_part(r.number) => &[],
         Verdict::Refused(r) => {
             let start = BLOCK * r.block as usize;
             file.get(start..start + BLOCK).unwrap_or(&[])
@@ -71,22 +74,11 @@ pub fn refused_part<'a>(file: &'a [u8], verdict: &Verdict) -> &'a [u8] {
     }
 }
 
-#[derive(Clone, Copy, Debug, Default, PartialEq, Eq)]
-pub struct Tally {
-    pub accepted: u32,
-    pub refused: u32,
-}
-
-/// One of the two counts raised by 1; a full count stays.
-pub fn tally(before: Tally, verdict: &Verdict) -> Tally {
-    match verdict {
-        Verdict::Accepted(_) => Tally {
-            accepted: before.accepted.saturating_add(1),
-            ..before
-        },
-        Verdict::Refused(_) => Tally {
-            refused: before.refused.saturating_add(1),
-            ..before
-        },
+/// The numbers that are not about one block.
+fn has_no_part(number: u8) -> bool {
+    #[cfg(test)]
+    if slip::is(Slip::SixteenHasAPart) && number == 16 {
+        return false;
     }
+    matches!(number, 1 | 4 | 16)
 }

@@ -4,8 +4,7 @@ mod common;
 
 use common::*;
 use literal::{
-    line, packed, print_line, refused_part, seal, shares, tally, verdict, Counts, Refusal, Tally,
-    Term, Verdict,
+    line, packed, print_line, refused_part, seal, shares, verdict, Counts, Refusal, Term, Verdict,
 };
 
 fn accepted(blocks: u32, secrets: u32, good: u32, bad: u32, rules: u32) -> Verdict {
@@ -214,20 +213,6 @@ fn print_line_and_its_refusal() {
             assert!(buffer[line.len()..].iter().all(|b| *b == b'~'));
         }
     }
-}
-
-#[test]
-fn tally_raises_one_count_and_a_full_one_stays() {
-    let start = Tally {
-        accepted: 3,
-        refused: u32::MAX,
-    };
-    let after = tally(start, &accepted(5, 2, 1, 0, 1));
-    assert_eq!((after.accepted, after.refused), (4, u32::MAX));
-    let after = tally(start, &refused(1, 0, 0));
-    assert_eq!((after.accepted, after.refused), (3, u32::MAX));
-    let after = tally(Tally::default(), &refused(4, 2, 0));
-    assert_eq!((after.accepted, after.refused), (0, 1));
 }
 
 /// Reading 10, also for verdicts from elsewhere.

@@ -1,13 +1,16 @@
 //! Everything that the archive answers for one file, against `literal`.
 
-use crate::lent::Lent;
+use crate::lent::{Item, Lent};
+use crate::tally::{counts_of, counts_of_pairs, tally_of, Expected, NOT_SIXTEEN_COUNTS};
 use crate::{failed, Checker, Difference, Spot};
+use generate::calls;
 use generate::random::Random;
+use literal::loaders::check_by;
 use literal::numbers::{BLOCK, CHECKED};
-use literal::{Counts, Refusal, Tally, Verdict};
+use literal::{Counts, Refusal, Verdict};
 
-/// What differs for this file and the verdict expected of it. Buffers, counts
-/// and verdicts to hand in come from the random numbers.
+/// What differs for this file and the verdict expected of it. Buffers, loaders,
+/// counts and verdicts to hand in come from the random numbers.
 pub fn differences(
     checker: &Checker,
     file: &[u8],
@@ -51,9 +54,9 @@ fn lines(
 /// The answer and the whole buffer, for this buffer.
 fn line(checker: &Checker, file: &[u8], verdict: &Verdict, mut buffer: Lent) -> Option<Difference> {
     let mut right = buffer.clone();
-    let expected = answer(literal::print_line(verdict, right.bytes()));
-    let found = (checker.line)(file, buffer.bytes());
-    let question = format!("line in {} bytes", buffer.bytes().len());
+    let expected = answer(literal::print_line(verdict, right.items()));
+    let found = (checker.line)(file, buffer.items());
+    let question = format!("line in {} bytes", buffer.items().len());
     Difference::between(
         &question,
         expected.to_string(),
@@ -144,15 +147,15 @@ fn verdict_at(spot: Spot) -> Verdict {
 fn part(checker: &Checker, file: &[u8], spot: Spot, mut buffer: Lent) -> Option<Difference> {
     let mut right = buffer.clone();
     let part = literal::refused_part(file, &verdict_at(spot));
-    let expected = match right.bytes().get_mut(..part.len()) {
+    let expected = match right.items().get_mut(..part.len()) {
         Some(room) => {
             room.copy_from_slice(part);
             part.len() as u32
         }
         None => failed(1),
     };
-    let found = (checker.part)(file, spot, buffer.bytes());
-    let question = format!("part for {spot:?} in {} bytes", buffer.bytes().len());
+    let found = (checker.part)(file, spot, buffer.items());
+    let question = format!("part for {spot:?} in {} bytes", buffer.items().len());
     Difference::between(
         &question,
         expected.to_string(),
@@ -162,37 +165,49 @@ fn part(checker: &Checker, file: &[u8], spot: Spot, mut buffer: Lent) -> Option<
 
 // The tally.
 
+/// Under any number and under one that is no loader's; at times not sixteen
+/// counts.
 fn tallies(
     checker: &Checker,
     file: &[u8],
     verdict: &Verdict,
     random: &mut Random,
-) -> Option<Difference> {
-    let before = Tally {
-        accepted: any_count(random),
-        refused: any_count(random),
-    };
-    tally(checker, file, verdict, before)
-}
-
-/// Often none, full, or nearly so.
-fn any_count(random: &mut Random) -> u32 {
-    match random.below(6) {
-        0 => 0,
-        1 | 2 => u32::MAX,
-        3 => u32::MAX - 1,
-        _ => random.number() as u32,
+) -> Vec<Difference> {
+    let mut found = Vec::new();
+    for loader in [calls::loader(random), calls::above(random)] {
+        found.extend(tally(checker, file, verdict, loader, random));
     }
+    if random.chance(50) {
+        found.extend(not_sixteen(checker, file, random));
+    }
+    found
 }
 
-fn tally(checker: &Checker, file: &[u8], verdict: &Verdict, before: Tally) -> Option<Difference> {
-    let after = literal::tally(before, verdict);
-    let found = (checker.tally)(file, before.accepted, before.refused);
-    Difference::between(
-        &format!("tally from {}, {}", before.accepted, before.refused),
-        format!("{}, {}", after.accepted, after.refused),
-        format!("{}, {}", found >> 32, found as u32),
-    )
+/// From any tally.
+fn tally(
+    checker: &Checker,
+    file: &[u8],
+    verdict: &Verdict,
+    loader: u32,
+    random: &mut Random,
+) -> Option<Difference> {
+    let before = counts_of_pairs(&calls::tally(random));
+    let (verdict, after) = check_by(|| *verdict, loader, tally_of(&before));
+    let expected = Expected {
+        file,
+        loader,
+        before: &before,
+        answer: literal::packed(&verdict),
+        after: &counts_of(&after),
+    };
+    expected.difference(checker, random)
+}
+
+fn not_sixteen(checker: &Checker, file: &[u8], random: &mut Random) -> Option<Difference> {
+    let length = *random.pick(&NOT_SIXTEEN_COUNTS);
+    let counts: Vec<u32> = (0..length).map(|_| u32::any(random)).collect();
+    let expected = Expected::of_not_sixteen(file, calls::loader(random), &counts);
+    expected.difference(checker, random)
 }
 
 // Sealing.
@@ -225,9 +240,9 @@ fn some_block(file: &[u8], random: &mut Random) -> Vec<u8> {
 
 fn seal(checker: &Checker, mut block: Lent) -> Option<Difference> {
     let mut right = block.clone();
-    let expected = answer(literal::seal(right.bytes()));
-    let found = (checker.seal)(block.bytes());
-    let question = format!("sealing {} bytes", block.bytes().len());
+    let expected = answer(literal::seal(right.items()));
+    let found = (checker.seal)(block.items());
+    let question = format!("sealing {} bytes", block.items().len());
     Difference::between(
         &question,
         expected.to_string(),

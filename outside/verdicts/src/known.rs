@@ -2,10 +2,11 @@
 
 use crate::compare;
 use crate::lent::Lent;
+use crate::tally::{Expected, COUNTS};
 use crate::{failed, Checker, Difference, Spot};
 use command::files;
 use generate::random::Random;
-use literal::numbers::BLOCK;
+use literal::numbers::{BLOCK, LOADERS};
 use std::path::{Path, PathBuf};
 
 #[derive(Clone)]
@@ -50,7 +51,7 @@ impl Known {
         }
         found.extend(self.short_line_difference(checker, &mut random));
         found.extend(self.part_difference(checker, &mut random));
-        found.extend(self.tally_difference(checker));
+        found.extend(self.tally_difference(checker, &mut random));
         let verdict = literal::verdict(&self.file);
         let others = compare::differences(checker, &self.file, &verdict, &mut random);
         found.extend(others);
@@ -67,9 +68,9 @@ impl Known {
         let line = format!("{}\n", self.line);
         let mut buffer = Lent::new(line.len() + more, r);
         let mut right = buffer.clone();
-        right.bytes()[..line.len()].copy_from_slice(line.as_bytes());
-        let answer = (checker.line)(&self.file, buffer.bytes());
-        let found = String::from_utf8_lossy(&buffer.bytes()[..line.len()]).into_owned();
+        right.items()[..line.len()].copy_from_slice(line.as_bytes());
+        let answer = (checker.line)(&self.file, buffer.items());
+        let found = String::from_utf8_lossy(&buffer.items()[..line.len()]).into_owned();
         Difference::between(
             &format!("line with {more} bytes more"),
             format!("{line:?}, {}", line.len()),
@@ -81,12 +82,12 @@ impl Known {
     fn short_line_difference(&self, checker: &Checker, r: &mut Random) -> Option<Difference> {
         let mut buffer = Lent::new(self.line.len(), r);
         let right = buffer.clone();
-        let answer = (checker.line)(&self.file, buffer.bytes());
+        let answer = (checker.line)(&self.file, buffer.items());
         let found = format!("{answer}{}", buffer.unlike(&right));
         Difference::between("line with a byte less", failed(14).to_string(), found)
     }
 
-    /// The block that is named; empty for acceptance, 1 and 4.
+    /// The block that is named; empty for acceptance, 1 and 4; a file has no 16.
     fn part_difference(&self, checker: &Checker, r: &mut Random) -> Option<Difference> {
         let spot = self.spot();
         let start = BLOCK * spot.block as usize;
@@ -96,19 +97,25 @@ impl Known {
         };
         let mut buffer = Lent::new(BLOCK, r);
         let mut right = buffer.clone();
-        right.bytes()[..part.len()].copy_from_slice(part);
-        let answer = (checker.part)(&self.file, spot, buffer.bytes());
+        right.items()[..part.len()].copy_from_slice(part);
+        let answer = (checker.part)(&self.file, spot, buffer.items());
         let found = format!("{answer}{}", buffer.unlike(&right));
         Difference::between("refused part", part.len().to_string(), found)
     }
 
-    fn tally_difference(&self, checker: &Checker) -> Option<Difference> {
-        let expected = if self.packed == 0 { 1 << 32 } else { 1 };
-        Difference::between(
-            "tally from 0, 0",
-            expected,
-            (checker.tally)(&self.file, 0, 0),
-        )
+    /// From zeros, for some loader.
+    fn tally_difference(&self, checker: &Checker, r: &mut Random) -> Option<Difference> {
+        let loader = r.below(LOADERS);
+        let mut after = [0; COUNTS];
+        after[2 * loader + usize::from(self.packed != 0)] = 1;
+        let expected = Expected {
+            file: &self.file,
+            loader: loader as u32,
+            before: &[0; COUNTS],
+            answer: self.packed,
+            after: &after,
+        };
+        expected.difference(checker, r)
     }
 }
 

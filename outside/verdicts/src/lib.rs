@@ -1,15 +1,18 @@
 //! The proved archive of the judging layer: whole verdicts held against known
 //! answers and against the outside reference.
 
+pub mod calls;
 pub mod cases;
 pub mod compare;
 pub mod known;
 pub mod lent;
+pub mod loaders;
 pub mod marked_bad;
 pub mod more_atoms;
 pub mod nonce_variables;
 pub mod open_secrets;
 pub mod proved;
+pub mod tally;
 
 use std::fmt::{self, Display};
 
@@ -22,8 +25,8 @@ pub struct Checker {
     pub line: fn(&[u8], &mut [u8]) -> u32,
     /// File, verdict, buffer for the part.
     pub part: fn(&[u8], Spot, &mut [u8]) -> u32,
-    /// File, accepted, refused.
-    pub tally: fn(&[u8], u32, u32) -> u64,
+    /// File, loader, counts.
+    pub tally: fn(&[u8], u32, &mut [u32]) -> u32,
     /// Block.
     pub seal: fn(&mut [u8]) -> u32,
 }

@@ -1,34 +1,54 @@
 //! A wrong expectation and a wrong checker are noticed.
 
+mod wrong_tallies;
+
 use generate::random::Random;
 use literal::{Refusal, Verdict};
 use verdicts::compare::differences;
 use verdicts::known::{self, Known};
-use verdicts::{cases, marked_bad, more_atoms, nonce_variables, open_secrets, proved};
-use verdicts::{Checker, Spot};
+use verdicts::{calls, cases, loaders, marked_bad, more_atoms, nonce_variables, open_secrets};
+use verdicts::{failed, proved, tally, Checker, Difference, Spot};
 
 const FILES: u64 = 300;
+const LISTS: u64 = 40;
 
-/// The questions that differ on generated files, each once.
-fn noticed(checker: &Checker) -> Vec<String> {
-    let mut found: Vec<String> = Vec::new();
-    for seed in 0..FILES {
-        let file = generate::file(seed);
-        let verdict = literal::verdict(&file);
-        for difference in differences(checker, &file, &verdict, &mut Random::new(seed)) {
-            let first = difference.question.split(' ').next().unwrap_or_default();
-            found.push(first.to_string());
-        }
-    }
+/// The first words of the questions, each once.
+fn first_words(found: &[Difference], words: usize) -> Vec<String> {
+    let first = |difference: &Difference| {
+        let all = difference.question.split([' ', ',']);
+        all.take(words).collect::<Vec<_>>().join(" ")
+    };
+    let mut found: Vec<String> = found.iter().map(first).collect();
     found.sort();
     found.dedup();
     found
 }
 
+/// The questions that differ on generated files.
+fn noticed(checker: &Checker) -> Vec<String> {
+    let of_seed = |seed| {
+        let file = generate::file(seed);
+        let verdict = literal::verdict(&file);
+        differences(checker, &file, &verdict, &mut Random::new(seed))
+    };
+    let found: Vec<Difference> = (0..FILES).flat_map(of_seed).collect();
+    first_words(&found, 1)
+}
+
+/// The questions that differ on generated lists of calls.
+fn noticed_in_lists(checker: &Checker) -> Vec<String> {
+    let of_seed =
+        |seed| calls::differences(checker, &generate::calls(seed), &mut Random::new(seed));
+    let found: Vec<Difference> = (0..LISTS).flat_map(of_seed).collect();
+    first_words(&found, 3)
+}
+
 #[test]
 fn the_archive_agrees() {
-    assert_eq!(noticed(&proved::CHECKER), [""; 0]);
-    assert_eq!(noticed(&proved::WITH_NULL), [""; 0]);
+    for checker in [proved::CHECKER, proved::WITH_NULL] {
+        assert_eq!(noticed(&checker), [""; 0]);
+        assert_eq!(noticed_in_lists(&checker), [""; 0]);
+    }
 }
 
 fn case(name: &str) -> Known {
@@ -50,7 +70,7 @@ fn a_wrong_line_or_answer_is_noticed() {
     assert_eq!(differ(&wrong), 3);
     let mut wrong = right.clone();
     wrong.packed += 1;
-    assert_eq!(differ(&wrong), 1);
+    assert_eq!(differ(&wrong), 2);
     let mut wrong = right;
     wrong.packed = 0;
     assert_eq!(differ(&wrong), 2);
@@ -67,10 +87,9 @@ fn a_wrong_verdict_is_noticed() {
         block: 4,
         place: 1,
     });
-    let found = differences(&proved::CHECKER, &file, &wrong, &mut Random::new(1));
-    assert!(found.iter().any(|d| d.question == "check"));
-    assert!(found.iter().any(|d| d.question.starts_with("line")));
-    assert!(found.iter().any(|d| d.question.starts_with("tally")));
+    let of_seed = |seed| differences(&proved::CHECKER, &file, &wrong, &mut Random::new(seed));
+    let found: Vec<Difference> = (0..20).flat_map(of_seed).collect();
+    assert_eq!(first_words(&found, 1), ["check", "line", "tally"]);
 }
 
 fn with(change: impl Fn(&mut Checker)) -> Vec<String> {
@@ -105,16 +124,14 @@ fn no_part_for_number_15(file: &[u8], spot: Spot, buffer: &mut [u8]) -> u32 {
     (proved::CHECKER.part)(file, Spot { number, ..spot }, buffer)
 }
 
+fn part_for_number_16(file: &[u8], spot: Spot, buffer: &mut [u8]) -> u32 {
+    let number = if spot.number == 16 { 15 } else { spot.number };
+    (proved::CHECKER.part)(file, Spot { number, ..spot }, buffer)
+}
+
 fn part_of_the_next_block(file: &[u8], spot: Spot, buffer: &mut [u8]) -> u32 {
     let block = spot.block.wrapping_add(1);
     (proved::CHECKER.part)(file, Spot { block, ..spot }, buffer)
-}
-
-fn tally_that_wraps(file: &[u8], accepted: u32, refused: u32) -> u64 {
-    match (proved::CHECKER.check)(file) {
-        0 => (accepted.wrapping_add(1) as u64) << 32 | refused as u64,
-        _ => (accepted as u64) << 32 | refused.wrapping_add(1) as u64,
-    }
 }
 
 fn seal_and_a_byte(block: &mut [u8]) -> u32 {
@@ -136,10 +153,80 @@ fn wrong_checkers_are_noticed() {
     assert_eq!(with(|c| c.line = line_in_a_short_buffer), ["line"]);
     assert_eq!(with(|c| c.part = part_for_number_4), ["part"]);
     assert_eq!(with(|c| c.part = no_part_for_number_15), ["part"]);
+    assert_eq!(with(|c| c.part = part_for_number_16), ["part"]);
     assert_eq!(with(|c| c.part = part_of_the_next_block), ["part"]);
-    assert_eq!(with(|c| c.tally = tally_that_wraps), ["tally"]);
     assert_eq!(with(|c| c.seal = seal_and_a_byte), ["sealing"]);
     assert_eq!(with(|c| c.seal = |_| 4), ["sealing"]);
+}
+
+/// Each by the comparison of one check, by that of lists, and by the checks
+/// written down by hand.
+#[test]
+fn wrong_tallies_are_noticed() {
+    for (name, tally) in wrong_tallies::ALL {
+        let checker = Checker {
+            tally,
+            ..proved::CHECKER
+        };
+        assert_eq!(noticed(&checker), ["tally"], "{name}");
+        let lists = noticed_in_lists(&checker);
+        assert!(lists.contains(&"list by literal".to_string()), "{name}");
+        let by_hand = loaders::all().unwrap();
+        let mut differ = by_hand.iter().filter_map(|c| c.difference(&checker));
+        assert!(differ.next().is_some(), "{name}");
+    }
+}
+
+/// What needs no reference: each question that the archive's own answers decide.
+#[test]
+fn lists_notice_wrong_tallies_by_themselves() {
+    let found = |tally| {
+        noticed_in_lists(&Checker {
+            tally,
+            ..proved::CHECKER
+        })
+    };
+    let has = |found: Vec<String>, question: &str| found.iter().any(|f| f == question);
+    let in_pairs = found(wrong_tallies::shared_by_two);
+    assert!(has(in_pairs, "list by loader"));
+    let full = found(wrong_tallies::full_count_refused);
+    assert!(has(full, "list by the"));
+    let kept = found(wrong_tallies::kept_inside);
+    assert!(has(kept, "list from an"));
+}
+
+#[test]
+fn other_than_sixteen_counts_are_noticed() {
+    let with_tally = |tally| with(|c| c.tally = tally);
+    assert_eq!(with_tally(wrong_tallies::of_the_first_sixteen), ["tally"]);
+    assert_eq!(with_tally(wrong_tallies::clearing_others), ["tally"]);
+    let unasked: fn(&[u8], u32, &mut [u32]) -> u32 = |file, loader, counts| {
+        let answer = (proved::CHECKER.tally)(file, loader, counts);
+        if answer == tally::NOT_SIXTEEN {
+            return failed(1);
+        }
+        answer
+    };
+    assert_eq!(with_tally(unasked), ["tally"]);
+}
+
+/// A count beside the lent ones, on either side.
+#[test]
+fn counts_around_are_noticed() {
+    let after: fn(&[u8], u32, &mut [u32]) -> u32 = |file, loader, counts| {
+        let answer = (proved::CHECKER.tally)(file, loader, counts);
+        // SAFETY: the lent counts have others after them.
+        unsafe { *counts.as_mut_ptr().add(counts.len()) ^= 1 };
+        answer
+    };
+    assert_eq!(with(|c| c.tally = after), ["tally"]);
+    let before: fn(&[u8], u32, &mut [u32]) -> u32 = |file, loader, counts| {
+        let answer = (proved::CHECKER.tally)(file, loader, counts);
+        // SAFETY: the lent counts have others before them.
+        unsafe { *counts.as_mut_ptr().sub(1) ^= 1 };
+        answer
+    };
+    assert_eq!(with(|c| c.tally = before), ["tally"]);
 }
 
 /// A byte beside the lent ones.
@@ -182,5 +269,21 @@ fn literal_answers_as_written_down() {
         let line = literal::line(&literal::verdict(&known.file));
         let expected = format!("{}\n", known.line);
         assert_eq!(String::from_utf8_lossy(&line), expected, "{}", known.name);
+    }
+}
+
+/// The checks with a tally that are written down by hand.
+#[test]
+fn literal_counts_as_written_down() {
+    for counted in loaders::all().unwrap() {
+        let Ok(before) = <tally::Sixteen>::try_from(&counted.before[..]) else {
+            assert_eq!(counted.answer, tally::NOT_SIXTEEN, "{}", counted.name);
+            continue;
+        };
+        let before = tally::tally_of(&before);
+        let (verdict, after) = literal::check(&counted.file, counted.loader, before);
+        let found = (literal::packed(&verdict), tally::counts_of(&after).to_vec());
+        let expected = (counted.answer, counted.after);
+        assert_eq!(found, expected, "{}, {}", counted.name, counted.loader);
     }
 }

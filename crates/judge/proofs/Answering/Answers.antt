@@ -11,7 +11,7 @@ use Rattle.blocks.specs.Limits.{blockSize}
 use Rattle.blocks.specs.Block.{HasBlock, hasBlock, blockAt, behind}
 use Rattle.judge.specs.declared.verdict.Fault.{Fault}
 use Rattle.judge.specs.declared.verdict.Fault.the-variants.{Length, Check, Kind, Missing, Layout, AtomEntry}
-use Rattle.judge.specs.declared.verdict.Fault.the-variants.{TermEntry, NotOneTerm, KnownSecret, NotClosed, KeyNotKept, Uncovered, OpenSecret}
+use Rattle.judge.specs.declared.verdict.Fault.the-variants.{TermEntry, NotOneTerm, KnownSecret, NotClosed, KeyNotKept, Uncovered, OpenSecret, Loader}
 use Rattle.judge.specs.declared.verdict.Counts.{Counts}
 use Rattle.judge.specs.declared.verdict.Verdict.{Verdict}
 use Rattle.judge.specs.declared.verdict.Verdict.the-variants.{Accepted, Refused}
@@ -26,8 +26,8 @@ pub packed-refused : {v : Verdict} {f : Fault} {n b p : ℕ} → v ≡ Refused f
     → n * 65536 + b * 256 + p ≡ packedOf v
 packed-refused e n b p = rw (e, n, b, p)
 
--- Every number is one of 1 to 15.
-pub numbers : (f : Fault) → (1 ≤ numberOf f) × (numberOf f ≤ 15)
+-- Every number is one of 1 to 16.
+pub numbers : (f : Fault) → (1 ≤ numberOf f) × (numberOf f ≤ 16)
 numbers Length = omega arith
 numbers (Check b) = omega arith
 numbers (Kind b) = omega arith
@@ -41,8 +41,9 @@ numbers (NotClosed b) = omega arith
 numbers (KeyNotKept b) = omega arith
 numbers (Uncovered b p) = omega arith
 numbers (OpenSecret b p) = omega arith
+numbers Loader = omega arith
 
-pub number-is : {r : Row} (f : Fault) → r ≡ rowOf f → (r .number ≡ numberOf f) × (r .number ≤ 15)
+pub number-is : {r : Row} (f : Fault) → r ≡ rowOf f → (r .number ≡ numberOf f) × (r .number ≤ 16)
 number-is f e = let same = ap (λ (r : Row). r .number) e in (same, omega (arith, numbers f))
 
 -- ---- a verdict is told by its number and values
@@ -51,7 +52,7 @@ number-is f e = let same = ap (λ (r : Row). r .number) e in (same, omega (arith
 faultBy : ℕ → ℕ → ℕ → Fault
 faultBy n b p = getD
     (Length ∷ Length ∷ Check b ∷ Kind b ∷ Missing b ∷ Layout b ∷ AtomEntry b p ∷ TermEntry b p ∷ NotOneTerm b p
-    ∷ KnownSecret b ∷ NotClosed b ∷ KeyNotKept b ∷ Uncovered b p ∷ Length ∷ Length ∷ OpenSecret b p ∷ []) n Length
+    ∷ KnownSecret b ∷ NotClosed b ∷ KeyNotKept b ∷ Uncovered b p ∷ Length ∷ Length ∷ OpenSecret b p ∷ Loader ∷ []) n Length
 
 fault-by : (f : Fault) → faultBy (numberOf f) (blockOf f) (placeOf f) ≡ f
 unfolding faultBy
@@ -68,6 +69,7 @@ fault-by (NotClosed b) = refl
 fault-by (KeyNotKept b) = refl
 fault-by (Uncovered b p) = refl
 fault-by (OpenSecret b p) = refl
+fault-by Loader = refl
 
 same-fault : (f g : Fault) → numberOf f ≡ numberOf g → blockOf f ≡ blockOf g → placeOf f ≡ placeOf g → f ≡ g
 same-fault f g n b p = sym (fault-by f) ∙ rw (n, b, p) (fault-by g)
@@ -108,14 +110,15 @@ module _ (file : List ℕ) (start : ℕ × ℕ) (i : ℕ) {t : Bool} (e : t ≡ 
   block-lacking h = (rw (← e, h), rw (← e, h))
 
 -- Which numbers have none.
-pub partless-yes : (n : ℕ) → (n ≡ 1) ⊎ (n ≡ 4) → true ≡ partless n
+pub partless-yes : (n : ℕ) → (n ≡ 1) ⊎ ((n ≡ 4) ⊎ (n ≡ 16)) → true ≡ partless n
 unfolding partless
 partless-yes n (inl h) = rw h
-partless-yes n (inr h) = rw h
+partless-yes n (inr (inl h)) = rw h
+partless-yes n (inr (inr h)) = rw h
 
-pub partless-no : (n : ℕ) → ¬ ((n ≡ 1) ⊎ (n ≡ 4)) → false ≡ partless n
+pub partless-no : (n : ℕ) → ¬ ((n ≡ 1) ⊎ ((n ≡ 4) ⊎ (n ≡ 16))) → false ≡ partless n
 unfolding partless
-partless-no n h = rw (ne-eqb n 1 (λ e. h (inl e)), ne-eqb n 4 (λ e. h (inr e)))
+partless-no n h = rw (ne-eqb n 1 (λ e. h (inl e)), ne-eqb n 4 (λ e. h (inr (inl e))), ne-eqb n 16 (λ e. h (inr (inr e))))
 
 -- The same of the refused part.
 module _ (file : List ℕ) (start : ℕ × ℕ) where

@@ -12,7 +12,14 @@ use Rattle.terms.specs.Instance.{Share}
 use Rattle.terms.specs.Decide.{share?}
 use Rattle.terms.specs.Atom.{atomsOf}
 use Rattle.terms.proofs.AnswerLaws.{no-of}
+use Rattle.judge.specs.declared.verdict.Fault.the-variants.{Loader}
+use Rattle.judge.specs.declared.verdict.Verdict.{Verdict}
+use Rattle.judge.specs.declared.verdict.Verdict.the-variants.{Refused}
+use Rattle.judge.specs.declared.checking.LoaderCounts.{LoaderCounts}
+use Rattle.judge.specs.declared.checking.Tally.{Tally}
+use Rattle.judge.specs.declared.checking.Checked.{Checked}
 use Rattle.judge.specs.Verdict.{verdictOf, computing}
+use Rattle.judge.specs.Checked.{pairOf, talliedOf, checkedOf}
 use Rattle.judge.specs.Values.{VerdictValues, verdictValues}
 use Rattle.judge.specs.Line.{textOf, digitsOf, fieldOf, newline, threeFields, acceptedLine, refusedLine, lineOf}
 
@@ -169,14 +176,26 @@ handshake said protects =
 pub data Case : Type 0 where
   -- The file gets this number, with block and place, or 0 with its counts.
   judged : List ℕ → VerdictValues → Case
-  -- This is its line.
-  printed : List ℕ → String → Case
+  -- This is the line of the verdict.
+  printed : Verdict → String → Case
+  -- A check that names this loader number, with this tally: what the verdict says, and the tally that is returned.
+  counted : ℕ → List ℕ → Tally → VerdictValues → Tally → Case
   -- The two terms share no instance, over document 01's atoms.
   apart : Term Variable → Term Variable → Case
 
+-- What a check says and what it returns.
+pub record Outcome : Type 0 where
+  pub verdict : VerdictValues
+  pub tally : Tally
+
+abbrev pub outcome : Checked → Outcome
+outcome c = record { verdict = verdictValues (c .verdict); tally = c .tally }
+
 abbrev pub Holds : Case → Type 0
 Holds (judged file values) = verdictValues (verdictOf file) ≡ values
-Holds (printed file line) = lineOf (verdictOf file) ≡ textOf line
+Holds (printed v line) = lineOf v ≡ textOf line
+Holds (counted n file before values after) =
+    outcome (checkedOf file n before) ≡ record { verdict = values; tally = after }
 Holds (apart s t) = Share (atomsOf eight) s t → ⊥
 
 accepted : ℕ → ℕ → ℕ → ℕ → ℕ → VerdictValues
@@ -184,6 +203,16 @@ accepted blocks secrets goods bads rules = record { number = 0; values = blocks 
 
 refused : ℕ → ℕ → ℕ → VerdictValues
 refused number block place = record { number = number; values = block ∷ place ∷ [] }
+
+-- A tally with these counts, accepted and refused, of loader 0 and of loader 7, and 9 and 9 of the others.
+counts : ℕ → ℕ → LoaderCounts
+counts accepted refused = record { accepted = accepted; refused = refused }
+
+tally : ℕ → ℕ → ℕ → ℕ → Tally
+unfolding counts
+tally a r b s = record {
+  loaders = counts a r ∷ counts 9 9 ∷ counts 9 9 ∷ counts 9 9 ∷ counts 9 9 ∷ counts 9 9 ∷ counts 9 9 ∷ counts b s ∷ [];
+}
 
 -- a. rule with no premise, conclusion {N}2
 a : List ℕ
@@ -201,12 +230,12 @@ unfolding usual from
 k = usual (from N K ∷ [])
 
 pub table : List Case
-unfolding a b k usual joined atoms secret good bad from start accepted refused full more firstAtoms block zeros handshake
+unfolding a b k tally usual joined atoms secret good bad from start accepted refused full more firstAtoms block zeros handshake
 table =
     judged a (accepted 5 2 1 0 1)
-    ∷ printed a "accepted blocks=5 secrets=2 good=1 bad=0 rules=1\n"
+    ∷ printed (verdictOf a) "accepted blocks=5 secrets=2 good=1 bad=0 rules=1\n"
     ∷ judged b (refused 12 4 1)
-    ∷ printed b "refused 12 block=4 place=1\n"
+    ∷ printed (verdictOf b) "refused 12 block=4 place=1\n"
     -- c. {x}2 to {x}4
     ∷ judged (usual (from (encrypted 2 x) (encrypted 4 x) ∷ [])) (refused 12 4 3)
     -- d. {x}4 to x
@@ -226,7 +255,7 @@ table =
     -- j. secret (N, T) alone, the rule of a
     ∷ judged (joined (atoms ∷ secret (pair N T) ∷ good (encrypted 2 s) ∷ start (encrypted 2 N) ∷ [])) (refused 10 1 0)
     ∷ judged k (refused 15 4 0)
-    ∷ printed k "refused 15 block=4 place=0\n"
+    ∷ printed (verdictOf k) "refused 15 block=4 place=0\n"
     -- l. (x, x) and (y, (T, y))
     ∷ apart (pair x x) (pair y (pair T y))
     -- two atom blocks, secrets N and 125, good {*s}126, conclusion {N}126: a rule that uses a key of the second
@@ -325,6 +354,20 @@ table =
     ∷ judged (usual (bad (encrypted 2 (pair I x)) ∷ from (encrypted 2 (pair I N)) T ∷ [])) (refused 15 5 3)
     ∷ judged (usual (bad (encrypted 2 (pair I (pair x s))) ∷ from (encrypted 2 (pair I (pair y N))) T ∷ [])) (refused 15 5 5)
     ∷ judged (usual (bad (encrypted 2 (pair I (pair x s))) ∷ from (encrypted 2 (pair I (pair N y))) T ∷ [])) (accepted 6 2 1 1 1)
+    -- the file of a for loader 0, and for loader 7; the file of b, and an empty one, for loader 7
+    ∷ counted 0 a (tally 0 0 3 4) (accepted 5 2 1 0 1) (tally 1 0 3 4)
+    ∷ counted 7 a (tally 1 0 3 4) (accepted 5 2 1 0 1) (tally 1 0 4 4)
+    ∷ counted 7 b (tally 1 0 4 4) (refused 12 4 1) (tally 1 0 4 5)
+    ∷ counted 7 [] (tally 1 0 4 5) (refused 1 0 0) (tally 1 0 4 6)
+    -- a full count stays, and the other is still raised
+    ∷ counted 7 a (tally 1 0 4_294_967_295 6) (accepted 5 2 1 0 1) (tally 1 0 4_294_967_295 6)
+    ∷ counted 7 b (tally 1 0 4_294_967_295 6) (refused 12 4 1) (tally 1 0 4_294_967_295 7)
+    ∷ counted 0 b (tally 1 4_294_967_295 3 4) (refused 12 4 1) (tally 1 4_294_967_295 3 4)
+    -- numbers above 7: 16 before all else, and every count unaltered
+    ∷ counted 8 a (tally 1 0 4 6) (refused 16 0 0) (tally 1 0 4 6)
+    ∷ counted 15 b (tally 1 0 4 6) (refused 16 0 0) (tally 1 0 4 6)
+    ∷ counted 256 [] (tally 1 0 4 6) (refused 16 0 0) (tally 1 0 4 6)
+    ∷ printed (Refused Loader) "refused 16 block=0 place=0\n"
     ∷ []
 
 -- ---- the theorem
@@ -345,7 +388,7 @@ each (_also_ {c = d} {l = l} p h) c m = go (List·Memᴰ·cases-cons m) (each h 
 
 -- All rows, computed.
 rows : Hold table
-unfolding table computing lineOf acceptedLine refusedLine threeFields fieldOf newline digitsOf share? atomsOf eight
+unfolding table computing checkedOf talliedOf pairOf lineOf acceptedLine refusedLine threeFields fieldOf newline digitsOf share? atomsOf eight
 rows =
     refl also refl also refl also refl also refl also refl also refl also refl also refl also refl also refl also refl also refl
     also refl
@@ -356,6 +399,7 @@ rows =
     also refl also refl also refl also refl also refl also refl also refl also refl also refl
     also refl also refl also refl also refl also refl also refl also refl also refl also refl also refl
     also refl also refl also refl also refl
+    also refl also refl also refl also refl also refl also refl also refl also refl also refl also refl also refl
     also none
 
 -- "The starred ones, gathered in one table under one theorem", with those of the requests: every row of the table holds.

@@ -5,7 +5,7 @@ use generate::random::Random;
 use std::process::ExitCode;
 use verdicts::known::Known;
 use verdicts::lent::Lent;
-use verdicts::{cases, marked_bad, more_atoms, nonce_variables, open_secrets};
+use verdicts::{cases, loaders, marked_bad, more_atoms, nonce_variables, open_secrets};
 use verdicts::{failed, known, proved, Checker, Difference};
 
 fn main() -> ExitCode {
@@ -31,6 +31,7 @@ fn run() -> Result<usize, String> {
         println!("{title}: {} files, {differ} answers differ", list.len());
         wrong += differ;
     }
+    wrong += tallies()?;
     let differ = seals(&proved::CHECKER) + seals(&proved::WITH_NULL);
     println!("sealing: {differ} answers differ");
     Ok(wrong + differ)
@@ -44,6 +45,21 @@ fn told(known: &Known) -> usize {
         println!("{}: {difference}", known.name);
     }
     found.len()
+}
+
+/// Checks that take a tally.
+fn tallies() -> Result<usize, String> {
+    let (all, mut differ) = (loaders::all()?, 0);
+    for counted in &all {
+        let checkers = [proved::CHECKER, proved::WITH_NULL].iter();
+        for difference in checkers.filter_map(|checker| counted.difference(checker)) {
+            println!("{}: {difference}", counted.name);
+            differ += 1;
+        }
+    }
+    let count = all.len();
+    println!("document 02, No. 5: {count} checks with a tally, {differ} answers differ");
+    Ok(differ)
 }
 
 /// Blocks with a known check, and lengths other than 512.
@@ -64,9 +80,9 @@ fn seals(checker: &Checker) -> usize {
 fn seal(checker: &Checker, before: &[u8], after: &[u8], answer: u32) -> Option<Difference> {
     let mut block = Lent::of(before, &mut Random::new(0));
     let mut right = Lent::of(after, &mut Random::new(0));
-    let found = (checker.seal)(block.bytes());
+    let found = (checker.seal)(block.items());
     Difference::between(
-        &format!("sealing {} bytes", right.bytes().len()),
+        &format!("sealing {} bytes", right.items().len()),
         answer.to_string(),
         format!("{found}{}", block.unlike(&right)),
     )

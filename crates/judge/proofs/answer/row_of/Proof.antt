@@ -33,6 +33,8 @@ row-of-spec = tie.close (tie.spec
     (λ c κs. search needs)  -- columns-requires-12
     (λ c. search needs)  -- enum-known-f-12
     (λ c κs. search needs)  -- columns-requires-13
+    (λ c. search needs)  -- enum-told-2
+    (λ c κs. search needs)  -- columns-requires-14
     (λ c. c .columns .ensures ∙ ap rowOf (sym (c .before .enum-told .given .1)))  -- returns
     (λ c. c .columns2 .ensures ∙ ap rowOf (sym (c .before .before .f .given .1)))  -- returns-2
     (λ c. c .columns3 .ensures ∙ ap rowOf (sym (c .before .before .f2 .given .1)))  -- returns-3
@@ -46,4 +48,5 @@ row-of-spec = tie.close (tie.spec
     (λ c. c .columns11 .ensures ∙ ap rowOf (sym (c .before .before .f10 .given .1)))  -- returns-11
     (λ c. c .columns12 .ensures ∙ ap rowOf (sym (c .before .before .f11 .given .1)))  -- returns-12
     (λ c. c .columns13 .ensures ∙ ap rowOf (sym (c .before .before .f12 .given .1)))  -- returns-13
+    (λ c. c .columns14 .ensures ∙ ap rowOf (sym (c .before .enum-told2 .given .1)))  -- returns-14
     )
