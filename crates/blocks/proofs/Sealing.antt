@@ -3,6 +3,7 @@ use mathlib.Core.Path.{_≡_, refl, sym, ap, _∙_, subst}
 use mathlib.Core.Bool.{Bool, true, false, _&&_}
 use mathlib.Core.List.{List, [], _∷_, _++_, append-nil}
 use Prim.Native.Nat.{ℕ, _+_, _/_, _%_, _≤_}
+use native.Mathlib.Decide.{ℕ-discrete}
 use native.Mathlib.Omega.{arith}
 use lib.Dec.{eqb}
 use lib.ListN.{length, getD, take, set, length-append, drop-of-length-le}
@@ -49,6 +50,10 @@ unfolding checkRight
 check-last b size e f h g k = rw (eq-eqb (length b) blockSize size, eq-eqb (wordAt b 508) (checkA b) (sym e ∙ h ∙ f), g, k)
 
 -- ---- sealing
+
+sealed-as : (b : List ℕ) → sealed b ≡ take 508 b ++ (bytesOf (checkA b) ++ bytesOf (checkB b))
+unfolding sealed
+sealed-as b = refl
 
 module _ (b : List ℕ) (size : length b ≡ blockSize) where
   head-length : length (take 508 b) ≡ 508
@@ -104,6 +109,19 @@ module _ (b : List ℕ) (size : length b ≡ blockSize) where
       let a : wordAt (sealed b) 508 ≡ checkA (sealed b) = omega (arith, tail-byte 0, tail-byte 1, sealed-a) in
       let b′ : wordAt (sealed b) 510 ≡ checkB (sealed b) = omega (arith, tail-byte 2, tail-byte 3, sealed-b) in
       right-check (sealed b) (record { size = sealed-length; holds-a = a; holds-b = b′ })
+
+  -- Sealed again it stays as it is.
+  pub sealed-again : sealed (sealed b) ≡ sealed b
+  sealed-again = sealed-as (sealed b) ∙ rw (sealed-head, sealed-a, sealed-b) (sym (sealed-as b))
+
+-- Whatever is handed in: sealing twice leaves what sealing once leaves.
+pub sealing-twice : (b : List ℕ) → afterSealing (afterSealing b) ≡ afterSealing b
+unfolding afterSealing
+sealing-twice b = go (ℕ-discrete (length b) blockSize)
+  where
+    go : Dec (length b ≡ blockSize) → afterSealing (afterSealing b) ≡ afterSealing b
+    go (yes size) = rw (eq-eqb _ _ size, eq-eqb _ _ (sealed-length b size)) (sealed-again b size)
+    go (no other) = rw (ne-eqb _ _ other, ne-eqb _ _ other) refl
 
 -- The answer of the code for other than 512 bytes.
 pub seal-refused : (b : List ℕ) → (length b ≡ blockSize → ⊥)
