@@ -20,9 +20,7 @@ use Rattle.judge.specs.declared.checking.Checked.{Checked}
 use Rattle.judge.specs.File.{certificateOf, countsOf}
 use Rattle.judge.specs.Certificate.{Secret}
 use Rattle.judge.specs.Run.{Step, Derives, after}
-use Rattle.judge.specs.Meaning.{Accepts, RefusedWith, lengthFails, blockFails, missing, secretKnown, secretNotClosed, keyNotKept}
-use Rattle.judge.specs.Meaning.{secretOpen, placeUncovered, BlockFaulty, checkFails, kindFails, layoutFails, atomFails}
-use Rattle.judge.specs.Meaning.{entryFails, patternFails, premiseFails, conclusionFails}
+use Rattle.judge.specs.Meaning.{Accepts, RefusedWith}
 use Rattle.judge.specs.Verdict.{verdictOf}
 use Rattle.judge.specs.Answer.{numberOf, partOf, partless}
 use Rattle.judge.specs.Checked.{loaderCount, IsLoader, full, raisedOf, countedOf, EightPairs, zeroPair, pairOf, talliedOf, checkedOf}
@@ -31,6 +29,7 @@ use Rattle.judge.specs.Calls.{Call, answerTo, Turn, asks, restores, held
 use Rattle.judge.specs.Calls.{ThirtyTwoBits, raisedBy, raisedPair, ifAccepted, ifRefused, acceptedAmong, refusedAmong}
 use Rattle.judge.proofs.Files.Verdicts.{accepted-iff, refused-iff}
 use Rattle.judge.proofs.Files.Bytes.{secrecy-of-accepted}
+use Rattle.judge.proofs.Answering.Packed.{fault-small}
 
 -- ---- one check
 
@@ -76,29 +75,9 @@ module _ (file : List ℕ) (n : ℕ) (t : Tally) where
       back (noLoader e h) = ap (λ (c : Checked). c .verdict) (for-none h) ∙ ap Refused (sym e)
       back (fileRefused h w) = for-file h ∙ refused-iff file fault .1 w
 
-block-number : {file : List ℕ} {i : ℕ} {f : Fault} → BlockFaulty file i f → numberOf f ≤ 8
-block-number (checkFails e n) = rw e (omega arith)
-block-number (kindFails e c n) = rw e (omega arith)
-block-number (layoutFails e c k n) = rw e (omega arith)
-block-number (atomFails e s l low inside off all before) = rw e (omega arith)
-block-number (entryFails e s k l n b) = rw e (omega arith)
-block-number (patternFails e s k r n) = rw e (omega arith)
-block-number (premiseFails e s k r n) = rw e (omega arith)
-block-number (conclusionFails e s k r p n) = rw e (omega arith)
-
 -- No file has this fault: "the C call, the programs and all other tools" never say 16.
 pub never-sixteen : (file : List ℕ) (fault : Fault) → verdictOf file ≡ Refused fault → numberOf fault < 16
-never-sixteen file fault e = go (refused-iff file fault .0 e)
-  where
-    go : RefusedWith file fault → numberOf fault < 16
-    go (lengthFails e n) = rw e (omega arith)
-    go (blockFails l h b w) = omega (arith, block-number w)
-    go (missing e l b n) = rw e (omega arith)
-    go (secretKnown e w i k) = rw e (omega arith)
-    go (secretNotClosed e w u i) = rw e (omega arith)
-    go (keyNotKept e w u c i) = rw e (omega arith)
-    go (secretOpen e w u c k i p) = rw e (omega arith)
-    go (placeUncovered e w u c k n i p) = rw e (omega arith)
+never-sixteen file fault e = let w = fault-small file fault e in let n = w .number in omega arith
 
 -- "An empty part", whatever the file.
 pub no-part : (file : List ℕ) → partOf file (Refused Loader) ≡ []

@@ -31,10 +31,11 @@ use Rattle.judge.proofs.Files.AtomBlocks.{below}
 use Rattle.judge.proofs.Files.LaidLaws.{laid}
 use Rattle.judge.proofs.Files.Verdicts.{refused-iff}
 
--- ---- block and place are small
+-- ---- number, block and place are small
 
--- "At most 64 blocks", and 126 entries in each.
+-- A file is refused with a number up to 15, in one of "at most 64 blocks" of 126 entries each.
 pub record Small (f : Fault) : Type 0 where
+  pub number : numberOf f ≤ 15
   pub block : blockOf f ≤ mostBlocks
   pub place : placeOf f ≤ mostEntries
 
@@ -42,15 +43,17 @@ few-blocks : {file : List ℕ} → LengthRight file → blockCount file ≤ most
 few-blocks l = let m = l .most in omega arith
 
 block-small : {file : List ℕ} {i : ℕ} {f : Fault} → i ≤ mostBlocks → BlockFaulty file i f → Small f
-block-small h (checkFails e n) = rw e (record { block = h; place = omega arith })
-block-small h (kindFails e c n) = rw e (record { block = h; place = omega arith })
-block-small h (layoutFails e c k n) = rw e (record { block = h; place = omega arith })
+block-small h (checkFails e n) = rw e (record { number = omega arith; block = h; place = omega arith })
+block-small h (kindFails e c n) = rw e (record { number = omega arith; block = h; place = omega arith })
+block-small h (layoutFails e c k n) = rw e (record { number = omega arith; block = h; place = omega arith })
 block-small {file} {i} h (atomFails {j} {n} e s l low inside off all before) =
-    rw e (record { block = omega (arith, h, low); place = omega (arith, below file i s l j n low inside .0) })
-block-small h (entryFails e s k l n b) = rw e (record { block = h; place = omega (arith, counts-room (s .laid .layout .counts)) })
-block-small h (patternFails e s k r n) = rw e (record { block = h; place = omega arith })
-block-small h (premiseFails e s k r n) = rw e (record { block = h; place = omega arith })
-block-small h (conclusionFails e s k r p n) = rw e (record { block = h; place = omega (arith, counts-room (s .laid .layout .counts)) })
+    rw e (record { number = omega arith; block = omega (arith, h, low); place = omega (arith, below file i s l j n low inside .0) })
+block-small h (entryFails e s k l n b) =
+    rw e (record { number = omega arith; block = h; place = omega (arith, counts-room (s .laid .layout .counts)) })
+block-small h (patternFails e s k r n) = rw e (record { number = omega arith; block = h; place = omega arith })
+block-small h (premiseFails e s k r n) = rw e (record { number = omega arith; block = h; place = omega arith })
+block-small h (conclusionFails e s k r p n) =
+    rw e (record { number = omega arith; block = h; place = omega (arith, counts-room (s .laid .layout .counts)) })
 
 -- An entry of the conclusion, counted in its block.
 rule-place : {file : List ℕ} {i k : ℕ} → Formed file → i < blockCount file → kindOf (blockAt file i) ≡ ruleKind
@@ -81,17 +84,22 @@ pub fault-small : (file : List ℕ) (f : Fault) → verdictOf file ≡ Refused f
 fault-small file f e = go (refused-iff file f .0 e)
   where
     go : RefusedWith file f → Small f
-    go (lengthFails e n) = rw e (record { block = omega arith; place = omega arith })
+    go (lengthFails e n) = rw e (record { number = omega arith; block = omega arith; place = omega arith })
     go (blockFails l h b w) = block-small (omega (arith, h, few-blocks l)) w
-    go (missing e l b n) = rw e (record { block = few-blocks l; place = omega arith })
-    go (secretKnown e w i k) = rw e (record { block = omega (arith, i .inside, few-blocks (w .long)); place = omega arith })
-    go (secretNotClosed e w u i) = rw e (record { block = omega (arith, i .inside, few-blocks (w .long)); place = omega arith })
-    go (keyNotKept e w u c i) = rw e (record { block = omega (arith, i .inside, few-blocks (w .long)); place = omega arith })
+    go (missing e l b n) = rw e (record { number = omega arith; block = few-blocks l; place = omega arith })
+    go (secretKnown e w i k) =
+        rw e (record { number = omega arith; block = omega (arith, i .inside, few-blocks (w .long)); place = omega arith })
+    go (secretNotClosed e w u i) =
+        rw e (record { number = omega arith; block = omega (arith, i .inside, few-blocks (w .long)); place = omega arith })
+    go (keyNotKept e w u c i) =
+        rw e (record { number = omega arith; block = omega (arith, i .inside, few-blocks (w .long)); place = omega arith })
     go (secretOpen e w u c k i s) = rw e (record {
+      number = omega arith;
       block = omega (arith, i .inside, few-blocks (w .long));
       place = premise-place w (i .inside) (i .is) (s .given) (omega (arith, s .entry, placed-within (placed (s .place) (s .premise) (s .openSecret .stands))));
     })
     go (placeUncovered e w u c k n i p) = rw e (record {
+      number = omega arith;
       block = omega (arith, i .inside, few-blocks (w .long));
       place = rule-place w (i .inside) (i .is) (placed-within (p .stands));
     })
