@@ -3,6 +3,7 @@ pub mod Tests
 pub mod KindLaws
 pub mod Parts
 pub mod Sums
+pub mod ColumnLaws
 pub mod Sealing
 pub mod Noticing
 pub mod Layouts

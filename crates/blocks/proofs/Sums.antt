@@ -1,9 +1,8 @@
 -- Laws of the two sums of specs/Check.antt: one byte more, and one byte changed. Assumes nothing.
-use mathlib.Core.Path.{_≡_, sym}
+use mathlib.Core.Path.{_≡_}
 use mathlib.Core.List.{List, [], _∷_}
-use Prim.Native.Nat.{ℕ, zero, suc, _+_, _-_, _*_, _≤_, _<_}
-use native.Mathlib.Nat.{le-of-suc-le-suc, not-suc-le-zero, add-zero, zero-add, add-suc, suc-add, mul-le-mul}
-use native.Mathlib.Numerals.{add-one}
+use Prim.Native.Nat.{ℕ, zero, suc, _+_, _*_, _<_}
+use native.Mathlib.Nat.{le-of-suc-le-suc, not-suc-le-zero, add-zero, add-suc, suc-add}
 use native.Mathlib.Omega.{arith}
 use lib.ListN.{length, getD, take, set}
 use Rattle.blocks.specs.Check.{total, weighted, weightOf}
@@ -35,29 +34,3 @@ weighted-set k [] i v h = absurd (not-suc-le-zero h)
 weighted-set k (x ∷ l) zero v h = rw (add-zero k) (omega arith)
 weighted-set k (x ∷ l) (suc i) v h =
     rw (add-suc k i) (omega (arith, rw (suc-add k i) at (weighted-set (suc k) l i v (le-of-suc-le-suc h))))
-
--- A turn of the code's loop, at byte i.
-pub total-step : (l : List ℕ) (i : ℕ) {a x : ℕ} → i < length l → a ≡ total (take i l) → x ≡ getD l i 0
-    → a + x ≡ total (take (i + 1) l)
-total-step l i h p q = rw add-one (omega (arith, total-more l i h))
-
-pub weighted-step : (l : List ℕ) (i : ℕ) {b w x : ℕ} → i < length l → b ≡ weighted 0 (take i l) → w ≡ weightOf i → x ≡ getD l i 0
-    → b + w * x ≡ weighted 0 (take (i + 1) l)
-weighted-step l i h p q r = rw (add-one, p, q, r) (rw (zero-add i) at (sym (weighted-more 0 l i h)))
-
--- A weight times a byte.
-pub product-small : {w x : ℕ} → w ≤ 508 → x ≤ 255 → w * x ≤ 129540
-product-small p q = mul-le-mul p q
-
--- ---- the table
-
-unfoldable pub countdown : ℕ → List ℕ
-countdown zero = []
-countdown (suc n) = suc n ∷ countdown n
-
--- Entry i of the countdown from n is n - i.
-pub countdown-at : (n i : ℕ) → i < n → getD (countdown n) i 0 ≡ n - i
-unfolding countdown
-countdown-at zero i h = absurd (not-suc-le-zero h)
-countdown-at (suc n) zero h = omega arith
-countdown-at (suc n) (suc i) h = omega (arith, countdown-at n i (le-of-suc-le-suc h))

@@ -4,3 +4,5 @@ pub mod Limits
 pub mod Block
 pub mod Check
 pub mod Layout
+-- What the parts of the code promise to each other on the way to A and B.
+pub mod Columns

@@ -1,7 +1,7 @@
 // The byte layer of the certificate checker: the blocks of a file, their parts, their check and their layout.
+mod columns;
 pub mod kinds;
 pub mod limits;
-pub mod weights;
 
 ghost use mathlib.Core.Path.{_≡_};
 ghost use Prim.Native.Nat.{_+_, _*_, _≤_, _<_};
@@ -13,6 +13,8 @@ ghost use Rattle.blocks.specs.Block.{HasBlock, hasBlock, blockAt, wordAt
 ghost use Rattle.blocks.specs.Block.{firstEntries, secondEntries, behind, Fitting};
 ghost use Rattle.blocks.specs.Check.{checkA, checkB, checkRight, valuesOf, sealing, sealingValues, afterSealing};
 ghost use Rattle.blocks.specs.Layout.{within, countsRight, zeroFrom, layoutRight};
+use columns::eight_sums;
+use columns::header_sums;
 
 // What a call that seals or prints answers: how many bytes it wrote, or why it wrote none.
 pub enum Writing {
@@ -135,15 +137,15 @@ pub fn check_of(block: &[u8]) -> Check
     ensures b { λ r. ⌜ r .b ≡ checkB (now (block .entry)) ⌝ }
     ensures small { λ r. ⌜ (r .a < 65521) × (r .b < 65521) ⌝ }
 {
-    let weights = weights::table();
-    let mut a: u32 = 0;
-    let mut b: u32 = 0;
-    let mut i = 0;
-    while i < 508 {
-        let x = wide(block[i]) as u32;
-        a = a + x;
-        b = b + weights[i] as u32 * x;
-        i = i + 1;
+    let header = header_sums(block);
+    let mut a = header.a;
+    let mut b = header.b;
+    let mut from = 0;
+    while from < 24 {
+        let eight = eight_sums(block, from);
+        a = a + eight.a;
+        b = b + eight.b;
+        from = from + 8;
     }
     Check {
         a: a % 65521,

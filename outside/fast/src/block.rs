@@ -35,8 +35,9 @@ pub fn check_is_right(block: &Block) -> bool {
         columns += (column as i16 as i32 * sums[column] as i16 as i32) as u32;
     }
     // Byte i stands in column i modulo 32; its weight 508 - i is 32 for each
-    // row below and 28 less the column.
-    let b = COLUMNS as u32 * rows_below + LAST_COLUMNS as u32 * a - columns;
+    // row below and 28 less the column. It wraps if the last bytes outweigh the
+    // others, until these are taken off.
+    let b = (COLUMNS as u32 * rows_below + LAST_COLUMNS as u32 * a).wrapping_sub(columns);
     stored_is(block, a, b)
 }
 
@@ -44,7 +45,7 @@ pub fn check_is_right(block: &Block) -> bool {
 fn stored_is(block: &Block, a: u32, b: u32) -> bool {
     let [c, d, e, f] = [0, 1, 2, 3].map(|i| block[CHECKED + i] as u32);
     let a = (a - c - d - e - f) % MODULUS;
-    let b = (b + d + 2 * e + 3 * f) % MODULUS;
+    let b = b.wrapping_add(d + 2 * e + 3 * f) % MODULUS;
     c | d << 8 | e << 16 | f << 24 == a | b << 16
 }
 

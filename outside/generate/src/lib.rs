@@ -1,4 +1,5 @@
-//! Test files, pairs of terms and lists of calls, each from its seed alone.
+//! Test files, pairs of terms and lists of calls, each from its seed alone; and
+//! blocks with a known check.
 
 pub mod calls;
 pub mod certificate;
@@ -7,6 +8,7 @@ pub mod deep;
 mod joined;
 pub mod pairs;
 pub mod random;
+pub mod seals;
 pub mod sketch;
 pub mod spread;
 

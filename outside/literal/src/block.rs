@@ -1,6 +1,8 @@
 //! Blocks of 512 bytes: header, 126 entries, check.
 
 use crate::numbers::{BLOCK, CHECKED, ENTRY, HEADER, MODULUS};
+#[cfg(test)]
+use crate::slip;
 
 /// Where A and B stand.
 const A: usize = CHECKED;
@@ -8,6 +10,10 @@ const B: usize = CHECKED + 2;
 
 /// A, the sum of bytes 0 to 507, and B, the sum of (508 - i) x byte i.
 pub fn check_of(block: &[u8]) -> (u16, u16) {
+    #[cfg(test)]
+    if let Some(other) = slip::checks::check_otherwise(block) {
+        return other;
+    }
     let mut a: u64 = 0;
     let mut b: u64 = 0;
     for i in 0..CHECKED {

@@ -1,6 +1,6 @@
 //! Test builds only: wrong readings of the document, switched on one at a
-//! time, to see that the generated files or calls tell each from the right
-//! reading.
+//! time, to see that the generated files or calls, or the blocks with a known
+//! check, tell each from the right reading.
 
 use crate::block;
 use crate::hats::{marks_below, Closing, Exception, SureHat};
@@ -11,6 +11,7 @@ use crate::verdict::Refusal;
 use std::cell::Cell;
 
 pub mod bads;
+pub mod checks;
 pub mod loaders;
 pub mod nonces;
 pub mod open_secrets;
@@ -161,6 +162,17 @@ pub enum Slip {
     SixteenForgetsTheTally,
     SixteenNamesTheLoader,
     SixteenHasAPart,
+    // The check of a block; told apart by blocks.
+    WeightsFrom507,
+    WeightsFrom509,
+    WeightsRising,
+    StoredBytesInA,
+    StoredBytesInB,
+    AIn16Bits,
+    BIn16Bits,
+    PartsIn16Bits,
+    ModulusLeft,
+    SumsModulo65536,
 }
 
 thread_local! {

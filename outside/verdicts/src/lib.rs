@@ -12,6 +12,7 @@ pub mod more_atoms;
 pub mod nonce_variables;
 pub mod open_secrets;
 pub mod proved;
+pub mod seals;
 pub mod tally;
 
 use std::fmt::{self, Display};

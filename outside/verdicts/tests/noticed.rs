@@ -1,5 +1,6 @@
 //! A wrong expectation and a wrong checker are noticed.
 
+mod wrong_seals;
 mod wrong_tallies;
 
 use generate::random::Random;
@@ -7,7 +8,7 @@ use literal::{Refusal, Verdict};
 use verdicts::compare::differences;
 use verdicts::known::{self, Known};
 use verdicts::{calls, cases, loaders, marked_bad, more_atoms, nonce_variables, open_secrets};
-use verdicts::{failed, proved, tally, Checker, Difference, Spot};
+use verdicts::{failed, proved, seals, tally, Checker, Difference, Spot};
 
 const FILES: u64 = 300;
 const LISTS: u64 = 40;
@@ -157,6 +158,37 @@ fn wrong_checkers_are_noticed() {
     assert_eq!(with(|c| c.part = part_of_the_next_block), ["part"]);
     assert_eq!(with(|c| c.seal = seal_and_a_byte), ["sealing"]);
     assert_eq!(with(|c| c.seal = |_| 4), ["sealing"]);
+}
+
+/// What differs for the first of the blocks with a known check for which
+/// something does.
+fn noticed_in_blocks(checker: &Checker) -> Vec<String> {
+    let front = seals::front().unwrap();
+    let mut found = seals::all(&front).map(|last| last.differences(checker));
+    let first = found.find(|found| !found.is_empty());
+    first_words(&first.unwrap_or_default(), 1)
+}
+
+#[test]
+fn wrong_sealings_are_noticed_in_blocks() {
+    for (name, seal) in wrong_seals::SEALINGS {
+        let checker = Checker {
+            seal,
+            ..proved::CHECKER
+        };
+        assert_eq!(noticed_in_blocks(&checker), ["sealing"], "{name}");
+    }
+}
+
+#[test]
+fn wrong_checks_are_noticed_in_blocks() {
+    for (name, check) in wrong_seals::CHECKS {
+        let checker = Checker {
+            check,
+            ..proved::CHECKER
+        };
+        assert_eq!(noticed_in_blocks(&checker), ["check"], "{name}");
+    }
 }
 
 /// Each by the comparison of one check, by that of lists, and by the checks

@@ -1,69 +1,55 @@
--- `blocks::check_of` meets its contract: after i bytes the sums are those of the first i bytes, and small enough to fit. Assumes nothing.
-use mathlib.Core.Path.{_≡_, ap}
-use Prim.Native.Nat.{ℕ, _-_, _*_, _%_, _≤_, _<_}
+-- `blocks::check_of` meets its contract: the sums are those of the header and of the columns before `from`, and small enough to
+-- fit. Assumes nothing.
+use mathlib.Core.Path.{_≡_, ap, _∙_}
+use Prim.Native.Nat.{ℕ, _+_, _-_, _*_, _%_, _≤_}
 use native.Mathlib.Omega.{arith}
-use lib.ListN.{length, take, getD}
 use borrow.Author.Needs.{needs}
-use Rattle.blocks.specs.Check.{total, weighted, weightOf, checkA, checkB}
-use Rattle.blocks.proofs.Sums.{total-step, weighted-step, product-small}
+use Rattle.blocks.specs.Block.{byteAt}
+use Rattle.blocks.specs.Check.{weightOf}
+use Rattle.blocks.specs.Columns.{sumOf, columnSum, columnWeighted}
+use Rattle.blocks.proofs.ColumnLaws.{sum-split, columns-a, columns-b}
 use Rattle.blocks.proofs.check_of.Statement.{statement}
 use Rattle.blocks.proofs.check_of.Tie as tie
 
 abbrev Inv-loop : tie.InvT-loop
-Inv-loop block weights a₀ b₀ i₀ a b i =
-    (i ≤ 508) × ((a ≡ total (take i block)) × ((b ≡ weighted 0 (take i block)) × ((a ≤ 255 * i) × (b ≤ 129540 * i))))
+Inv-loop block a₀ b₀ from₀ a b from =
+    ((from ≤ 24) × (from % 8 ≡ 0))
+    × ((a ≡ sumOf (λ i. byteAt block i) 4 + sumOf (columnSum block) from)
+    × ((b ≡ sumOf (λ i. weightOf i * byteAt block i) 4 + sumOf (columnWeighted block) from)
+    × ((a ≤ 1020 + 65535 * from) × (b ≤ 516630 + 3145680 * from))))
 
 abbrev μ-loop : tie.MeasureT-loop
-μ-loop block weights a₀ b₀ i₀ a b i = 508 - i
-
--- The weight read in this turn.
-weight : (c : tie.After-wide Inv-loop μ-loop)
-    → getD (c .before .before .before .before .table .result) (c .before .before .before .loop .i) 0 ≡ weightOf (c .before .before .before .loop .i)
-weight c = c .before .before .before .before .table .ensures _ (omega arith)
-
-small : (c : tie.After-wide Inv-loop μ-loop)
-    → getD (c .before .before .before .before .table .result) (c .before .before .before .loop .i) 0 * c .wide .result ≤ 129540
-small c = product-small (omega (arith, weight c)) (omega arith)
+μ-loop block a₀ b₀ from₀ a b from = 24 - from
 
 again : tie.Need-loop-again Inv-loop μ-loop
 again c =
-    let loop = c .before .before .before .loop in
-    let block = c .before .before .before .before .before .before .args .block .now in
-    let inside : loop .i < length block = omega arith in (
-      search needs,
+    let from = c .before .before .before .before .loop .from in
+    let block = c .before .before .before .before .before .before .before .args .block .now in (
+      (omega arith, omega arith),
       (
-        total-step block (loop .i) inside (loop .inv .1 .0) (c .wide .ensures .0),
-        (
-          weighted-step block (loop .i) inside (loop .inv .1 .1 .0) (weight c) (c .wide .ensures .0),
-          (search needs, omega (arith, small c)),
-        ),
+        omega (arith, sum-split (columnSum block) from 8),
+        (omega (arith, sum-split (columnWeighted block) from 8), (omega arith, omega arith)),
       ),
     )
 
 done : tie.Need-returns Inv-loop μ-loop
-unfolding checkA checkB
 done c =
     let inv = c .before .loop .inv in
-    let all : c .before .loop .i ≡ 508 = omega arith in (
-      ap (λ (n : ℕ). n % 65521) (rw all at (inv .1 .0)),
-      (ap (λ (n : ℕ). n % 65521) (rw all at (inv .1 .1 .0)), search needs),
+    let block = c .before .before .before .before .args .block .now in
+    let all : c .before .loop .from ≡ 24 = omega arith in (
+      ap (λ (n : ℕ). n % 65521) (rw all at (inv .1 .0)) ∙ columns-a block (omega arith),
+      (ap (λ (n : ℕ). n % 65521) (rw all at (inv .1 .1 .0)) ∙ columns-b block (omega arith), search needs),
     )
 
 pub check-of-spec : {M : Type 1} → statement M
-unfolding total weighted
+unfolding sumOf
 check-of-spec = tie.close (tie.spec Inv-loop μ-loop
-    (λ c κs. search needs)  -- table-requires
+    (λ c κs. search needs)  -- header-sums-requires
     (λ c. search needs)  -- loop-holds
-    (λ c. search needs)  -- shared-slice-read-wide
-    (λ c κs. search needs)  -- wide-requires
-    (λ c. search needs)  -- cast-x
+    (λ c κs. search needs)  -- eight-sums-requires
     (λ c. search needs)  -- add-a
-    (λ c. search needs)  -- mul-b
-    (λ c. search needs)  -- array-read-b
-    (λ c. search needs)  -- cast-b
-    (λ c. omega (arith, small c))  -- mul-b-2
-    (λ c. omega (arith, small c))  -- add-b
-    (λ c. search needs)  -- add-i
+    (λ c. search needs)  -- add-b
+    (λ c. search needs)  -- add-from
     (λ c. search needs)  -- loop-less
     again
     done)

@@ -170,6 +170,18 @@ handshake said protects =
     ∷ (session said (atom 0) 2 (atom 10) (atom 1) 4 (atom 12) ++ (session said (atom 1) 4 (atom 12) (atom 0) 2 (atom 11)
     ++ (session said (atom 0) 2 (atom 6) (atom 0) 2 (atom 7) ++ session said (atom 0) 2 (atom 8) (atom 0) 2 (atom 9)))))
 
+-- ---- the largest sums (02, No. 6)
+
+-- So many bytes 255.
+bytes255 : ℕ → List ℕ
+bytes255 zero = []
+bytes255 (suc n) = 255 ∷ bytes255 n
+
+-- A block of them, with these four bytes for its check.
+largest : List ℕ → List ℕ
+unfolding bytes255
+largest check = bytes255 508 ++ check
+
 -- ---- the table
 
 -- What the documents say of a case.
@@ -230,7 +242,7 @@ unfolding usual from
 k = usual (from N K ∷ [])
 
 pub table : List Case
-unfolding a b k tally usual joined atoms secret good bad from start accepted refused full more firstAtoms block zeros handshake
+unfolding a b k tally usual joined atoms secret good bad from start accepted refused full more firstAtoms block zeros handshake largest
 table =
     judged a (accepted 5 2 1 0 1)
     ∷ printed (verdictOf a) "accepted blocks=5 secrets=2 good=1 bad=0 rules=1\n"
@@ -368,6 +380,10 @@ table =
     ∷ counted 15 b (tally 1 0 4 6) (refused 16 0 0) (tally 1 0 4 6)
     ∷ counted 256 [] (tally 1 0 4 6) (refused 16 0 0) (tally 1 0 4 6)
     ∷ printed (Refused Loader) "refused 16 block=0 place=0\n"
+    -- 508 bytes 255, A 64,019 and B 10,867: the check is right, and the kind is not; B by weights from 507, and from 509
+    ∷ judged (largest (19 ∷ 250 ∷ 115 ∷ 42 ∷ [])) (refused 3 0 0)
+    ∷ judged (largest (19 ∷ 250 ∷ 81 ∷ 48 ∷ [])) (refused 2 0 0)
+    ∷ judged (largest (19 ∷ 250 ∷ 149 ∷ 36 ∷ [])) (refused 2 0 0)
     ∷ []
 
 -- ---- the theorem
@@ -400,6 +416,7 @@ rows =
     also refl also refl also refl also refl also refl also refl also refl also refl also refl also refl
     also refl also refl also refl also refl
     also refl also refl also refl also refl also refl also refl also refl also refl also refl also refl also refl
+    also refl also refl also refl
     also none
 
 -- "The starred ones, gathered in one table under one theorem", with those of the requests: every row of the table holds.

@@ -1,12 +1,14 @@
 //! Asks the archive about every file with a known answer, and prints what it
 //! answers otherwise.
 
-use generate::random::Random;
 use std::process::ExitCode;
 use verdicts::known::Known;
-use verdicts::lent::Lent;
+use verdicts::seals::{self, sealing};
 use verdicts::{cases, loaders, marked_bad, more_atoms, nonce_variables, open_secrets};
 use verdicts::{failed, known, proved, Checker, Difference};
+
+/// Blocks whose differences are shown; of the others only how many there are.
+const SHOWN: usize = 20;
 
 fn main() -> ExitCode {
     command::run(|_| Ok(run()? == 0))
@@ -31,8 +33,8 @@ fn run() -> Result<usize, String> {
         println!("{title}: {} files, {differ} answers differ", list.len());
         wrong += differ;
     }
-    wrong += tallies()?;
-    let differ = seals(&proved::CHECKER) + seals(&proved::WITH_NULL);
+    wrong += tallies()? + blocks()?;
+    let differ = document_seals(&proved::CHECKER) + document_seals(&proved::WITH_NULL);
     println!("sealing: {differ} answers differ");
     Ok(wrong + differ)
 }
@@ -41,10 +43,14 @@ fn run() -> Result<usize, String> {
 fn told(known: &Known) -> usize {
     let mut found = known.differences(&proved::CHECKER);
     found.extend(known.differences(&proved::WITH_NULL));
-    for difference in &found {
-        println!("{}: {difference}", known.name);
-    }
+    tell(&known.name, &found);
     found.len()
+}
+
+fn tell(name: &str, found: &[Difference]) {
+    for difference in found {
+        println!("{name}: {difference}");
+    }
 }
 
 /// Checks that take a tally.
@@ -62,8 +68,26 @@ fn tallies() -> Result<usize, String> {
     Ok(differ)
 }
 
-/// Blocks with a known check, and lengths other than 512.
-fn seals(checker: &Checker) -> usize {
+/// Blocks with a known check, sealed and judged.
+fn blocks() -> Result<usize, String> {
+    let front = seals::front()?;
+    let (mut count, mut shown, mut differ) = (0, 0, 0);
+    for last in seals::all(&front) {
+        let mut found = last.differences(&proved::CHECKER);
+        found.extend(last.differences(&proved::WITH_NULL));
+        if !found.is_empty() && shown < SHOWN {
+            shown += 1;
+            tell(&last.seal.name, &found);
+        }
+        count += 1;
+        differ += found.len();
+    }
+    println!("document 02, No. 6: {count} blocks sealed and judged, {differ} answers differ");
+    Ok(differ)
+}
+
+/// The document's blocks with their checks, and lengths other than 512.
+fn document_seals(checker: &Checker) -> usize {
     let right = cases::sealed().map(|(bytes, check)| {
         let before = [&bytes[..], &[7; 4]].concat();
         (before, [&bytes[..], &check].concat(), 4)
@@ -71,19 +95,8 @@ fn seals(checker: &Checker) -> usize {
     let wrong = [0, 1, 508, 511, 513, 1024].map(|n| (vec![7; n], vec![7; n], failed(13)));
     let all = right.iter().chain(&wrong);
     let found: Vec<Difference> = all
-        .filter_map(|(before, after, answer)| seal(checker, before, after, *answer))
+        .filter_map(|(before, after, answer)| sealing(checker, before, after, *answer))
         .collect();
     found.iter().for_each(|difference| println!("{difference}"));
     found.len()
-}
-
-fn seal(checker: &Checker, before: &[u8], after: &[u8], answer: u32) -> Option<Difference> {
-    let mut block = Lent::of(before, &mut Random::new(0));
-    let mut right = Lent::of(after, &mut Random::new(0));
-    let found = (checker.seal)(block.items());
-    Difference::between(
-        &format!("sealing {} bytes", right.items().len()),
-        answer.to_string(),
-        format!("{found}{}", block.unlike(&right)),
-    )
 }
