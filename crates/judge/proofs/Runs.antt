@@ -3,3 +3,4 @@ pub mod Safe
 pub mod Derive
 pub mod Steps
 pub mod Secrecy
+pub mod Moves

@@ -1,10 +1,11 @@
--- Cover (document 01, "Hats and cover", and 02, No. 2 and No. 4).
+-- Cover (document 01, "Hats and cover", and 02, No. 2, No. 4 and No. 7: neither a hash nor a signature is a hat, and neither
+-- closes a place; encryptions alone do).
 use mathlib.Core.Path.{_≡_}
 use mathlib.Core.List.{_++_}
 use mathlib.Core.Option.{some}
 use Prim.Native.Nat.{ℕ}
 use Rattle.terms.specs.Term.{Term, variable, encrypted, Message, Variable, Range, asTerm}
-use Rattle.terms.specs.Place.{Place, subtermAt, StrictlyAbove, AtOrAbove}
+use Rattle.terms.specs.Place.{Place, subtermAt, StrictlyAbove, AtOrAbove, IsPlace}
 use Rattle.terms.specs.Entry.{Placed}
 use Rattle.terms.specs.Instance.{Matches, Share}
 use Rattle.judge.specs.Certificate.{Rule, Certificate, Secret, Good, Bad}
@@ -62,6 +63,7 @@ pub record AtOpenPlace (certificate : Certificate) (rule : Rule) (t : Term Varia
   pub premise : Term Variable
   pub given : rule .premise ≡ some premise
   pub place : Place
+  pub isPlace : IsPlace premise place
   pub stands : subtermAt place premise ≡ some t
   pub isOpen : Open certificate premise place
 
@@ -69,6 +71,7 @@ pub record AtOpenPlace (certificate : Certificate) (rule : Rule) (t : Term Varia
 pub record SecretOpenAt (certificate : Certificate) (premise : Term Variable) (p : Place) : Type 0 where
   pub secret : Message
   pub listed : Secret certificate secret
+  pub isPlace : IsPlace premise p
   pub stands : subtermAt p premise ≡ some (asTerm secret)
   pub isOpen : Open certificate premise p
 
@@ -93,10 +96,11 @@ pub data Covered (certificate : Certificate) (rule : Rule) (p : Place) (t : Term
 
 -- A rule passes if every risky place of its conclusion is covered. (02, No. 4: "the dead-rule allowance ends".)
 pub record Passes (certificate : Certificate) (rule : Rule) : Type 0 where
-  pub covered : (p : Place) (t : Term Variable) → subtermAt p (rule .conclusion) ≡ some t → Risky certificate t →
-      Covered certificate rule p t
+  pub covered : (p : Place) (t : Term Variable) → subtermAt p (rule .conclusion) ≡ some t → IsPlace (rule .conclusion) p →
+      Risky certificate t → Covered certificate rule p t
 
 -- A place of the conclusion that stands at entry k is covered if it is risky.
 abbrev pub FineAt : Certificate → Rule → ℕ → Type 0
 FineAt certificate rule k =
-    (p : Place) (t : Term Variable) → Placed (rule .conclusion) k p t → Risky certificate t → Covered certificate rule p t
+    (p : Place) (t : Term Variable) → Placed (rule .conclusion) k p t → IsPlace (rule .conclusion) p → Risky certificate t →
+    Covered certificate rule p t

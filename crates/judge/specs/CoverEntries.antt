@@ -1,5 +1,5 @@
--- Cover on the entries of a rule: what the walks over them promise. Entry k stands at the k-th place, and the subterm
--- there is what the entries from k on begin with (terms/proofs/PlacedLaws.antt).
+-- Cover on the entries of a rule: what the walks over them promise. The subterm at entry k is what the entries from k on begin
+-- with (terms/proofs/PlacedLaws.antt); it stands at a place if no hash stands above it (terms/proofs/PlaceEntryLaws.antt).
 use mathlib.Core.Path.{_≡_}
 use mathlib.Core.Bool.{Bool, true, false}
 use mathlib.Core.List.{List, _++_}
@@ -18,6 +18,7 @@ use Rattle.terms.specs.Seek.{Becomes}
 use Rattle.terms.specs.Entry.{size, termOf, Begins, from, entryAt}
 use Rattle.terms.specs.Tag.{MarkedTag}
 use Rattle.terms.specs.TermGraph.{SizesOf}
+use Rattle.terms.specs.PlaceEntries.{PlaceEntry}
 use Rattle.judge.specs.Certificate.{Certificate, Good, Bad}
 use Rattle.judge.specs.Hat.{MarkAt, Marked}
 use Rattle.judge.specs.Laid.{Laid}
@@ -233,9 +234,10 @@ pub record OpenEntry (certificate : Certificate) (e : List ℕ) (k : ℕ) : Type
   pub some-entry : ¬ (length e ≡ 0)
   pub isOpen : OpenBelow certificate e (size (termOf e)) k
 
--- P holds of the subterm at an open entry.
+-- P holds of the subterm at an open entry that stands at a place.
 pub record OpenHolds (certificate : Certificate) (e : List ℕ) (P : Term Variable → Type 0) : Type 0 where
   pub number : ℕ
+  pub place : PlaceEntry e number
   pub isOpen : OpenEntry certificate e number
   pub holds : P (subAt e number)
 
@@ -276,9 +278,10 @@ pub record IndexedBelow (e flags : List ℕ) (n : ℕ) (index : List ℕ) : Type
 abbrev pub Indexed : List ℕ → List ℕ → List ℕ → Type 0
 Indexed e flags index = IndexedBelow e flags entryFlags index
 
--- Entry k is one of these entries, and P holds of it.
+-- Entry k is one of these entries, at a place, and P holds of it.
 pub record EntryWith (e : List ℕ) (P : ℕ → Type 0) (k : ℕ) : Type 0 where
   pub inside : 4 * k < length e
+  pub place : PlaceEntry e k
   pub holds : P k
 
 -- Entry k of the conclusion is risky.
@@ -297,9 +300,9 @@ pub data Wanted (certificate : Certificate) (premise conclusion risky : List ℕ
 abbrev pub WantedEntry : Certificate → List ℕ → List ℕ → List ℕ → ℕ → Type 0
 WantedEntry certificate premise conclusion risky = EntryWith premise (Wanted certificate premise conclusion risky)
 
--- Entry k of the conclusion is covered if it is risky.
+-- Entry k of the conclusion, if it stands at a place and is risky, is covered.
 pub record FineEntry (certificate : Certificate) (premise conclusion : List ℕ) (k : ℕ) : Type 0 where
-  pub covered : Risky certificate (subAt conclusion k)
+  pub covered : PlaceEntry conclusion k → Risky certificate (subAt conclusion k)
       → HatBelow certificate conclusion (size (termOf conclusion)) k ⊎ OpenHolds certificate premise (λ s. s ≡ subAt conclusion k)
 
 -- What the walks over a rule's conclusion ask for.

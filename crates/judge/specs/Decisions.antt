@@ -7,14 +7,14 @@ use lib.ListN.{length}
 use Prim.Native.Nat.{ℕ}
 use native.Mathlib.Decide.{ℕ-discrete, decLt}
 use native.Mathlib.Omega.{arith}
-use Rattle.terms.specs.Term.{Term, variable, atom, pair, encrypted, Message, replace, asTerm, Variable, sort, plain, marked, Range, named, wrapped, encryption}
+use Rattle.terms.specs.Term.{Term, variable, atom, pair, encrypted, Message, replace, asTerm, Variable, sort, plain, marked, Range, named, wrapped, encryption, hash, signature}
 use Rattle.terms.specs.declared.atom.Atom.{Atom}
 use Rattle.terms.specs.Atom.{knownOf, atomAt}
 use Rattle.terms.specs.Place.{Place, subtermAt}
 use Rattle.terms.specs.Decide as decide
 use Rattle.terms.specs.Instance.{Matches, Share}
 use Rattle.terms.specs.Decisions.{dec-map, dec-not, dec-and, dec-or}
-use Rattle.terms.specs.Search.{any?, all?, member?, any-above?, all-above?, at-or-above?, any-place?}
+use Rattle.terms.specs.Search.{any?, all?, member?, any-above?, all-above?, at-or-above?, is-place?, any-place?}
 use Rattle.judge.specs.Certificate.{Rule, Certificate, Secret, Good, Bad, Known, inverse}
 use Rattle.judge.specs.Hat.{markNamed, Mark, Marked, Cancels, everywhere, atMark}
 use Rattle.judge.specs.Cover.{MarkBelow, MayCancel, cancels, belowPlace, SureHat, NoHat, sharesNoGood, isBad, Open, AtOpenPlace, Risky, isVariable}
@@ -56,11 +56,15 @@ weakly-closed? certificate (variable x) = absurd x
 weakly-closed? certificate (atom a) = yes (record {
   ofPair = λ m n e. let z : _≡_ {A = ℕ} 0 1 = cc in absurd (omega arith);
   ofEncrypted = λ m k e. let z : _≡_ {A = ℕ} 0 1 = cc in absurd (omega arith);
+  ofHashed = λ m k e. let z : _≡_ {A = ℕ} 0 1 = cc in absurd (omega arith);
+  ofSigned = λ m k e. let z : _≡_ {A = ℕ} 0 1 = cc in absurd (omega arith);
 })
 weakly-closed? certificate (pair m n) =
     dec-map (λ h. record {
       ofPair = λ m′ n′ e. let a : m ≡ m′ = cc in let b : n ≡ n′ = cc in rw (a, b) at h;
       ofEncrypted = λ m′ k e. let z : _≡_ {A = ℕ} 0 1 = cc in absurd (omega arith);
+      ofHashed = λ m′ k e. let z : _≡_ {A = ℕ} 0 1 = cc in absurd (omega arith);
+      ofSigned = λ m′ k e. let z : _≡_ {A = ℕ} 0 1 = cc in absurd (omega arith);
     })
     (λ h. h .ofPair m n refl)
     (dec-or (secret? certificate m) (λ o. secret? certificate n))
@@ -68,8 +72,28 @@ weakly-closed? certificate (wrapped encryption k m) =
     dec-map (λ h. record {
       ofPair = λ m′ n e. let z : _≡_ {A = ℕ} 0 1 = cc in absurd (omega arith);
       ofEncrypted = λ m′ k′ e. let a : m ≡ m′ = cc in let b : k ≡ k′ = cc in rw (a, b) at h;
+      ofHashed = λ m′ k′ e. let z : _≡_ {A = ℕ} 0 1 = cc in absurd (omega arith);
+      ofSigned = λ m′ k′ e. let z : _≡_ {A = ℕ} 0 1 = cc in absurd (omega arith);
     })
     (λ h. h .ofEncrypted m k refl)
+    (dec-or (secret? certificate m) (λ o. secret? certificate (atom k)))
+weakly-closed? certificate (wrapped hash k m) =
+    dec-map (λ h. record {
+      ofPair = λ m′ n e. let z : _≡_ {A = ℕ} 0 1 = cc in absurd (omega arith);
+      ofEncrypted = λ m′ k′ e. let z : _≡_ {A = ℕ} 0 1 = cc in absurd (omega arith);
+      ofHashed = λ m′ k′ e. let a : m ≡ m′ = cc in rw a at h;
+      ofSigned = λ m′ k′ e. let z : _≡_ {A = ℕ} 0 1 = cc in absurd (omega arith);
+    })
+    (λ h. h .ofHashed m k refl)
+    (secret? certificate m)
+weakly-closed? certificate (wrapped signature k m) =
+    dec-map (λ h. record {
+      ofPair = λ m′ n e. let z : _≡_ {A = ℕ} 0 1 = cc in absurd (omega arith);
+      ofEncrypted = λ m′ k′ e. let z : _≡_ {A = ℕ} 0 1 = cc in absurd (omega arith);
+      ofHashed = λ m′ k′ e. let z : _≡_ {A = ℕ} 0 1 = cc in absurd (omega arith);
+      ofSigned = λ m′ k′ e. let a : m ≡ m′ = cc in let b : k ≡ k′ = cc in rw (a, b) at h;
+    })
+    (λ h. h .ofSigned m k refl)
     (dec-or (secret? certificate m) (λ o. secret? certificate (atom k)))
 
 -- 11
@@ -81,6 +105,8 @@ kept-key? certificate (wrapped encryption k t) =
 kept-key? certificate (variable x) = no (λ h. let e = h .same in let z : _≡_ {A = ℕ} 0 1 = cc in omega arith)
 kept-key? certificate (atom a) = no (λ h. let e = h .same in let z : _≡_ {A = ℕ} 0 1 = cc in omega arith)
 kept-key? certificate (pair t u) = no (λ h. let e = h .same in let z : _≡_ {A = ℕ} 0 1 = cc in omega arith)
+kept-key? certificate (wrapped hash k t) = no (λ h. let e = h .same in let z : _≡_ {A = ℕ} 0 1 = cc in omega arith)
+kept-key? certificate (wrapped signature k t) = no (λ h. let e = h .same in let z : _≡_ {A = ℕ} 0 1 = cc in omega arith)
 
 -- A mark of a pattern.
 unfoldable pub marked? : (t : Term Variable) → Dec ((n : Range × ℕ) × (t ≡ variable (markNamed n)))
@@ -231,10 +257,12 @@ module _ (certificate : Certificate) where
       here q (some (wrapped encryption k t)) e =
           dec-map (λ h k′ t′ f. let a : k ≡ k′ = cc in let b : t ≡ t′ = cc in rw (a, b) at h) (λ h. h k t e)
           (no-hat? (encrypted k t) q p)
+      here q (some (wrapped hash k t)) e = other q e (λ k′ t′ f. let z : _≡_ {A = ℕ} 0 1 = cc in omega arith)
+      here q (some (wrapped signature k t)) e = other q e (λ k′ t′ f. let z : _≡_ {A = ℕ} 0 1 = cc in omega arith)
 
   -- The term, symbol for symbol, at an open place of the premise.
   unfoldable pub at-open-place? : (rule : Rule) (t : Term Variable) → Dec (AtOpenPlace certificate rule t)
-  unfolding dec-map dec-and any-place? same-term? open?
+  unfolding dec-map dec-and any-place? same-term? is-place? open?
   at-open-place? rule t = here (rule .premise) refl
     where
       here : (o : Option (Term Variable)) → rule .premise ≡ o → Dec (AtOpenPlace certificate rule t)
@@ -244,24 +272,25 @@ module _ (certificate : Certificate) where
             premise = premise;
             given = e;
             place = w .0 .0;
+            isPlace = w .2 .1 .0;
             stands = w .1 ∙ ap some (w .2 .0);
-            isOpen = w .2 .1;
+            isOpen = w .2 .1 .1;
           })
           (λ h. let same : h .premise ≡ premise = cc in
-          ((h .place, t), (rw same at (h .stands)), (refl, (rw same at (h .isOpen)))))
-          (any-place? premise (λ w. dec-and (same-term? (w .1) t) (λ s. open? premise (w .0))))
+          ((h .place, t), (rw same at (h .stands)), (refl, ((rw same at (h .isPlace)), (rw same at (h .isOpen))))))
+          (any-place? premise (λ w. dec-and (same-term? (w .1) t) (λ s. dec-and (is-place? premise (w .0)) (λ q. open? premise (w .0)))))
 
   -- A listed secret at this open place of a premise.
   unfoldable pub secret-open? : (premise : Term Variable) (p : Place) → Dec (SecretOpenAt certificate premise p)
-  unfolding subtermAt dec-map dec-and any? same-term? open? asTerm replace
+  unfolding subtermAt dec-map dec-and any? same-term? is-place? open? asTerm replace
   secret-open? premise p = here (subtermAt p premise) refl
     where
       here : (o : Option (Term Variable)) → subtermAt p premise ≡ o → Dec (SecretOpenAt certificate premise p)
       here none e = no (λ h. Option·none-ne-some _ (sym e ∙ h .stands))
       here (some t) e =
-          dec-map (λ w. record { secret = w .0; listed = w .1; stands = e ∙ ap some (w .2 .0); isOpen = w .2 .1 })
-          (λ h. let f = h .stands in (h .secret, h .listed, (cc, h .isOpen)))
-          (any? (certificate .secrets) (λ secret. dec-and (same-term? t (asTerm secret)) (λ s. open? premise p)))
+          dec-map (λ w. record { secret = w .0; listed = w .1; isPlace = w .2 .1 .0; stands = e ∙ ap some (w .2 .0); isOpen = w .2 .1 .1 })
+          (λ h. let f = h .stands in (h .secret, h .listed, (cc, (h .isPlace, h .isOpen))))
+          (any? (certificate .secrets) (λ secret. dec-and (same-term? t (asTerm secret)) (λ s. dec-and (is-place? premise p) (λ q. open? premise p))))
 
   -- Risky place of a conclusion.
   unfoldable pub risky? : (t : Term Variable) → Dec (Risky certificate t)

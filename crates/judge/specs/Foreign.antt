@@ -5,8 +5,9 @@ use mathlib.Core.Path.{_≡_}
 use mathlib.Core.Logic.{_↔_}
 use mathlib.Core.Option.{some}
 use Prim.Native.Nat.{ℕ, _<_}
-use Rattle.terms.specs.Term.{Term, variable, encrypted, Message, Variable, rangeOf, asTerm, Foreign}
+use Rattle.terms.specs.Term.{Term, variable, encrypted, Message, Variable, Wrapping, rangeOf, asTerm, Foreign}
 use Rattle.terms.specs.Atom.{IsKey}
+use Rattle.terms.specs.TermEntry.{NumberRight}
 use Rattle.terms.specs.Place.{Place, subtermAt, StrictlyAbove}
 use Rattle.terms.specs.Built.{Built, BuiltMatch, BuiltShare, MessageAtom}
 use Rattle.judge.specs.Certificate.{Rule, Certificate, Secret, Good, Bad, Listed}
@@ -15,8 +16,8 @@ use Rattle.judge.specs.Cover.{MayCancel, Risky, SureHat, Open}
 
 -- ---- what a certificate's terms hold
 
--- Every atom a of every listed term has A a, and every key k has K k.
-pub record Holding (A K : ℕ → Type 0) (certificate : Certificate) : Type 0 where
+-- Every atom a of every listed term has A a, and every number k with something around a term, w, has K w k.
+pub record Holding (A : ℕ → Type 0) (K : Wrapping → ℕ → Type 0) (certificate : Certificate) : Type 0 where
   pub secrets : (m : Message) → Secret certificate m → Built A K m
   pub goods : (t : Term Variable) → Good certificate t → Built A K t
   pub bads : (t : Term Variable) → Bad certificate t → Built A K t
@@ -26,17 +27,17 @@ pub record Holding (A K : ℕ → Type 0) (certificate : Certificate) : Type 0 w
 -- "Foreign atoms are in no file": none is an atom or a key of a listed term. "All are nonces": none is a key, and `Nonce`
 -- (terms/specs/Atom.antt) says that each is one.
 pub record NoForeign (certificate : Certificate) : Type 0 where
-  pub terms : Holding (λ a. a < 1000) (λ k. k < 1000) certificate
+  pub terms : Holding (λ a. a < 1000) (λ w k. k < 1000) certificate
   pub keys : (k : ℕ) → Foreign k → IsKey (certificate .atoms) k → ⊥
 
--- ---- messages over the listed and the foreign atoms alone, with listed keys
+-- ---- messages over the listed and the foreign atoms alone, with listed keys (private ones to sign with, and 0 with a hash)
 
 -- Replaced by such terms; and shared: such a message, by such replacements.
 abbrev pub ProperMatch : Certificate → Term Variable → Term Variable → Type 0
-ProperMatch certificate p t = BuiltMatch (MessageAtom (certificate .atoms)) (IsKey (certificate .atoms)) (certificate .atoms) rangeOf p t
+ProperMatch certificate p t = BuiltMatch (MessageAtom (certificate .atoms)) (NumberRight (certificate .atoms)) (certificate .atoms) rangeOf p t
 
 abbrev pub ProperShare : Certificate → Term Variable → Term Variable → Type 0
-ProperShare certificate s t = BuiltShare (MessageAtom (certificate .atoms)) (IsKey (certificate .atoms)) (certificate .atoms) s t
+ProperShare certificate s t = BuiltShare (MessageAtom (certificate .atoms)) (NumberRight (certificate .atoms)) (certificate .atoms) s t
 
 -- `Risky`, `SureHat`, `NoHat` and `Open` of Cover.antt, with these.
 pub data ProperRisky (certificate : Certificate) (t : Term Variable) : Type 0 where

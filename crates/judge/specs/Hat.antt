@@ -12,7 +12,9 @@ use Rattle.judge.specs.Certificate.{Certificate, Good, Bad}
 abbrev pub markNamed : Range × ℕ → Variable
 markNamed name = named (sort marked (name .0)) (name .1)
 
--- The mark of this name stands at this place of the pattern.
+-- The mark of this name stands at this place of the pattern. (Marks and places compare by the turns that lead to them, so a mark
+-- below a hash, where there is no place, counts too: a bad pattern with such a mark is a marked one, and the mark is below every
+-- place above it. In a good pattern it covers none.)
 abbrev pub MarkAt : Term Variable → Place → Range × ℕ → Type 0
 MarkAt pattern place name = subtermAt place pattern ≡ some (variable (markNamed name))
 

@@ -2,7 +2,7 @@
 use mathlib.Core.Path.{_≡_}
 use mathlib.Core.Bool.{true, false}
 use mathlib.Core.List.{List, [], map, List·Memᴰ}
-use mathlib.Core.Logic.{_⊎_, inl, inr, _↔_}
+use mathlib.Core.Logic.{_⊎_, _↔_}
 use Prim.Native.Nat.{ℕ, _+_, _*_, _-_, _%_, _<_, _≤_}
 use native.Mathlib.Decide.{ℕ-discrete}
 use lib.Dec.{eqb}
@@ -125,12 +125,13 @@ pub record SizeOf (e : List ℕ) (n : ℕ) : Type 0 where
   pub is : n ≡ size (termOf e)
   pub fits : 4 * n ≤ length e
 
--- Slots of roots: for atoms, pairs and encryptions 256 each, so that no two atoms share one, for variables 32.
+-- Slots of roots: for atoms, for pairs and for what is put around a term 256 each, so that no two atoms share one, for variables
+-- 32.
 abbrev pub pairRoots : ℕ
 pairRoots = 256
 
-abbrev pub encryptionRoots : ℕ
-encryptionRoots = 512
+abbrev pub wrapperRoots : ℕ
+wrapperRoots = 512
 
 abbrev pub variableRoots : ℕ
 variableRoots = 768
@@ -143,10 +144,9 @@ rootSlots = variableRoots + slotCount
 abbrev pub slotFor : {tag : ℕ} → Tagged tag → ℕ → ℕ → ℕ
 slotFor (anAtom e) n left = n % pairRoots
 slotFor (aPair e) n left = pairRoots + left % pairRoots
-slotFor (aWrapping w e) n left = encryptionRoots + n % pairRoots
+slotFor (aWrapping w e) n left = wrapperRoots + n % pairRoots
 slotFor (aVariable s e) n left = variableRoots + n % slotCount
-slotFor (noTag (inl low)) n left = n % pairRoots
-slotFor (noTag (inr high)) n left = variableRoots + n % slotCount
+slotFor (noTag e) n left = wrapperRoots + n % pairRoots
 
 unfoldable pub slotBy : ℕ → ℕ → ℕ → ℕ
 unfolding tagged

@@ -1,14 +1,16 @@
--- The intruder and runs (document 01, "Messages, intruder, runs").
+-- The intruder and runs (document 01, "Messages, intruder, runs", and 02, No. 7).
 use mathlib.Core.Path.{_≡_}
 use mathlib.Core.List.{List, [], _∷_}
 use mathlib.Core.Option.{none, some}
 use Prim.Native.Nat.{ℕ}
-use Rattle.terms.specs.Term.{Term, atom, pair, encrypted, Message, Variable, noVariable, Foreign, instance}
+use Rattle.terms.specs.Term.{Term, atom, pair, encrypted, hashed, signed, Message, Variable, noVariable, Foreign, instance}
 use Rattle.terms.specs.Instance.{PutsNonces}
 use Rattle.judge.specs.Certificate.{Rule, Certificate, Listed, Known, inverse}
 
 -- What the intruder derives: what it has, pairs of derived messages, {m}k from m and k, both halves of a pair, and m
--- from {m}k when it derives the inverse of k. It makes any number of such moves, and nothing is derived otherwise.
+-- from {m}k when it derives the inverse of k; "it makes a hash from the message and gets nothing out of one; it signs with a key
+-- it has and reads the message under any signature" (02, No. 7). It makes any number of such moves, and nothing is derived
+-- otherwise. (It may sign with any atom that it derives, and give a hash any number: an intruder that can do more.)
 pub data Derives (certificate : Certificate) (has : Message → Type 0) : Message → Type 0 where
   had : {m : Message} → has m → Derives certificate has m
   pairs : {m n : Message} → Derives certificate has m → Derives certificate has n → Derives certificate has (pair m n)
@@ -18,6 +20,10 @@ pub data Derives (certificate : Certificate) (has : Message → Type 0) : Messag
   rightHalf : {m n : Message} → Derives certificate has (pair m n) → Derives certificate has n
   decrypts : {m : Message} {k : ℕ} → Derives certificate has (encrypted k m) →
       Derives certificate has (atom (inverse certificate k)) → Derives certificate has m
+  hashes : {m : Message} {n : ℕ} → Derives certificate has m → Derives certificate has (hashed n m)
+  signs : {m : Message} {k : ℕ} → Derives certificate has m → Derives certificate has (atom k) →
+      Derives certificate has (signed k m)
+  readsSigned : {m : Message} {k : ℕ} → Derives certificate has (signed k m) → Derives certificate has m
 
 -- At a run's start the intruder has the known and the foreign atoms.
 pub data Start (certificate : Certificate) (m : Message) : Type 0 where

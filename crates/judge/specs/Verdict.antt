@@ -24,7 +24,8 @@ use Rattle.terms.specs.Reading.{oneTerm?}
 use Rattle.terms.specs.First.{firstNot}
 use Rattle.terms.specs.Decisions.{dec-implies, dec-not}
 use Rattle.terms.specs.Term.{Term, Variable}
-use Rattle.terms.specs.Place.{Spot, spots}
+use Rattle.terms.specs.Place.{IsPlace, Spot, spots}
+use Rattle.terms.specs.Search.{is-place?}
 use Rattle.terms.specs.Decide.{answer}
 use Rattle.judge.specs.declared.verdict.Fault.{Fault}
 use Rattle.judge.specs.declared.verdict.Fault.the-variants.{Length, Check, Kind, Missing, Layout, AtomEntry, TermEntry}
@@ -195,11 +196,11 @@ conditionAt condition certificate i b = elim (answer (meets? condition certifica
 unfoldable pub conditionFault : Condition → Certificate → List ℕ → Option Fault
 conditionFault condition certificate file = kindFault (kindAsked condition) (conditionAt condition certificate) file
 
--- A place of a term, with the subterm there, by its number: the places in the order of the entries.
+-- The subterm at an entry, with the turns that lead to it.
 unfoldable pub spotAt : Term Variable → ℕ → Spot Variable
 spotAt t k = getD (spots t) k ([], t)
 
--- No listed secret stands at the place of this number in the premise with the place open.
+-- No listed secret stands at this entry of the premise with its place open.
 abbrev pub NoSecretSpot : Certificate → Term Variable → ℕ → Type 0
 NoSecretSpot certificate premise k = ¬ SecretOpenAt certificate premise (spotAt premise k .0)
 
@@ -217,17 +218,18 @@ openSecretRule certificate i b = elim (openSecret certificate (ruleOf b)) [ At k
 unfoldable pub openSecretFault : Certificate → List ℕ → Option Fault
 openSecretFault certificate file = kindFault ruleKind (openSecretRule certificate) file
 
--- The place of this number in the conclusion is covered if it is risky. (That is `FineAt`: `fine-spot` of
+-- This entry of the conclusion, if it stands at a place and is risky, is covered. (That is `FineAt`: `fine-spot` of
 -- proofs/Files/Spots.antt.)
 abbrev pub FineSpot : Certificate → Rule → ℕ → Type 0
 FineSpot certificate rule k =
-    Risky certificate (spotAt (rule .conclusion) k .1)
+    IsPlace (rule .conclusion) (spotAt (rule .conclusion) k .0) → Risky certificate (spotAt (rule .conclusion) k .1)
     → Covered certificate rule (spotAt (rule .conclusion) k .0) (spotAt (rule .conclusion) k .1)
 
 unfoldable pub fine? : (certificate : Certificate) (rule : Rule) (k : ℕ) → Dec (FineSpot certificate rule k)
 fine? certificate rule k =
-    dec-implies (risky? certificate (spotAt (rule .conclusion) k .1))
-    (λ r. covered? certificate rule (spotAt (rule .conclusion) k .0) (spotAt (rule .conclusion) k .1))
+    dec-implies (is-place? (rule .conclusion) (spotAt (rule .conclusion) k .0))
+    (λ p. dec-implies (risky? certificate (spotAt (rule .conclusion) k .1))
+    (λ r. covered? certificate rule (spotAt (rule .conclusion) k .0) (spotAt (rule .conclusion) k .1)))
 
 -- The first risky place of the conclusion that is not covered.
 unfoldable pub uncovered : Certificate → Rule → Found
@@ -286,5 +288,5 @@ unfolding verdictOf faultOf countsOf lengthFault lengthRight formFault formFrom 
     blocksOf blocksFrom ofKind patternOf secretOf ruleOf certificateOf
     blockAt entriesOf firstEntries secondEntries checkRight checkA checkB total weighted layoutRight countsRight zeroFrom
     allZero atomsOf wrongAtom wrongEntry oneTerm? encryption? termOf size firstNot spots dec-implies
-    known-atom? weakly-closed? kept-key? secret-open? risky? covered?
+    known-atom? weakly-closed? kept-key? secret-open? is-place? risky? covered?
 computing file = verdictOf file

@@ -1,9 +1,10 @@
-// Numbers 15 and 12, on the entries of a rule: the subterm of a place is the part from its entry on.
+// Numbers 15 and 12, on the entries of a rule: the subterm of a place is the part from its entry on. What stands below a hash
+// is at no place.
 // Flags are 0 or 1, and contracts say which are on. What is remembered is so (`Remembered`); which answers are remembered is
 // left open, since one that is missing is asked for.
 ghost use mathlib.Core.Path.{_≡_};
 ghost use mathlib.Core.Bool.{true};
-ghost use Prim.Native.Nat.{_+_, _*_, _/_, _<_};
+ghost use Prim.Native.Nat.{_+_, _*_, _/_, _<_, _≤_};
 ghost use lib.ListN.{length, getD};
 ghost use Rattle.blocks.specs.Kinds.{secretKind, goodKind, badKind, ListsTerm};
 ghost use Rattle.blocks.specs.Block.{firstEntries, secondEntries};
@@ -11,6 +12,7 @@ ghost use Rattle.terms.specs.Entry.{Begins, termOf, size};
 ghost use Rattle.terms.specs.First.{FirstNot};
 ghost use Rattle.terms.specs.Decisions.{Says};
 ghost use Rattle.terms.specs.TermGraph.{SizesOf};
+ghost use Rattle.terms.specs.Tag.{signatureTag, childrenOf};
 ghost use Rattle.judge.specs.Listed.{rootSlots, atomsIn, HoldsAt, AnyListed, Searching, IsSecret, NeverHat, SharesUnmarked, RootsOf, SizesIn, slotAt};
 ghost use Rattle.judge.specs.CoverEntries.{entryFlags};
 ghost use Rattle.judge.specs.File.{blockCount, certificateOf, ruleOf};
@@ -34,6 +36,7 @@ use terms::matching;
 use terms::tag::ENCRYPTION;
 use terms::tag::PAIR;
 use terms::tag::is_marked;
+use terms::tag::is_variable;
 use terms::valid::Found;
 
 // What is found of a rule: a listed secret at this open entry of the premise, or else a risky place at this entry of the
@@ -55,7 +58,7 @@ fn mark_cover(p: &[u8], e: &[u8], h: usize, marked: &mut [u8; FLAGS])
         let past = 1 + entry::term_size(&p[4..]);
         let right = h + 1 + entry::term_size(&e[4 * (h + 1)..]);
         mark_cover(&p[4 * past..], e, right, marked);
-    } else if tag == ENCRYPTION {
+    } else if entry::children(tag) == 1 {
         mark_cover(&p[4..], e, h + 1, marked);
     } else if is_marked(tag) {
         flag::paint(marked, h, h + entry::term_size(&e[4 * h..]), 1);
@@ -122,9 +125,20 @@ fn marked_places(
     marked
 }
 
+// Have entries of these tags as many children?
+fn is_alike(tag: u8, other: u8) -> bool
+    requires { ⌜ (tag ≤ signatureTag) × (other ≤ signatureTag) ⌝ }
+    ensures { λ r. ⌜ Says r (childrenOf tag ≡ childrenOf other) ⌝ }
+{
+    if tag == other {
+        return true;
+    }
+    entry::children(tag) == entry::children(other)
+}
+
 // Lays the pattern's part at entry i of p on the term at entry h: every entry with a mark of it at, above or below is
-// flagged. Where the two symbols differ, all marks of the part lie at or below the term's entry. From entry `last` on p has no
-// marks. Has the part one?
+// flagged. Where one has not as many children as the other, all marks of the part lie at or below the term's entry. From entry
+// `last` on p has no marks. Has the part one?
 fn mark_around(
     p: &[u8],
     y: &[u8],
@@ -147,7 +161,7 @@ fn mark_around(
         flag::paint(around, h, entry::end_of(e, z, h), 1);
         return true;
     }
-    if tag != e[4 * h] {
+    if !is_alike(tag, e[4 * h]) {
         let hidden = listed::has_mark(p, i, i + wide(y[i]));
         return flag::raise(around, h, hidden);
     }
@@ -158,7 +172,7 @@ fn mark_around(
         let found = flag::either(left, right);
         return flag::raise(around, h, found);
     }
-    if tag == ENCRYPTION {
+    if entry::children(tag) == 1 {
         let inner = mark_around(p, y, last, i + 1, e, z, h + 1, around);
         return flag::raise(around, h, inner);
     }
@@ -580,7 +594,7 @@ fn is_risky(file: &[u8], roots: &[u8; ROOT_SLOTS], sizes: &[u8; LISTED_SIZES], t
     requires { ⌜ Searching (now file) secretKind (now t) × RootsOf (now file) (now roots) × SizesIn (now file) (now sizes) ⌝ }
     ensures { λ r. ⌜ Says r (Risky (certificateOf (now (file .entry))) (termOf (now (t .entry)))) ⌝ }
 {
-    if t[0] > 3 {
+    if is_variable(t[0]) {
         true
     } else if listed::may_be_secret(roots, t) {
         listed::shares_secret(file, sizes, t)
@@ -589,7 +603,7 @@ fn is_risky(file: &[u8], roots: &[u8; ROOT_SLOTS], sizes: &[u8; LISTED_SIZES], t
     }
 }
 
-// The risky entries of a conclusion.
+// The risky entries of a conclusion, of those that stand at places.
 fn risky_places(
     file: &[u8],
     roots: &[u8; ROOT_SLOTS],
@@ -604,7 +618,7 @@ fn risky_places(
     let mut k = 0;
     while k < count {
         risky[k] = flag::flag_of(is_risky(file, roots, sizes, &e[4 * k..]));
-        k += 1;
+        k = entry::next_place(e, k);
     }
     risky
 }
@@ -661,7 +675,7 @@ fn is_wanted(
     }
 }
 
-// The entries of the premise for which it matters.
+// The entries of the premise for which it matters, of those that stand at places.
 fn wanted_places(
     file: &[u8],
     roots: &[u8; ROOT_SLOTS],
@@ -678,7 +692,7 @@ fn wanted_places(
     let mut k = 0;
     while k < count {
         wanted[k] = flag::flag_of(is_wanted(file, roots, premise, conclusion, risky, &index, k));
-        k += 1;
+        k = entry::next_place(premise, k);
     }
     wanted
 }

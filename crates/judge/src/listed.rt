@@ -37,7 +37,8 @@ use terms::atom::NONCES;
 use terms::entry;
 use terms::matching;
 use terms::sharing;
-use terms::tag::ENCRYPTION;
+use terms::tag::ATOM;
+use terms::tag::HASH;
 use terms::tag::PAIR;
 use terms::tag::SLOTS;
 use terms::tag::is_marked;
@@ -433,30 +434,32 @@ const NONCE_SLOTS: usize = ROWS + 1;
 
 pub const LISTED_SIZES: usize = NONCE_SLOTS + NONCES;
 
-// The slots of roots: those of atoms from 0, then those of pairs, of encryptions and of variables.
+// The slots of roots: those of atoms from 0, then those of pairs, of what is put around a term, and of variables.
 const PAIR_ROOTS: usize = 256;
 
-const ENCRYPTION_ROOTS: usize = 512;
+const WRAPPER_ROOTS: usize = 512;
 
 const VARIABLE_ROOTS: usize = 768;
 
 pub const ROOT_SLOTS: usize = VARIABLE_ROOTS + SLOTS;
 
-// The slot of the root of the term that e begins with. Atoms, pairs and encryptions have 256 slots each, by the root's
-// value; a pair's value is always 0, so its left half's root is asked instead. Variables have 32.
+// The slot of the root of the term that e begins with. Atoms have 256 slots, pairs, and what is put around a term, by the
+// root's value; a pair's value is always 0, so its left half's root is asked instead. Variables have 32.
 pub fn root_slot(e: &[u8]) -> usize
     requires { ⌜ Begins (now e) ⌝ }
     ensures { λ r. ⌜ (r ≡ slotAt (now (e .entry))) × (r < rootSlots) ⌝ }
 {
     let tag = e[0];
     if tag == PAIR {
-        PAIR_ROOTS + entry::value(&e[4..]) % PAIR_ROOTS
-    } else if tag == ENCRYPTION {
-        ENCRYPTION_ROOTS + entry::value(e) % PAIR_ROOTS
-    } else if is_variable(tag) {
-        VARIABLE_ROOTS + entry::value(e) % SLOTS
+        return PAIR_ROOTS + entry::value(&e[4..]) % PAIR_ROOTS;
+    }
+    let n = entry::value(e);
+    if is_variable(tag) {
+        VARIABLE_ROOTS + n % SLOTS
+    } else if tag == ATOM {
+        n % PAIR_ROOTS
     } else {
-        entry::value(e) % PAIR_ROOTS
+        WRAPPER_ROOTS + n % PAIR_ROOTS
     }
 }
 
@@ -492,11 +495,11 @@ pub fn may_be_secret(roots: &[u8; ROOT_SLOTS], e: &[u8]) -> bool
     requires { ⌜ (length (now roots) ≡ rootSlots) × Begins (now e) ⌝ }
     ensures { λ r. ⌜ (r ≡ false) ↔ NoRoot (now (roots .entry)) (now (e .entry)) ⌝ }
 {
-    let tag = e[0];
-    if is_variable(tag) {
+    let root = e[0];
+    if is_variable(root) {
         return true;
     }
-    if tag == PAIR {
+    if root == PAIR {
         if is_variable(e[4]) {
             return true;
         }
@@ -526,7 +529,8 @@ fn is_known(file: &[u8], e: &[u8]) -> bool
     atom.known == 1
 }
 
-// Is the term that e begins with, as a message, weakly closed? With a pair, one half is listed; with {m}k, m or k is.
+// Is the term that e begins with, as a message, weakly closed? With a pair, one half is listed; with {m}k or a signature, m or the
+// key is; with a hash, m is.
 fn is_closed(file: &[u8], e: &[u8]) -> bool
     requires { ⌜ Searching (now file) secretKind (now e) ⌝ }
     ensures { λ r. ⌜ ((m : Message) → termOf (now (e .entry)) ≡ asTerm m → Says r (WeaklyClosed (certificateOf (now (file .entry))) m)) ⌝ }
@@ -539,9 +543,12 @@ fn is_closed(file: &[u8], e: &[u8]) -> bool
         let right = 1 + entry::term_size(&e[4..]);
         return is_listed_secret(file, &e[4 * right..]);
     }
-    if tag == ENCRYPTION {
+    if entry::children(tag) == 1 {
         if is_listed_secret(file, &e[4..]) {
             return true;
+        }
+        if tag == HASH {
+            return false;
         }
         return is_listed_atom(file, entry::value(e));
     }

@@ -6,25 +6,26 @@ use Prim.Native.Nat.{ℕ}
 use native.Mathlib.Omega.{arith}
 use native.Mathlib.Decide.{decLt, decLe}
 use lib.ListN.{length}
-use Rattle.terms.specs.Term.{Term, variable, atom, pair, Variable, Range, replace, wrapped}
+use Rattle.terms.specs.Term.{Term, variable, atom, pair, Variable, Range, replace, wrapped, Wrapping}
 use Rattle.terms.specs.Instance.{NonceTerm, Replaced, Share}
 use Rattle.terms.specs.declared.atom.Atom.{Atom}
-use Rattle.terms.specs.Atom.{IsKey, isKey?, Nonce, listedNonce, foreignNonce}
+use Rattle.terms.specs.Atom.{Nonce, listedNonce, foreignNonce}
+use Rattle.terms.specs.TermEntry.{NumberRight, numberRight?}
 use Rattle.terms.proofs.AtomLaws.{kind-listed}
 use Rattle.terms.specs.Occurs.{replace-none}
 use Rattle.terms.specs.Decide.{answer}
 use Rattle.terms.specs.Built.{Built, BuiltMatch, BuiltShare, MessageAtom}
 use Rattle.terms.proofs.AnswerLaws.{answer-same}
-use Rattle.terms.proofs.OneTermLaws.{TermRight, atomRight, pairRight, encryptedRight, variableRight}
+use Rattle.terms.proofs.OneTermLaws.{TermRight, atomRight, pairRight, wrappedRight, variableRight}
 
 -- A and K can be decided, and f has A.
-module _ {A K : ℕ → Type 0} (A? : (a : ℕ) → Dec (A a)) (K? : (k : ℕ) → Dec (K k)) (f : ℕ) (ok : A f) where
-  -- The term with f for all that is not built: an atom without A, an encryption under a key without K.
+module _ {A : ℕ → Type 0} {K : Wrapping → ℕ → Type 0} (A? : (a : ℕ) → Dec (A a)) (K? : (w : Wrapping) (k : ℕ) → Dec (K w k)) (f : ℕ) (ok : A f) where
+  -- The term with f for all that is not built: an atom without A, anything around a term with a number without K.
   mend : {X : Type 0} → Term X → Term X
   mend (variable x) = variable x
   mend (atom a) = elim (A? a) [ yes p ↦ atom a | no n ↦ atom f ]
   mend (pair t u) = pair (mend t) (mend u)
-  mend (wrapped w k t) = elim (K? k) [ yes p ↦ wrapped w k (mend t) | no n ↦ atom f ]
+  mend (wrapped w k t) = elim (K? w k) [ yes p ↦ wrapped w k (mend t) | no n ↦ atom f ]
 
   -- What is mended is built.
   mend-built : {X : Type 0} (t : Term X) → Built A K (mend t)
@@ -36,9 +37,9 @@ module _ {A K : ℕ → Type 0} (A? : (a : ℕ) → Dec (A a)) (K? : (k : ℕ) �
       go (yes p) = p
       go (no n) = ok
   mend-built (pair t u) = (mend-built t, mend-built u)
-  mend-built {X} (wrapped w k t) = go (K? k) (mend-built t)
+  mend-built {X} (wrapped w k t) = go (K? w k) (mend-built t)
     where
-      go : (q : Dec (K k)) → Built A K (mend t) → Built {X = X} A K (elim q [ yes p ↦ wrapped w k (mend t) | no n ↦ atom f ])
+      go : (q : Dec (K w k)) → Built A K (mend t) → Built {X = X} A K (elim q [ yes p ↦ wrapped w k (mend t) | no n ↦ atom f ])
       go (yes p) b = (p, b)
       go (no n) b = ok
 
@@ -53,9 +54,9 @@ module _ {A K : ℕ → Type 0} (A? : (a : ℕ) → Dec (A a)) (K? : (k : ℕ) �
       go (yes p) = refl
       go (no n) = absurd (n b)
   mend-replace by (pair t u) b = ap₂ pair (mend-replace by t (b .0)) (mend-replace by u (b .1))
-  mend-replace {X} {Y} by (wrapped w k t) b = go (K? k) (mend-replace by t (b .1))
+  mend-replace {X} {Y} by (wrapped w k t) b = go (K? w k) (mend-replace by t (b .1))
     where
-      go : (q : Dec (K k)) → mend (replace by t) ≡ replace (λ x. mend (by x)) t
+      go : (q : Dec (K w k)) → mend (replace by t) ≡ replace (λ x. mend (by x)) t
           → _≡_ {A = Term Y} (elim q [ yes p ↦ wrapped w k (mend (replace by t)) | no n ↦ atom f ])
           (wrapped w k (replace (λ x. mend (by x)) t))
       go (yes p) e = ap (wrapped w k) e
@@ -121,14 +122,14 @@ message-atom? atoms a = elim (decLt a (length atoms)) [
   | no n ↦ elim (decLe 1000 a) [ yes h ↦ yes (inr h) | no m ↦ no (λ w. ⊎-elim n m w) ]
 ]
 
-message-built : {atoms : List Atom} {kind : ℕ} {t : Term Variable} → TermRight atoms kind t → Built (MessageAtom atoms) (IsKey atoms) t
+message-built : {atoms : List Atom} {kind : ℕ} {t : Term Variable} → TermRight atoms kind t → Built (MessageAtom atoms) (NumberRight atoms) t
 unfolding Built
 message-built (atomRight l) = inl l
 message-built (pairRight w v) = (message-built w, message-built v)
-message-built (encryptedRight i w) = (i, message-built w)
+message-built (wrappedRight i w) = (i, message-built w)
 message-built (variableRight l k) = tt
 
 pub message-share : {atoms : List Atom} {i j : ℕ} {s t : Term Variable} → TermRight atoms i s → TermRight atoms j t
-    → Share atoms s t ↔ BuiltShare (MessageAtom atoms) (IsKey atoms) atoms s t
+    → Share atoms s t ↔ BuiltShare (MessageAtom atoms) (NumberRight atoms) atoms s t
 message-share {atoms} w v =
-    (built-share (message-atom? atoms) (isKey? atoms) 1000 (inr (omega arith)) atoms nonce-atom (message-built w) (message-built v), λ b. b .share)
+    (built-share (message-atom? atoms) (numberRight? atoms) 1000 (inr (omega arith)) atoms nonce-atom (message-built w) (message-built v), λ b. b .share)

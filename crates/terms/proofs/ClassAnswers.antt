@@ -7,7 +7,7 @@ use Prim.Native.Nat.{ℕ, _<_}
 use native.Mathlib.Omega.{arith}
 use lib.ListN.{set}
 use Rattle.terms.specs.declared.classes.How.{How}
-use Rattle.terms.specs.declared.classes.How.the-variants.{Free, Differ, Atoms, Encryptions, Pairs}
+use Rattle.terms.specs.declared.classes.How.the-variants.{Free, Differ, Atoms, Wrappers, Pairs}
 use Rattle.terms.specs.Term.{Message}
 use Rattle.terms.specs.Tag.{freeTag}
 use Rattle.terms.specs.Graph.{Node, Respects, Classes, Outcome, Any}
@@ -17,7 +17,7 @@ use Rattle.terms.specs.Meeting.{MeetAs}
 use Rattle.terms.proofs.GraphLaws.{merge, restate, restate-clash, done, failed}
 use Rattle.terms.proofs.NodeLaws.{past-tag}
 use Rattle.terms.proofs.NameLaws.{name-named, name-home, classes-of, joined-linked, joined-names, joined-fewer}
-use Rattle.terms.proofs.ClassLaws.{one-class, free-class, tags-clash, values-clash, equal-atoms, equal-encryptions, equal-pairs}
+use Rattle.terms.proofs.ClassLaws.{one-class, free-class, tags-clash, values-clash, equal-atoms, equal-wrappers, equal-pairs}
 
 -- The names a and b of two classes, a above b.
 pub record TwoNames (s t c : List ℕ) (a b : ℕ) : Type 0 where
@@ -74,10 +74,10 @@ module _ {s t c : List ℕ} {a b : ℕ} (w : TwoNames s t c a b) where
   atoms-answer m = done (rw names-merged at (equal-atoms s t (nameOf c) cs a b a-is b-is (m .0 .left) (m .0 .right) (m .1) apart (m .2) (m .3) (m .4)))
 
   module _ {next : ℕ → ℕ} {r : Bool} where
-    pub contents-answer : MeetAs s t a b Encryptions → Outcome (nodeOf s t) Any (nameOf (set c a b)) next (λ v. v (firstChild s t a) ≡ v (firstChild s t b)) r
+    pub contents-answer : MeetAs s t a b Wrappers → Outcome (nodeOf s t) Any (nameOf (set c a b)) next (λ v. v (firstChild s t a) ≡ v (firstChild s t b)) r
         → Outcome (nodeOf s t) Any (nameOf c) next (λ v. v a ≡ v b) r
     contents-answer m o =
-        equal-encryptions s t (nameOf c) cs a b a-is b-is (m .0 .left) (m .0 .right) (m .1) (m .2) (m .3) (rw (← names-merged) at o)
+        equal-wrappers s t (nameOf c) cs a b a-is b-is (m .0 .left) (m .0 .right) (m .1) (m .2) (m .3) (rw (← names-merged) at o)
 
     pub halves-answer : MeetAs s t a b Pairs
         → Outcome (nodeOf s t) Any (nameOf (set c a b)) next

@@ -4,14 +4,14 @@ use mathlib.Core.Bool.{Bool, true, false, true≢false}
 use mathlib.Core.List.{List}
 use Prim.Native.Nat.{ℕ, _<_}
 use native.Mathlib.Omega.{arith}
-use Rattle.terms.specs.Term.{variable, atom, pair, encrypted, Message, wrapped, encryption}
-use Rattle.terms.specs.Tag.{atomTag, pairTag, encryptionTag, Tagged, anAtom, aPair, aWrapping, aVariable, noTag, tagged, freeBy, freeTag, wrapping-tag}
+use Rattle.terms.specs.Term.{variable, atom, pair, Message, wrapped}
+use Rattle.terms.specs.Tag.{atomTag, pairTag, WrapperTag, Tagged, anAtom, aPair, aWrapping, aVariable, noTag, tagged, freeBy, freeTag}
 use Rattle.terms.specs.Solve.{form}
 use Rattle.terms.specs.Graph.{atomNode, pairNode, wrapperNode, IsSymbol, made, Valid, Classes, ClassStep, Clash, Outcome, Any}
 use Rattle.terms.specs.TermGraph.{variableNodes, nodeFor, nodeBy, nodeTag, nodeValue, firstChild, secondChild, nodeOf, AtHome}
 use Rattle.terms.specs.Meeting.{Symbols}
 use Rattle.terms.proofs.GraphLaws.{merge, stay, done, already, united, united-clash, apart-clash, united-classes}
-use Rattle.terms.proofs.NodeLaws.{node-by, not-symbol, symbol-tag, is-symbol, home-symbol}
+use Rattle.terms.proofs.NodeLaws.{node-by, wrapper-node, not-symbol, symbol-tag, is-symbol, home-symbol}
 
 -- The number in a message: its root's value as an entry.
 unfoldable pub number : Message → ℕ
@@ -42,14 +42,14 @@ made-number v n x l r f off = go (tagged n) f
     go (aVariable s e) f = absurd (true≢false f)
     go (noTag e) f = absurd (true≢false f)
 
-pub only-atom : (n : ℕ) → freeTag n ≡ false → (n ≡ pairTag → ⊥) → (n ≡ encryptionTag → ⊥) → n ≡ atomTag
+pub only-atom : (n : ℕ) → freeTag n ≡ false → (n ≡ pairTag → ⊥) → ¬ WrapperTag n → n ≡ atomTag
 unfolding freeTag
-only-atom n f no-pair no-encryption = go (tagged n) f
+only-atom n f no-pair no-wrapper = go (tagged n) f
   where
     go : (w : Tagged n) → freeBy w ≡ false → n ≡ atomTag
     go (anAtom e) f = e
     go (aPair e) f = absurd (no-pair e)
-    go (aWrapping w e) f = absurd (no-encryption (wrapping-tag w e))
+    go (aWrapping w e) f = absurd (no-wrapper (record { wrapping = w; is = e }))
     go (aVariable s e) f = absurd (true≢false f)
     go (noTag e) f = absurd (true≢false f)
 
@@ -115,27 +115,28 @@ module _ (s t : List ℕ) (name : ℕ → ℕ) (cs : Classes (nodeOf s t) name) 
           ∙ ap number (both-make v x e)
           ∙ made-number v (nodeTag s t b) (nodeValue s t b) (firstChild s t b) (secondChild s t b) fb (λ p. not-pair (tags ∙ p))))
 
-      pub equal-atoms : (a ≡ b → ⊥) → (nodeTag s t a ≡ pairTag → ⊥) → (nodeTag s t a ≡ encryptionTag → ⊥) → nodeValue s t a ≡ nodeValue s t b
+      pub equal-atoms : (a ≡ b → ⊥) → (nodeTag s t a ≡ pairTag → ⊥) → ¬ WrapperTag (nodeTag s t a) → nodeValue s t a ≡ nodeValue s t b
           → ClassStep (nodeOf s t) Any name (merge a b name) (λ v. v i ≡ v j)
       unfolding nodeBy
-      equal-atoms apart not-pair not-encryption same =
-          let one = only-atom (nodeTag s t a) fa not-pair not-encryption in
+      equal-atoms apart not-pair no-wrapper same =
+          let one = only-atom (nodeTag s t a) fa not-pair no-wrapper in
           let first : nodeOf s t a ≡ atomNode (nodeValue s t a) = node-by s t a one in
           let second : nodeOf s t b ≡ atomNode (nodeValue s t b) = node-by s t b (sym tags ∙ one) in
           (as-named (λ v x e. tt) (λ v p is. ap (made v) (first ∙ ap atomNode same ∙ sym second))
           (done (stay (nodeOf s t) Any (symbols-merge apart)))) .stepped refl
 
-      pub equal-encryptions : {next : ℕ → ℕ} {r : Bool} → nodeTag s t a ≡ encryptionTag → nodeValue s t a ≡ nodeValue s t b
+      pub equal-wrappers : {next : ℕ → ℕ} {r : Bool} → WrapperTag (nodeTag s t a) → nodeValue s t a ≡ nodeValue s t b
           → Outcome (nodeOf s t) Any (merge a b name) next (λ v. v (firstChild s t a) ≡ v (firstChild s t b)) r
           → Outcome (nodeOf s t) Any name next (λ v. v i ≡ v j) r
-      unfolding nodeBy made
-      equal-encryptions three same o =
-          let first : nodeOf s t a ≡ wrapperNode encryption (nodeValue s t a) (firstChild s t a) = node-by s t a three in
-          let second : nodeOf s t b ≡ wrapperNode encryption (nodeValue s t b) (firstChild s t b) = node-by s t b (sym tags ∙ three) in
+      unfolding made
+      equal-wrappers one same o =
+          let w = one .wrapping in
+          let first : nodeOf s t a ≡ wrapperNode w (nodeValue s t a) (firstChild s t a) = wrapper-node s t a w (one .is) in
+          let second : nodeOf s t b ≡ wrapperNode w (nodeValue s t b) (firstChild s t b) = wrapper-node s t b w (sym tags ∙ one .is) in
           as-named
-          (λ v x e. let q : encrypted (nodeValue s t a) (v (firstChild s t a)) ≡ encrypted (nodeValue s t b) (v (firstChild s t b)) =
+          (λ v x e. let q : wrapped w (nodeValue s t a) (v (firstChild s t a)) ≡ wrapped w (nodeValue s t b) (v (firstChild s t b)) =
           sym (ap (made v) first) ∙ both-make v x e ∙ ap (made v) second in cc)
-          (λ v p is. ap (made v) first ∙ ap₂ (wrapped encryption) same p ∙ sym (ap (made v) second)) o
+          (λ v p is. ap (made v) first ∙ ap₂ (wrapped w) same p ∙ sym (ap (made v) second)) o
 
       pub equal-pairs : {next : ℕ → ℕ} {r : Bool} → nodeTag s t a ≡ pairTag
           → Outcome (nodeOf s t) Any (merge a b name) next

@@ -1,7 +1,7 @@
 -- Worked cases of matching and sharing, by computation.
 use mathlib.Core.Path.{_≡_, refl}
 use mathlib.Core.Bool.{Bool, true, false}
-use Rattle.terms.specs.Term.{Term, variable, atom, pair, encrypted, sort, plain, marked, anyMessage, oneNonce, Variable, named}
+use Rattle.terms.specs.Term.{Term, variable, atom, pair, encrypted, hashed, signed, sort, plain, marked, anyMessage, oneNonce, Variable, named}
 use mathlib.Core.List.{List, [], _∷_}
 use Rattle.terms.specs.declared.atom.Atom.{Atom}
 use Rattle.terms.specs.Atom.{atomsOf}
@@ -52,6 +52,31 @@ under-a-key = refl
 under-two-keys : shared (encrypted 2 x) (encrypted 4 x) ≡ false
 unfolding shared
 under-two-keys = refl
+
+-- Through hashes and signatures as through any symbol; a signature's key counts (02, No. 7).
+in-a-hash : shared (hashed 0 x) (hashed 0 (pair (atom 1) y)) ≡ true
+unfolding shared
+in-a-hash = refl
+
+hash-and-signature : shared (hashed 0 x) (signed 3 x) ≡ false
+unfolding shared
+hash-and-signature = refl
+
+by-two-keys : shared (signed 3 x) (signed 5 x) ≡ false
+unfolding shared
+by-two-keys = refl
+
+a-hash-in-itself : shared (pair x x) (pair y (hashed 0 y)) ≡ false
+unfolding shared
+a-hash-in-itself = refl
+
+signed-match : matched (signed 3 x) (signed 3 (hashed 0 y)) ≡ true
+unfolding matched
+signed-match = refl
+
+nonce-hash : matched n (hashed 0 (atom 1)) ≡ false
+unfolding matched
+nonce-hash = refl
 
 with-itself : shared (pair x x) (pair x x) ≡ true
 unfolding shared

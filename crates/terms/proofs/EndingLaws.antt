@@ -9,7 +9,7 @@ use native.Mathlib.Decide.{decLt, ℕ-discrete}
 use lib.ListN.{length, getD, set, length-set}
 use lib.Seq.{getD-set-same, getD-set-other}
 use Rattle.terms.specs.Term.{Message}
-use Rattle.terms.specs.Tag.{pairTag, encryptionTag, Tagged, anAtom, aPair, aWrapping, aVariable, noTag, tagged, wrapping-tag}
+use Rattle.terms.specs.Tag.{pairTag, WrapperTag, Tagged, anAtom, aPair, aWrapping, aVariable, noTag, tagged}
 use Rattle.terms.specs.Entry.{size}
 use Rattle.terms.specs.Graph.{IsSymbol, Child, Valid, Respects, Finite, finite}
 use Rattle.terms.specs.TermGraph.{rightNodes, variableNodes, nodeFor, nodeBy, nodeTag, nodeValue, firstChild, secondChild, nodeOf, TwoTerms, AtHome}
@@ -17,7 +17,7 @@ use Rattle.terms.specs.TermGraph.{OwnEntry, HasChild}
 use Rattle.terms.specs.Names.{nameOf, Linked}
 use Rattle.terms.specs.Ending.{ChildrenEnd, ParentEnds, Sound, Below, ChildrenBelow, zeros, MarksKept, Walked, EachFrom}
 use Rattle.terms.proofs.GraphLaws.{child-symbol, falls}
-use Rattle.terms.proofs.NodeLaws.{node-by, past-free, symbol-inside, home-symbol}
+use Rattle.terms.proofs.NodeLaws.{node-by, wrapper-node, past-free, symbol-inside, home-symbol}
 use Rattle.terms.proofs.NameLaws.{name-named, name-home}
 
 -- P holds of none; and of one more, below.
@@ -48,14 +48,14 @@ no-more-zeros (x ∷ m) (suc a) = let ih = no-more-zeros m a in omega arith
 
 -- A node's children by its tag.
 module _ (s t : List ℕ) (i : ℕ) where
-  childless : (nodeTag s t i ≡ pairTag → ⊥) → (nodeTag s t i ≡ encryptionTag → ⊥) → (j : ℕ) → Child j (nodeOf s t i) → ⊥
+  childless : (nodeTag s t i ≡ pairTag → ⊥) → ¬ WrapperTag (nodeTag s t i) → (j : ℕ) → Child j (nodeOf s t i) → ⊥
   unfolding nodeOf nodeBy
-  childless no-pair no-encryption = go (tagged (nodeTag s t i))
+  childless no-pair no-wrapper = go (tagged (nodeTag s t i))
     where
       go : (w : Tagged (nodeTag s t i)) (j : ℕ) → Child j (nodeFor w (nodeValue s t i) (firstChild s t i) (secondChild s t i)) → ⊥
       go (anAtom e) j child = child
       go (aPair e) j child = no-pair e
-      go (aWrapping w e) j child = no-encryption (wrapping-tag w e)
+      go (aWrapping w e) j child = no-wrapper (record { wrapping = w; is = e })
       go (aVariable v e) j child = child
       go (noTag e) j child = child
 
@@ -63,9 +63,8 @@ module _ (s t : List ℕ) (i : ℕ) where
   unfolding nodeBy
   pair-children two j child = subst (Child j) (node-by s t i two) child
 
-  content-children : nodeTag s t i ≡ encryptionTag → (j : ℕ) → Child j (nodeOf s t i) → j ≡ firstChild s t i
-  unfolding nodeBy
-  content-children three j child = subst (Child j) (node-by s t i three) child
+  content-children : WrapperTag (nodeTag s t i) → (j : ℕ) → Child j (nodeOf s t i) → j ≡ firstChild s t i
+  content-children one j child = subst (Child j) (wrapper-node s t i (one .wrapping) (one .is)) child
 
 -- ---- answers
 
@@ -176,15 +175,15 @@ module _ {s t c : List ℕ} {a : ℕ} where
   unfolding nodeBy
   second-below two is all = rw is (all .child (secondChild s t a) (subst (Child (secondChild s t a)) (sym (node-by s t a two)) (inr refl)))
 
-  pub content-below : {m : List ℕ} {x : ℕ} → nodeTag s t a ≡ encryptionTag → x ≡ firstChild s t a → ChildrenBelow s t c m a → Below s t c m x
-  unfolding nodeBy
-  content-below three is all = rw is (all .child (firstChild s t a) (subst (Child (firstChild s t a)) (sym (node-by s t a three)) refl))
+  pub content-below : {m : List ℕ} {x : ℕ} → WrapperTag (nodeTag s t a) → x ≡ firstChild s t a → ChildrenBelow s t c m a → Below s t c m x
+  content-below one is all =
+      rw is (all .child (firstChild s t a) (subst (Child (firstChild s t a)) (sym (wrapper-node s t a (one .wrapping) (one .is))) refl))
 
-  pub no-children-end : (nodeTag s t a ≡ pairTag → ⊥) → (nodeTag s t a ≡ encryptionTag → ⊥) → ChildrenEnd s t c a
-  no-children-end no-pair no-encryption = record { child = λ j child. absurd (childless s t a no-pair no-encryption j child) }
+  pub no-children-end : (nodeTag s t a ≡ pairTag → ⊥) → ¬ WrapperTag (nodeTag s t a) → ChildrenEnd s t c a
+  no-children-end no-pair no-wrapper = record { child = λ j child. absurd (childless s t a no-pair no-wrapper j child) }
 
-  pub content-ends : {x : ℕ} → nodeTag s t a ≡ encryptionTag → x ≡ firstChild s t a → Finite (nodeOf s t) (nameOf c) x → ChildrenEnd s t c a
-  content-ends three is first = record { child = λ j child. subst (Finite (nodeOf s t) (nameOf c)) (is ∙ sym (content-children s t a three j child)) first }
+  pub content-ends : {x : ℕ} → WrapperTag (nodeTag s t a) → x ≡ firstChild s t a → Finite (nodeOf s t) (nameOf c) x → ChildrenEnd s t c a
+  content-ends one is first = record { child = λ j child. subst (Finite (nodeOf s t) (nameOf c)) (is ∙ sym (content-children s t a one j child)) first }
 
   halves-end : {x y : ℕ} → nodeTag s t a ≡ pairTag → x ≡ firstChild s t a → y ≡ secondChild s t a
       → Finite (nodeOf s t) (nameOf c) x → Finite (nodeOf s t) (nameOf c) y → ChildrenEnd s t c a
@@ -211,15 +210,15 @@ pub parent-home : {s t : List ℕ} {k : ℕ} → OwnEntry s t k → HasChild s t
 unfolding nodeBy
 parent-home {s} {t} {k} there has = record {
   small = omega (arith, there .low);
-  is = inr (⊎-elim (λ two. subst IsSymbol (sym (node-by s t k two)) tt) (λ three. subst IsSymbol (sym (node-by s t k three)) tt) has);
+  is = inr (⊎-elim (λ two. subst IsSymbol (sym (node-by s t k two)) tt) (λ one. subst IsSymbol (sym (wrapper-node s t k (one .wrapping) (one .is))) tt) has);
 }
 
 -- Every way down from an entry ends; or it has no children.
 pub parent-ends : {s t c : List ℕ} {k : ℕ} → Finite (nodeOf s t) (nameOf c) k → ParentEnds s t c k
 parent-ends f = record { parent = λ j child. f }
 
-pub no-parent : {s t c : List ℕ} {k : ℕ} → (nodeTag s t k ≡ pairTag → ⊥) → (nodeTag s t k ≡ encryptionTag → ⊥) → ParentEnds s t c k
-no-parent {s} {t} {k = k} no-pair no-encryption = record { parent = λ j child. absurd (childless s t k no-pair no-encryption j child) }
+pub no-parent : {s t c : List ℕ} {k : ℕ} → (nodeTag s t k ≡ pairTag → ⊥) → ¬ WrapperTag (nodeTag s t k) → ParentEnds s t c k
+no-parent {s} {t} {k = k} no-pair no-wrapper = record { parent = λ j child. absurd (childless s t k no-pair no-wrapper j child) }
 
 -- Nothing is marked at the start.
 module _ (s t c m : List ℕ) (none : (a : ℕ) → a < variableNodes → getD m a 0 ≡ 0) where

@@ -7,10 +7,20 @@ use native.Mathlib.Omega.{arith}
 use lib.ListN.{getD, length, drop, length-drop}
 use lib.Seq.{drop-drop}
 use borrow.Rule.Slice.PartAt.{part-to-end}
-use Rattle.terms.specs.Term.{Term, variable, atom, pair, encrypted, Sort, Variable, named, wrapped, Wrapping, encryption}
-use Rattle.terms.specs.Tag.{atomTag, pairTag, encryptionTag, sortTag, variables, wrappingTag, wrapping-tag}
+use Rattle.terms.specs.Term.{Term, variable, atom, pair, encrypted, Sort, Variable, named, wrapped, Wrapping, encryption, hash, signature}
+use Rattle.terms.specs.Tag.{atomTag, pairTag, encryptionTag, sortTag, variables, wrappingTag, WrapperTag, wrapping-tag, wrapping-symbol, wrapping-last, sort-tag, sort-range, signatureTag}
 use Rattle.terms.specs.Entry.{size, symbolOf, withZero, termsOf, firstOf, termOf, Reads, Begins, tagAt, valueAt, from}
 use Rattle.terms.specs.Reading.{First, first-atom, first-pair, first-wrapped, first-variable, none≢some, nothing-read, first, entry-zero, never-empty}
+
+-- The tag of the entry that stands first is one of those there are.
+pub begins-tag : {e : List ℕ} → Begins e → tagAt e ≤ signatureTag
+begins-tag {e} b = go (first (b .reads))
+  where
+    go : First (tagAt e) (valueAt e) (drop 4 e) (b .term ∷ b .others) → tagAt e ≤ signatureTag
+    go (first-atom g q k) = omega arith
+    go (first-pair g n q k) = omega arith
+    go (first-wrapped {w = w} i g q k) = wrapping-last w i
+    go (first-variable {s = s} g v n q k) = omega (arith, sort-range s g)
 
 -- The second byte of an entry is zero.
 pub zero-byte : {e : List ℕ} {t : Term Variable} {l : List (Term Variable)} → Reads e (t ∷ l) → getD e 1 0 ≡ 0
@@ -78,7 +88,8 @@ module _ {e : List ℕ} {l : List (Term Variable)} where
   -- An encryption's tag is read.
   pub reads-encrypted : {k0 : ℕ} {v : Term Variable} → Reads e (encrypted k0 v ∷ l)
       → (tagAt e ≡ encryptionTag) × (valueAt e ≡ k0) × Reads (drop 4 e) (v ∷ l)
-  reads-encrypted r = let w = reads-wrapped r in (wrapping-tag encryption (w .0), w .1, w .2)
+  unfolding wrappingTag
+  reads-encrypted r = reads-wrapped r
 
   pub reads-variable : {s : Sort} {x : ℕ} → Reads e (variable (named s x) ∷ l)
       → (tagAt e ≡ sortTag s) × (valueAt e ≡ x) × (x < variables) × Reads (drop 4 e) l
@@ -185,26 +196,44 @@ pair-first {e} b is = go (first (b .reads))
     go (first-wrapped i g q k) = absurd (omega arith)
     go (first-variable g v n q k) = absurd (omega arith)
 
--- An encryption stands first.
-pub record EncryptionFirst (e : List ℕ) : Type 0 where
+-- Something around a term stands first.
+pub record WrappedFirst (e : List ℕ) (w : Wrapping) : Type 0 where
   pub content : Term Variable
   pub others : List (Term Variable)
-  pub whole : Reads e (encrypted (valueAt e) content ∷ others)
+  pub whole : Reads e (wrapped w (valueAt e) content ∷ others)
   pub below : Reads (from 4 e) (content ∷ others)
 
-pub encryption-first : {e : List ℕ} → Begins e → tagAt e ≡ encryptionTag → EncryptionFirst e
-encryption-first {e} b is = go (first (b .reads))
+-- The tag tells what it is.
+one-wrapping : (w w′ : Wrapping) → wrappingTag w ≡ wrappingTag w′ → w ≡ w′
+unfolding wrappingTag
+one-wrapping encryption encryption e = refl
+one-wrapping encryption hash e = absurd (omega arith)
+one-wrapping encryption signature e = absurd (omega arith)
+one-wrapping hash encryption e = absurd (omega arith)
+one-wrapping hash hash e = refl
+one-wrapping hash signature e = absurd (omega arith)
+one-wrapping signature encryption e = absurd (omega arith)
+one-wrapping signature hash e = absurd (omega arith)
+one-wrapping signature signature e = refl
+
+pub wrapped-first : {e : List ℕ} → Begins e → (w : Wrapping) → tagAt e ≡ wrappingTag w → WrappedFirst e w
+wrapped-first {e} b w is = go (first (b .reads))
   where
-    go : First (tagAt e) (valueAt e) (drop 4 e) (b .term ∷ b .others) → EncryptionFirst e
-    go (first-wrapped {w = encryption} {t = t} {m = m} i g q k) = record { content = t; others = m; whole = rw q at (b .reads); below = rw part-to-end k }
-    go (first-pair g n q k) = absurd (omega arith)
-    go (first-atom g q k) = absurd (omega arith)
-    go (first-variable g v n q k) = absurd (omega arith)
+    some-wrapping : pairTag < tagAt e
+    some-wrapping = wrapping-tag w is
+
+    go : First (tagAt e) (valueAt e) (drop 4 e) (b .term ∷ b .others) → WrappedFirst e w
+    go (first-wrapped {w = w′} {t = t} {m = m} i g q k) =
+        let same : w′ ≡ w = one-wrapping w′ w (sym i ∙ is) in
+        record { content = t; others = m; whole = rw same at (rw q at (b .reads)); below = rw part-to-end k }
+    go (first-pair g n q k) = absurd (omega (arith, some-wrapping))
+    go (first-atom g q k) = absurd (omega (arith, some-wrapping))
+    go (first-variable {s = s} g v n q k) = absurd (omega (arith, wrapping-symbol w is, sort-tag s g))
 
 -- Any other tag is a term of one entry.
-pub leaf-first : {e : List ℕ} → Begins e → (tagAt e ≡ pairTag → ⊥) → (tagAt e ≡ encryptionTag → ⊥) → 1 ≡ size (termOf e)
+pub leaf-first : {e : List ℕ} → Begins e → (tagAt e ≡ pairTag → ⊥) → ¬ WrapperTag (tagAt e) → 1 ≡ size (termOf e)
 unfolding size
-leaf-first {e} b no-pair no-encryption = go (first (b .reads))
+leaf-first {e} b no-pair no-wrapper = go (first (b .reads))
   where
     one : (t : Term Variable) → 1 ≡ size t → termOf e ≡ t → 1 ≡ size (termOf e)
     one t s q = rw q s
@@ -213,7 +242,7 @@ leaf-first {e} b no-pair no-encryption = go (first (b .reads))
     go (first-atom g q k) = one (atom (valueAt e)) refl (termOf-reads (rw q at (b .reads)))
     go (first-variable {s = s} g v n q k) = one (variable (named s (valueAt e))) refl (termOf-reads (rw q at (b .reads)))
     go (first-pair g n q k) = absurd (no-pair g)
-    go (first-wrapped i g q k) = absurd (no-encryption g)
+    go (first-wrapped {w = w} i g q k) = absurd (no-wrapper (record { wrapping = w; is = i }))
 
 -- The right half of a pair begins past the left one.
 pub right-begins : {e : List ℕ} (p : PairFirst e) {r : ℕ} → r ≡ size (termOf (from 4 e)) → Reads (from (4 * (1 + r)) e) (p .right ∷ p .others)
@@ -223,7 +252,7 @@ right-begins {e} p {r} is =
     let there : 4 + 4 * size (p .left) ≡ 4 * (1 + r) = omega arith in
     rw part-to-end (rw (drop-drop, there) at (past (p .left) here))
 
--- How many entries a pair, an encryption has.
+-- How many entries a pair has, and a term with something around it.
 pub pair-walked : {e : List ℕ} → Begins e → tagAt e ≡ pairTag → {r s : ℕ} → r ≡ size (termOf (from 4 e)) → s ≡ size (termOf (from (4 * (1 + r)) e))
     → (1 + r + s ≡ size (termOf e)) × (4 * (1 + r + s) ≤ length e)
 unfolding size
@@ -235,14 +264,14 @@ pair-walked {e} b is {r} {s} left right =
     let room : 4 * (1 + (size (p .left) + size (p .right))) ≤ length e = fits (pair (p .left) (p .right)) (p .whole) in
     (omega arith, omega arith)
 
-pub encryption-walked : {e : List ℕ} → Begins e → tagAt e ≡ encryptionTag → {r : ℕ} → r ≡ size (termOf (from 4 e))
+pub wrapped-walked : {e : List ℕ} → Begins e → WrapperTag (tagAt e) → {r : ℕ} → r ≡ size (termOf (from 4 e))
     → (1 + r ≡ size (termOf e)) × (4 * (1 + r) ≤ length e)
 unfolding size
-encryption-walked {e} b is {r} below =
-    let p = encryption-first b is in
+wrapped-walked {e} b is {r} below =
+    let p = wrapped-first b (is .wrapping) (is .is) in
     let l : r ≡ size (p .content) = below ∙ ap size (termOf-reads (p .below)) in
     let whole : size (termOf e) ≡ 1 + size (p .content) = ap size (termOf-reads (p .whole)) in
-    let room : 4 * (1 + size (p .content)) ≤ length e = fits (encrypted (valueAt e) (p .content)) (p .whole) in
+    let room : 4 * (1 + size (p .content)) ≤ length e = fits (wrapped (is .wrapping) (valueAt e) (p .content)) (p .whole) in
     (omega arith, omega arith)
 
 -- A part's part is a part.

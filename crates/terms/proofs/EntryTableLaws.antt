@@ -6,25 +6,25 @@ use mathlib.Core.Logic.{_⊎_, inl, inr}
 use Prim.Native.Nat.{ℕ, _*_, _/_, _≤_, _<_}
 use native.Mathlib.Decide.{ℕ-discrete}
 use native.Mathlib.Omega.{arith}
-use lib.Dec.{ltb}
+use lib.Dec.{eqb, ltb, leb}
 use lib.ListN.{length, getD, List·getD-eq-default}
 use borrow.Author.Tests.{ltb-true, lt-ltb, le-ltb, eq-eqb, ne-eqb}
 use borrow.Rule.Slice.PartAt.{part-to-end}
 use Rattle.blocks.specs.Kinds.{secretKind, goodKind, badKind}
 use Rattle.terms.specs.declared.valid.Found.the-variants.{At, Nothing}
-use Rattle.terms.specs.Term.{Sort, sort, plain, marked, Range, anyMessage, oneNonce}
+use Rattle.terms.specs.Term.{Sort, sort, plain, marked, Range, anyMessage, oneNonce, Wrapping, encryption, hash, signature}
 use Rattle.terms.specs.declared.atom.Atom.{Atom}
-use Rattle.terms.specs.Atom.{publicKind, atomAt, atomKind, IsKey, key-kind, kind-key}
-use Rattle.terms.specs.Tag.{atomTag, markedNonceTag, sortTag, variables, Tagged, anAtom, aPair, aWrapping, aVariable, noTag, tagged, wrapping-tag}
+use Rattle.terms.specs.Atom.{publicKind, privateKind, atomAt, atomKind, IsKey, key-kind, kind-key}
+use Rattle.terms.specs.Tag.{atomTag, encryptionTag, signatureTag, sortTag, wrappingTag, variables, Tagged, anAtom, aPair, aWrapping, aVariable, noTag, tagged}
 use Rattle.terms.specs.Entry.{tagAt, valueAt, from}
 use Rattle.terms.specs.Each.{EntryIs}
-use Rattle.terms.specs.TermEntry.{MayStand, EntryRight, AskedBy, Asked, asked, tagRight, rightAt?, wrongEntry}
+use Rattle.terms.specs.TermEntry.{NumberRight, MayStand, EntryRight, AskedBy, Asked, asked, tagRight, rightAt?, wrongEntry}
 use Rattle.terms.specs.First.{fails, holds}
 use Rattle.terms.specs.Decisions.{pick, Says, says-same}
-use Rattle.terms.specs.EntryTables.{listedKind, plainLimit, markedLimit, limitsOf, leastKinds, ByTables}
-use Rattle.terms.proofs.AnswerLaws.{says-yes, says-no}
+use Rattle.terms.specs.EntryTables.{listedKind, plainLimit, markedLimit, limitsOf, ByLimits}
+use Rattle.terms.proofs.AnswerLaws.{says-yes, says-no, says-eq, says-le}
 use Rattle.terms.proofs.FirstLaws.{first-only}
-use Rattle.terms.proofs.AtomLaws.{key-listed}
+use Rattle.terms.proofs.AtomLaws.{kind-listed, key-listed}
 
 -- The kind of an atom, by its entry.
 module _ (atoms : List Atom) (n : ℕ) {a : Atom} (is : a ≡ atomAt atoms n) where
@@ -74,10 +74,28 @@ module _ (atoms : List Atom) (kind value : ℕ) where
   unfolding listedKind
   key-kind-listed k = let b = key-kind k in rw (lt-ltb (atomKind atoms value) 6 (omega arith)) (b .0)
 
-  within-asked : (tag : ℕ) → value < getD (limitsOf kind (length atoms)) tag 0 → getD leastKinds tag 0 ≤ listedKind atoms value
-      → Asked atoms kind value tag
-  unfolding Asked limitsOf sortTag MayStand
-  within-asked tag below kept = go (tagged tag) below kept
+  -- A private key, by its kind among those listed.
+  listed-private : listedKind atoms value ≡ privateKind → atomKind atoms value ≡ privateKind
+  unfolding listedKind
+  listed-private = go (ltb (atomKind atoms value) 6) refl
+    where
+      go : (t : Bool) → ltb (atomKind atoms value) 6 ≡ t → pick t (atomKind atoms value) 0 ≡ privateKind → atomKind atoms value ≡ privateKind
+      go true e is = is
+      go false e is = absurd (omega arith)
+
+  private-listed : atomKind atoms value ≡ privateKind → listedKind atoms value ≡ privateKind
+  unfolding listedKind
+  private-listed is = rw (lt-ltb (atomKind atoms value) 6 (omega arith)) is
+
+  -- What the tables ask of an entry of this tag.
+  record Within (tag : ℕ) : Type 0 where
+    below : value < getD (limitsOf kind (length atoms)) tag 0
+    key : tag ≡ encryptionTag → publicKind ≤ listedKind atoms value
+    signer : tag ≡ signatureTag → listedKind atoms value ≡ privateKind
+
+  within-asked : (tag : ℕ) → Within tag → Asked atoms kind value tag
+  unfolding Asked limitsOf sortTag wrappingTag MayStand NumberRight
+  within-asked tag within = go (tagged tag)
     where
       unmarked : (r : Range) → value < plainLimit kind → (value < variables) × MayStand (sort plain r) kind
       unmarked r below = elim (ℕ-discrete kind secretKind) [
@@ -100,29 +118,29 @@ module _ (atoms : List Atom) (kind value : ℕ) where
       sorted (sort plain oneNonce) below = unmarked oneNonce below
       sorted (sort marked oneNonce) below = with-mark oneNonce below
 
-      past : {n : ℕ} (l : List ℕ) → length l ≡ 8 → 7 < n → getD l n 0 ≡ 0
+      number : (w : Wrapping) → Within (wrappingTag w) → NumberRight atoms w value
+      number encryption h = kind-key-listed (h .key refl)
+      number hash h = omega (arith, h .below)
+      number signature h = listed-private (h .signer refl)
+
+      past : {n : ℕ} (l : List ℕ) → length l ≡ 10 → signatureTag < n → getD l n 0 ≡ 0
       past l long far = List·getD-eq-default l 0 (omega arith)
 
-      none : (n : ℕ) → (n < atomTag) ⊎ (markedNonceTag < n) → value < getD (limitsOf kind (length atoms)) n 0 → ⊥
+      none : (n : ℕ) → (n < atomTag) ⊎ (signatureTag < n) → value < getD (limitsOf kind (length atoms)) n 0 → ⊥
       none n (inl low) below = let z : n ≡ 0 = omega arith in let h = rw z at below in omega arith
       none n (inr far) below = let z = past (limitsOf kind (length atoms)) refl far in omega arith
 
-      go : (w : Tagged tag) → value < getD (limitsOf kind (length atoms)) tag 0 → getD leastKinds tag 0 ≤ listedKind atoms value
-          → AskedBy atoms kind value w
-      go (anAtom e) below kept = rw e at below
-      go (aPair e) below kept = let h = rw e at below in omega arith
-      go (aWrapping w e) below kept = kind-key-listed (rw (wrapping-tag w e) at kept)
-      go (aVariable s e) below kept = sorted s (rw e at below)
-      go (noTag e) below kept = absurd (none tag e below)
+      go : (w : Tagged tag) → AskedBy atoms kind value w
+      go (anAtom e) = rw e at (within .below)
+      go (aPair e) = let h = rw e at (within .below) in omega arith
+      go (aWrapping w e) = number w (rw e at within)
+      go (aVariable s e) = sorted s (rw e at (within .below))
+      go (noTag e) = absurd (none tag e (within .below))
 
-  asked-within : (tag : ℕ) → Asked atoms kind value tag
-      → (value < getD (limitsOf kind (length atoms)) tag 0) × (getD leastKinds tag 0 ≤ listedKind atoms value)
-  unfolding Asked limitsOf sortTag MayStand
+  asked-within : (tag : ℕ) → Asked atoms kind value tag → Within tag
+  unfolding Asked limitsOf sortTag wrappingTag MayStand NumberRight
   asked-within tag a = go (tagged tag) a
     where
-      Within : ℕ → Type 0
-      Within n = (value < getD (limitsOf kind (length atoms)) n 0) × (getD leastKinds n 0 ≤ listedKind atoms value)
-
       unmarked : ¬ (kind ≡ secretKind) → value < variables → value < plainLimit kind
       unmarked off low = omega (arith, plain-other off)
 
@@ -131,15 +149,20 @@ module _ (atoms : List Atom) (kind value : ℕ) where
       with-mark (inr is) low = omega (arith, marked-bad (λ e. omega arith) is)
 
       sorted : (s : Sort) → value < variables → MayStand s kind → Within (sortTag s)
-      sorted (sort plain anyMessage) low off = (unmarked off low, omega arith)
-      sorted (sort marked anyMessage) low may = (with-mark may low, omega arith)
-      sorted (sort plain oneNonce) low off = (unmarked off low, omega arith)
-      sorted (sort marked oneNonce) low may = (with-mark may low, omega arith)
+      sorted (sort plain anyMessage) low off = record { below = unmarked off low; key = λ e. absurd (omega (arith, e)); signer = λ e. absurd (omega (arith, e)) }
+      sorted (sort marked anyMessage) low may = record { below = with-mark may low; key = λ e. absurd (omega (arith, e)); signer = λ e. absurd (omega (arith, e)) }
+      sorted (sort plain oneNonce) low off = record { below = unmarked off low; key = λ e. absurd (omega (arith, e)); signer = λ e. absurd (omega (arith, e)) }
+      sorted (sort marked oneNonce) low may = record { below = with-mark may low; key = λ e. absurd (omega (arith, e)); signer = λ e. absurd (omega (arith, e)) }
+
+      number : (w : Wrapping) → NumberRight atoms w value → Within (wrappingTag w)
+      number encryption is = record { below = key-listed is; key = λ e. key-kind-listed is; signer = λ e. absurd (omega (arith, e)) }
+      number hash is = record { below = omega arith; key = λ e. absurd (omega (arith, e)); signer = λ e. absurd (omega (arith, e)) }
+      number signature is = record { below = kind-listed atoms value (omega arith); key = λ e. absurd (omega (arith, e)); signer = λ e. private-listed is }
 
       go : (w : Tagged tag) → AskedBy atoms kind value w → Within tag
-      go (anAtom e) a = rw e (a, omega arith)
-      go (aPair e) a = rw e (omega arith, omega arith)
-      go (aWrapping w e) a = rw (wrapping-tag w e) (key-listed a, key-kind-listed a)
+      go (anAtom e) a = rw e (record { below = a; key = λ e. absurd (omega (arith, e)); signer = λ e. absurd (omega (arith, e)) })
+      go (aPair e) a = rw e (record { below = omega arith; key = λ e. absurd (omega (arith, e)); signer = λ e. absurd (omega (arith, e)) })
+      go (aWrapping w e) a = rw e (number w a)
       go (aVariable s e) a = rw e (sorted s (a .0) (a .1))
       go (noTag e) a = absurd a
 
@@ -148,16 +171,17 @@ module _ (atoms : List Atom) (kind : ℕ) {limits : List ℕ} (tables : limits �
   abbrev Right : List ℕ → Type 0
   Right e = EntryRight atoms kind (tagAt e) (getD e 1 0) (valueAt e)
 
-  within-right : (e : List ℕ) (r : Bool) → Says r (ByTables atoms limits leastKinds e) → Says r (Right e)
-  within-right e r says = says-same {P = ByTables atoms limits leastKinds e} r
+  within-right : (e : List ℕ) (r : Bool) → Says r (ByLimits atoms limits e) → Says r (Right e)
+  within-right e r says = says-same {P = ByLimits atoms limits e} r
       (λ w. record {
         blank = w .blank;
-        tagged = tagRight atoms kind (valueAt e) (tagAt e) (within-asked atoms kind (valueAt e) (tagAt e) (rw tables at (w .below)) (w .kept));
+        tagged = tagRight atoms kind (valueAt e) (tagAt e)
+            (within-asked atoms kind (valueAt e) (tagAt e) (record { below = rw tables at (w .below); key = w .key; signer = w .signer }));
       })
       (λ w. (let a = asked-within atoms kind (valueAt e) (tagAt e) (asked atoms kind (valueAt e) (w .tagged)) in
-      record { blank = w .blank; below = rw tables (a .0); kept = a .1 })) says
+      record { blank = w .blank; below = rw tables (a .below); key = a .key; signer = a .signer })) says
 
-  module _ (e : List ℕ) (n : ℕ) (r : Bool) (says : Says r (ByTables atoms limits leastKinds (from (4 * n) e))) where
+  module _ (e : List ℕ) (n : ℕ) (r : Bool) (says : Says r (ByLimits atoms limits (from (4 * n) e))) where
     right-there : Says r (Right (from (4 * n) e))
     right-there = within-right (from (4 * n) e) r says
 
@@ -168,21 +192,31 @@ module _ (atoms : List Atom) (kind : ℕ) {limits : List ℕ} (tables : limits �
     entry-no f w = says-no {P = Right (from (4 * n) e)} r right-there f (rw part-to-end w)
 
 -- The steps of the test.
-module _ {atoms : List Atom} {limits least e : List ℕ} {tag : ℕ} (is-tag : tag ≡ tagAt e) where
-  pub past-tables : length limits ≡ 8 → 7 < tag → ¬ ByTables atoms limits least e
+module _ (atoms : List Atom) (limits e : List ℕ) where
+  pub past-tables : length limits ≡ 10 → signatureTag < tagAt e → ¬ ByLimits atoms limits e
   past-tables long far w = let z : getD limits (tagAt e) 0 ≡ 0 = List·getD-eq-default limits 0 (omega arith) in let h = w .below in omega arith
 
-  module _ {n : ℕ} (is-value : n ≡ valueAt e) where
-    pub past-limit : getD limits tag 0 ≤ n → ¬ ByTables atoms limits least e
+  module _ {tag n : ℕ} (is-tag : tag ≡ tagAt e) (is-value : n ≡ valueAt e) where
+    pub past-limit : getD limits tag 0 ≤ n → ¬ ByLimits atoms limits e
     past-limit far w = let h = w .below in let k = rw (is-tag, is-value) at far in omega arith
 
-    module _ {k : ℕ} (is-kind : k ≡ listedKind atoms n) where
-      pub less-kind : k < getD least tag 0 → ¬ ByTables atoms limits least e
-      less-kind low w = let h = w .kept in let l = rw (is-kind, is-tag, is-value) at low in omega arith
+    module _ (blank : getD e 1 0 ≡ 0) (below : n < getD limits tag 0) where
+      right-below : valueAt e < getD limits (tagAt e) 0
+      right-below = rw (is-tag, is-value) at below
 
-      pub by-tables : getD e 1 0 ≡ 0 → n < getD limits tag 0 → getD least tag 0 ≤ k → ByTables atoms limits least e
-      by-tables blank below kept =
-          record { blank = blank; below = rw (is-tag, is-value) at below; kept = rw (is-kind, is-tag, is-value) at kept }
+      pub by-key : tagAt e ≡ encryptionTag → {k : ℕ} → k ≡ listedKind atoms n → Says (leb publicKind k) (ByLimits atoms limits e)
+      by-key three {k} is-kind = says-same (leb publicKind k)
+          (λ h. record { blank = blank; below = right-below; key = λ e. rw (is-kind, is-value) at h; signer = λ e. absurd (omega arith) })
+          (λ w. rw (is-kind, is-value) (w .key three)) (says-le publicKind k)
+
+      pub by-signer : tagAt e ≡ signatureTag → {k : ℕ} → k ≡ listedKind atoms n → Says (eqb k privateKind) (ByLimits atoms limits e)
+      by-signer nine {k} is-kind = says-same (eqb k privateKind)
+          (λ h. record { blank = blank; below = right-below; key = λ e. absurd (omega arith); signer = λ e. rw (is-kind, is-value) at h })
+          (λ w. rw (is-kind, is-value) (w .signer nine)) (says-eq k privateKind)
+
+      pub by-limit : ¬ (tagAt e ≡ encryptionTag) → ¬ (tagAt e ≡ signatureTag) → ByLimits atoms limits e
+      by-limit no-key no-signer =
+          record { blank = blank; below = right-below; key = λ e. absurd (no-key e); signer = λ e. absurd (no-signer e) }
 
 -- The first entry that is not right.
 module _ (atoms : List Atom) (kind : ℕ) (e : List ℕ) where

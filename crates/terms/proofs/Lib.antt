@@ -5,6 +5,7 @@ pub mod PlaceLaws
 pub mod TagLaws
 pub mod EntryLaws
 pub mod PlacedLaws
+pub mod PlaceEntryLaws
 pub mod EachLaws
 pub mod FirstLaws
 pub mod AtomLaws

@@ -20,6 +20,7 @@ use Rattle.terms.specs.Slot.{anySlots, slotOf}
 use Rattle.terms.specs.Front.{Ran, Goes}
 use Rattle.terms.specs.TermGraph.{TwoTerms}
 use Rattle.terms.specs.Meetings.{RootsDiffer, Noted, NotedIn, notedSlot, Distinct, Same, AllSame, Walking, Stops, Reduced}
+use Rattle.terms.proofs.TagLaws.{one-child}
 use Rattle.terms.proofs.EntryLaws.{size-positive, leaf-first, from-from, from-length, from-start}
 use Rattle.terms.proofs.SlotLaws.{symbol-slot, nonce-slot}
 use Rattle.terms.proofs.FrontLaws.{front-begins, parted, alike-term, alike-other, front-few}
@@ -171,7 +172,7 @@ leaf-one : {e : List ℕ} → Begins e → childrenOf (tagAt e) ≡ 0 → 1 ≡ 
 unfolding childrenOf
 leaf-one {e} b none =
     leaf-first b (λ two. let z : childrenOf (tagAt e) ≡ 2 = ap childrenOf two in absurd (omega arith))
-    (λ three. let z : childrenOf (tagAt e) ≡ 1 = ap childrenOf three in absurd (omega arith))
+    (λ one. absurd (omega (arith, one-child one)))
 
 -- Entries without children are noted, and the walk goes on at the next ones.
 pub walking-leaves : {s t m : List ℕ} {n i j need : ℕ} (w : Walking s t m n i j need) → ¬ (need ≡ 0) → TwoTerms s t → childrenOf (getD s (4 * i) 0) ≡ 0

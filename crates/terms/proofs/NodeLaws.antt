@@ -8,28 +8,33 @@ use native.Mathlib.Omega.{arith}
 use native.Mathlib.Decide.{decLt}
 use lib.ListN.{length, getD}
 use borrow.Author.Tests.{lt-ltb, le-ltb}
-use Rattle.terms.specs.Term.{Sort, sort, plain, marked, anyMessage, oneNonce}
-use Rattle.terms.specs.Tag.{pairTag, encryptionTag, plainTag, markedNonceTag, sortTag, variables, VariableTag, Tagged, anAtom, aPair, aWrapping, aVariable, noTag, wrapping-tag, sort-tag}
+use Rattle.terms.specs.Term.{Sort, Wrapping}
+use Rattle.terms.specs.Tag.{pairTag, plainTag, signatureTag, sortTag, variables, VariableTag, Tagged, anAtom, aPair, aWrapping, aVariable, noTag, wrapping-tag, wrapping-symbol, wrapping-tagged, sort-tag, sort-range}
 use Rattle.terms.proofs.SlotLaws.{slot-by-tag}
-use Rattle.terms.specs.Tag.{tagged, freeBy, freeTag}
+use Rattle.terms.specs.Tag.{tagged, freeBy, freeTag, wrappingTag, WrapperTag}
 use Rattle.terms.specs.Entry.{Begins}
-use Rattle.terms.specs.Graph.{free, IsSymbol}
+use Rattle.terms.specs.Graph.{free, wrapperNode, IsSymbol}
 use Rattle.terms.specs.TermGraph.{rightNodes, variableNodes, rightVariables, tagIn, valueIn, homeFor, homeBy, home, rightIn, nodeFor, nodeBy, nodeTag}
 use Rattle.terms.specs.TermGraph.{nodeValue, firstChild, secondChild, nodeOf, TwoTerms, SizesOf, AtHome, OwnEntry, HasChild}
 use Rattle.terms.proofs.EntryLaws.{fits}
 use Rattle.terms.proofs.TermGraphLaws.{home-there, left-side, right-side}
-use Rattle.terms.proofs.SizeLaws.{tag-inside, pair-there, encryption-there, whole-entry}
-
--- The last tag of a sort.
-last-sort : (s : Sort) {tag : ℕ} → tag ≡ sortTag s → tag ≤ markedNonceTag
-unfolding sortTag
-last-sort (sort plain anyMessage) e = omega arith
-last-sort (sort marked anyMessage) e = omega arith
-last-sort (sort plain oneNonce) e = omega arith
-last-sort (sort marked oneNonce) e = omega arith
+use Rattle.terms.proofs.SizeLaws.{tag-inside, tag-there, pair-there, wrapped-there, whole-entry}
 
 -- The node of an entry, by its tag.
 module _ (e : List ℕ) (base slots k : ℕ) where
+  pub home-variable : {n : ℕ} → VariableTag (tagIn e k) → tagIn e k ≤ signatureTag → n ≡ valueIn e k
+      → slots + variables * (tagIn e k - plainTag) + n % variables ≡ home e base slots k
+  unfolding home homeBy
+  home-variable {n} some few q = rw q (go (tagged (tagIn e k)))
+    where
+      go : (w : Tagged (tagIn e k)) → slots + variables * (tagIn e k - plainTag) + valueIn e k % variables ≡ homeFor w (valueIn e k) slots (base + k)
+      go (anAtom g) = absurd (omega arith)
+      go (aPair g) = absurd (omega arith)
+      go (aWrapping w g) = absurd (omega (arith, wrapping-symbol w g))
+      go (aVariable s g) = rw g (omega (arith, slot-by-tag s (valueIn e k % variables)))
+      go (noTag (inl low)) = absurd (omega arith)
+      go (noTag (inr high)) = absurd (omega arith)
+
   own-by : ((s : Sort) → tagIn e k ≡ sortTag s → ⊥) → base + k ≡ home e base slots k
   unfolding home homeBy
   own-by off = go (tagged (tagIn e k))
@@ -41,24 +46,11 @@ module _ (e : List ℕ) (base slots k : ℕ) where
       go (aVariable s g) = absurd (off s g)
       go (noTag g) = refl
 
-  pub home-variable : {n : ℕ} → VariableTag (tagIn e k) → tagIn e k ≤ markedNonceTag → n ≡ valueIn e k
-      → slots + variables * (tagIn e k - plainTag) + n % variables ≡ home e base slots k
-  unfolding home homeBy
-  home-variable {n} some few q = rw q (go (tagged (tagIn e k)))
-    where
-      go : (w : Tagged (tagIn e k)) → slots + variables * (tagIn e k - plainTag) + valueIn e k % variables ≡ homeFor w (valueIn e k) slots (base + k)
-      go (anAtom g) = absurd (omega arith)
-      go (aPair g) = absurd (omega arith)
-      go (aWrapping w g) = absurd (omega (arith, wrapping-tag w g))
-      go (aVariable s g) = rw g (omega (arith, slot-by-tag s (valueIn e k % variables)))
-      go (noTag (inl low)) = absurd (omega arith)
-      go (noTag (inr high)) = absurd (omega arith)
-
   pub home-own : ¬ VariableTag (tagIn e k) → base + k ≡ home e base slots k
   home-own symbol = own-by (λ s g. symbol (sort-tag s g))
 
-  pub home-past : markedNonceTag < tagIn e k → base + k ≡ home e base slots k
-  home-past far = own-by (λ s g. omega (arith, last-sort s g))
+  pub home-past : signatureTag < tagIn e k → base + k ≡ home e base slots k
+  home-past far = own-by (λ s g. omega (arith, sort-range s g))
 
 -- The tag of a node, in each of its three regions.
 module _ (s t : List ℕ) {i : ℕ} where
@@ -89,6 +81,10 @@ module _ (s t : List ℕ) where
   pub node-by : (i : ℕ) {n : ℕ} → nodeTag s t i ≡ n → nodeOf s t i ≡ nodeBy n (nodeValue s t i) (firstChild s t i) (secondChild s t i)
   unfolding nodeOf
   node-by i e = ap (λ (m : ℕ). nodeBy m (nodeValue s t i) (firstChild s t i) (secondChild s t i)) e
+
+  pub wrapper-node : (i : ℕ) (w : Wrapping) → nodeTag s t i ≡ wrappingTag w → nodeOf s t i ≡ wrapperNode w (nodeValue s t i) (firstChild s t i)
+  unfolding nodeBy
+  wrapper-node i w e = node-by i e ∙ rw (wrapping-tagged w) refl
 
   free-node : {n : ℕ} (w : Tagged n) (v l r : ℕ) → freeBy w ≡ true → IsSymbol (nodeFor w v l r) → ⊥
   free-node (anAtom e) v l r f is = false≢true f
@@ -165,6 +161,13 @@ module _ {s t : List ℕ} (both : TwoTerms s t) {i : ℕ} where
   pub symbol-inside : IsSymbol (nodeOf s t i) → OwnEntry s t i
   symbol-inside is = tag-at-entry (some-symbol s t i is)
 
+-- The tag of an entry's own node is one of those there are.
+pub own-tag : {s t : List ℕ} {i : ℕ} → TwoTerms s t → OwnEntry s t i → nodeTag s t i ≤ signatureTag
+own-tag {s} {t} {i} both own = elim (decLt i rightNodes) [
+  | yes h ↦ rw (left-tag s t h) (tag-there i (both .left) (omega (arith, own .left h)))
+  | no n ↦ let far : rightNodes ≤ i = omega arith in rw (right-tag s t far (own .low)) (tag-there (i - rightNodes) (both .right) (omega (arith, own .right far)))
+]
+
 -- A node at home that is no variable's is a symbol's.
 pub home-symbol : {s t : List ℕ} {i : ℕ} → AtHome s t i → i < variableNodes → IsSymbol (nodeOf s t i)
 home-symbol at-home low = ⊎-elim (λ high. absurd (omega arith)) (λ is. is) (at-home .is)
@@ -181,15 +184,15 @@ home-right s t k both fit =
     home-there (nodeOf s t) t rightNodes rightVariables (both .right-short) (right-side s t) (both .right) k (omega arith) (omega arith) (omega arith) fit in
     record { small = there .0; is = there .1 }
 
--- Where the children of a pair or an encryption at entry k stand.
-first-fits : {e : List ℕ} (k : ℕ) → Begins e → (tagIn e k ≡ pairTag) ⊎ (tagIn e k ≡ encryptionTag) → 4 * (k + 1 + 1) ≤ length e
+-- Where the children stand of a pair, or of something around a term, at entry k.
+first-fits : {e : List ℕ} (k : ℕ) → Begins e → (tagIn e k ≡ pairTag) ⊎ WrapperTag (tagIn e k) → 4 * (k + 1 + 1) ≤ length e
 first-fits k b (inl two) = whole-entry (k + 1) b (pair-there k b two .is .left-fits)
-first-fits k b (inr three) = whole-entry (k + 1) b (encryption-there k b three .is .content-fits)
+first-fits k b (inr one) = whole-entry (k + 1) b (wrapped-there k b (one .wrapping) (one .is) .is .content-fits)
 
 -- The children of a node, on each side.
 pub child-inside : {s t : List ℕ} {i : ℕ} → TwoTerms s t → HasChild s t i → OwnEntry s t i
 child-inside both (inl two) = tag-at-entry both (omega arith)
-child-inside both (inr three) = tag-at-entry both (omega arith)
+child-inside both (inr one) = tag-at-entry both (omega (arith, wrapping-tag (one .wrapping) (one .is)))
 
 module _ (s t : List ℕ) (i : ℕ) where
   pub first-on-left : i < rightNodes → home s 0 variableNodes (i + 1) ≡ firstChild s t i
@@ -211,11 +214,13 @@ module _ (s t : List ℕ) (i : ℕ) where
 module _ {s t : List ℕ} {i : ℕ} (both : TwoTerms s t) where
   pub left-first-fits : HasChild s t i → i < rightNodes → 4 * (i + 1 + 1) ≤ length s
   left-first-fits (inl two) h = first-fits i (both .left) (inl (sym (left-tag s t h) ∙ two))
-  left-first-fits (inr three) h = first-fits i (both .left) (inr (sym (left-tag s t h) ∙ three))
+  left-first-fits (inr one) h =
+      first-fits i (both .left) (inr (record { wrapping = one .wrapping; is = sym (left-tag s t h) ∙ one .is }))
 
   pub right-first-fits : HasChild s t i → rightNodes ≤ i → i < variableNodes → 4 * (i - rightNodes + 1 + 1) ≤ length t
   right-first-fits (inl two) l h = first-fits (i - rightNodes) (both .right) (inl (sym (right-tag s t l h) ∙ two))
-  right-first-fits (inr three) l h = first-fits (i - rightNodes) (both .right) (inr (sym (right-tag s t l h) ∙ three))
+  right-first-fits (inr one) l h =
+      first-fits (i - rightNodes) (both .right) (inr (record { wrapping = one .wrapping; is = sym (right-tag s t l h) ∙ one .is }))
 
 -- The right half of a pair at entry k, by the sizes.
 pub record RightThere (e z : List ℕ) (k : ℕ) : Type 0 where

@@ -11,21 +11,21 @@ use lib.Dec.{ltb, eqb}
 use borrow.Author.Tests.{lt-ltb, ltb-true}
 use Rattle.blocks.specs.Kinds.{secretKind}
 use Rattle.terms.specs.declared.valid.Found.the-variants.{Nothing}
-use Rattle.terms.specs.Term.{Term, variable, atom, pair, encrypted, Message, Sort, sort, plain, marked, Variable, named, replace, asTerm, wrapped, encryption}
+use Rattle.terms.specs.Term.{Term, variable, atom, pair, encrypted, Message, Sort, sort, plain, marked, Variable, named, replace, asTerm, wrapped, Wrapping, encryption}
 use Rattle.terms.specs.declared.atom.Atom.{Atom}
 use Rattle.terms.specs.Atom.{IsKey}
-use Rattle.terms.specs.Tag.{encryptionTag, variables, sort-tagged}
+use Rattle.terms.specs.Tag.{encryptionTag, wrappingTag, variables, wrapping-tagged, sort-tagged}
 use Rattle.terms.specs.Entry.{Symbol, atomSymbol, pairSymbol, wrapperSymbol, variableSymbol, tagOf, valueOf, entryOf, termEntries, size, numbered}
 use Rattle.terms.specs.Entry.{symbolOf, withZero, termsOf, termOf, Reads, Begins, tagAt, valueAt}
 use Rattle.terms.specs.Each.{Each, none-left, one-more}
-use Rattle.terms.specs.TermEntry.{MayStand, TagRight, atomEntry, pairEntry, encryptionEntry, variableEntry, EntryRight, Asked, asked, rightAt?}
+use Rattle.terms.specs.TermEntry.{NumberRight, MayStand, TagRight, atomEntry, pairEntry, wrappingEntry, variableEntry, EntryRight, Asked, asked, rightAt?}
 use Rattle.terms.specs.TermEntry.{wrongEntry}
 use Rattle.terms.specs.OneTerm.{Numbered, OneTerm, HasSymbol, IsEncryption}
 use Rattle.terms.specs.Decisions.{Says, says-same}
 use Rattle.terms.specs.Reading.{First, first-atom, first-pair, first-wrapped, first-variable, none≢some, first, never-empty, entriesAll, AllOf}
 use Rattle.terms.specs.Reading.{read-entries, one-reads}
 use Rattle.terms.proofs.AnswerLaws.{says-eq}
-use Rattle.terms.proofs.EntryLaws.{reads-encrypted, termOf-reads, begins, encryption-first}
+use Rattle.terms.proofs.EntryLaws.{reads-encrypted, termOf-reads, begins, wrapped-first}
 use Rattle.terms.proofs.EachLaws.{each-of, each-map}
 use Rattle.terms.proofs.FirstLaws.{first-none}
 
@@ -49,7 +49,7 @@ entry-symbol {atoms} {kind} {tag} {zeroByte} {value} w = go (w .tagged)
     go : TagRight atoms kind tag value → HasSymbol tag zeroByte value
     go (atomEntry t l) = record { symbol = atomSymbol value; is = rw (w .blank, t) }
     go (pairEntry t z) = record { symbol = pairSymbol; is = rw (w .blank, t, z) }
-    go (encryptionEntry t k) = record { symbol = wrapperSymbol encryption value; is = rw (w .blank, t) }
+    go (wrappingEntry wr t k) = record { symbol = wrapperSymbol wr value; is = rw (w .blank, t, wrapping-tagged wr) }
     go (variableEntry s t l k) = record { symbol = variableSymbol (named s value); is = rw (w .blank, t, sort-tagged s, lt-ltb value variables l) }
 
 pub right-symbols : {atoms : List Atom} {kind : ℕ} {e : List ℕ} → Each (EntryRight atoms kind) e → Each HasSymbol e
@@ -95,12 +95,12 @@ some-term {e} each t is =
 pub one-iff-entries : {e : List ℕ} → Each HasSymbol e → OneTerm e ↔ ((t : Term Variable) × (e ≡ termEntries t))
 one-iff-entries each = (λ o. (o .term, o .is), λ w. some-term each (w .0) (w .1))
 
--- A term of a block of this kind: every atom number is below the number of atoms, every key is a key, every variable
--- is allowed here.
+-- A term of a block of this kind: every atom number is below the number of atoms, the number that goes with anything around a
+-- term is right, every variable is allowed here.
 pub data TermRight (atoms : List Atom) (kind : ℕ) : Term Variable → Type 0 where
   atomRight : {a : ℕ} → a < length atoms → TermRight atoms kind (atom a)
   pairRight : {t u : Term Variable} → TermRight atoms kind t → TermRight atoms kind u → TermRight atoms kind (pair t u)
-  encryptedRight : {k : ℕ} {t : Term Variable} → IsKey atoms k → TermRight atoms kind t → TermRight atoms kind (encrypted k t)
+  wrappedRight : {w : Wrapping} {k : ℕ} {t : Term Variable} → NumberRight atoms w k → TermRight atoms kind t → TermRight atoms kind (wrapped w k t)
   variableRight : {s : Sort} {x : ℕ} → x < variables → MayStand s kind → TermRight atoms kind (variable (named s x))
 
 -- Right entries are read as such terms.
@@ -116,7 +116,8 @@ right-terms {atoms} {kind} (one-more {tag} {zeroByte} {low} {high} {rest} p each
         → ((m : List (Term Variable)) → Reads rest m → AllOf (TermRight atoms kind) m) → AllOf (TermRight atoms kind) n
     go n (first-atom {m} g q k) a ih = rw q (atomRight (rw g at a), ih m k)
     go n (first-pair {t = u} {u = v} {m} g z q k) a ih = let w = ih (u ∷ v ∷ m) k in rw q (pairRight (w .0) (w .1 .0), w .1 .1)
-    go n (first-wrapped {w = encryption} {t = u} {m = m} i g q k) a ih = let w = ih (u ∷ m) k in rw q (encryptedRight (rw g at a) (w .0), w .1)
+    go n (first-wrapped {w = wr} {t = u} {m = m} i g q k) a ih =
+        let w = ih (u ∷ m) k in rw q (wrappedRight (rw (i, wrapping-tagged wr) at a) (w .0), w .1)
     go n (first-variable {s = s} {m = m} g v low q k) a ih = rw q (variableRight low ((rw (g, sort-tagged s) at a) .1), ih m k)
 
 pub right-term : {atoms : List Atom} {kind : ℕ} {e : List ℕ} → Each (EntryRight atoms kind) e → OneTerm e → TermRight atoms kind (termOf e)
@@ -134,7 +135,7 @@ pub secret-message : {atoms : List Atom} {kind : ℕ} {t : Term Variable} → ki
 unfolding asTerm replace
 secret-message s (atomRight {a} l) = (atom a, refl)
 secret-message s (pairRight w v) = let a = secret-message s w in let b = secret-message s v in (pair (a .0) (b .0), ap₂ pair (a .1) (b .1))
-secret-message s (encryptedRight {k} i w) = let a = secret-message s w in (encrypted k (a .0), ap (encrypted k) (a .1))
+secret-message s (wrappedRight {w = wr} {k = k} i w) = let a = secret-message s w in (wrapped wr k (a .0), ap (wrapped wr k) (a .1))
 secret-message s (variableRight {s = σ} l k) = absurd (secret-bare σ s k)
 
 -- Entries that are exactly one term have its size.
@@ -152,7 +153,8 @@ one-whole {e} o =
 
 -- The root's tag.
 pub says-encryption : {e : List ℕ} → Begins e → Says (eqb (tagAt e) encryptionTag) (IsEncryption (termOf e))
+unfolding wrappingTag
 says-encryption {e} w = says-same (eqb (tagAt e) encryptionTag)
-    (λ t. (let f = encryption-first w t in record { key = valueAt e; content = f .content; is = termOf-reads (f .whole) }))
+    (λ t. (let f = wrapped-first w encryption t in record { key = valueAt e; content = f .content; is = termOf-reads (f .whole) }))
     (λ r. (let same : w .term ≡ encrypted (r .key) (r .content) = sym (termOf-reads (w .reads)) ∙ r .is in
     reads-encrypted (rw same at (w .reads)) .0)) (says-eq (tagAt e) encryptionTag)

@@ -157,6 +157,15 @@ pub subterm-at : {t s : Term Variable} {k : ℕ} {p : Place} {e : List ℕ} {l :
     → termOf (from (4 * k) e) ≡ s
 subterm-at w r = rw part-to-end (termOf-reads (placed-reads w r .1))
 
+-- The part of a part ends within it.
+pub part-within : {X : Type 0} {t s u : Term X} {k h : ℕ} {p q : Place} → Placed t k p s → Placed t h q u → k ≤ h → h < k + size s → h + size u ≤ k + size s
+part-within {s = s} {u = u} {k = k} {h = h} high low above below =
+    let w = spotted s (h - k) (omega arith) in
+    let there : k + (h - k) ≡ h = omega arith in
+    let same : u ≡ w .subterm = one-subterm low (rw there at (placed-below high (w .is))) in
+    let sized : size u ≡ size (w .subterm) = ap size same in
+    omega (arith, within (w .is))
+
 -- Below the root the entries are others.
 below-root : {X : Type 0} (a : Turn) (r : Place) (t : Term X) {s : Term X} → subtermAt (a ∷ r) t ≡ some s → 0 < entryAt (a ∷ r) t
 unfolding entryAt

@@ -6,7 +6,7 @@ use native.Mathlib.Omega.{arith}
 use lib.ListN.{drop}
 use Rattle.terms.specs.Term.{Term, atom, pair, Message, Variable, replace, wrapped}
 use Rattle.terms.specs.Apart.{Common}
-use Rattle.terms.specs.Tag.{SymbolTag}
+use Rattle.terms.specs.Tag.{SymbolTag, sort-tag}
 use Rattle.terms.specs.Entry.{termOf, Begins, tagAt, valueAt}
 use Rattle.terms.specs.Solve.{form}
 use Rattle.terms.specs.Reading.{First, first-atom, first-pair, first-wrapped, first-variable, first}
@@ -15,8 +15,8 @@ use Rattle.terms.proofs.ClassLaws.{number}
 
 -- Replacing variables leaves a symbol at the root as it is.
 record Root (tag value : ℕ) (t : Term Variable) : Type 0 where
-  tagged : tag ≤ 3 → (by : Variable → Message) → form (replace by t) ≡ tag
-  valued : tag ≤ 3 → (by : Variable → Message) → number (replace by t) ≡ value
+  tagged : SymbolTag tag → (by : Variable → Message) → form (replace by t) ≡ tag
+  valued : SymbolTag tag → (by : Variable → Message) → number (replace by t) ≡ value
 
 root : {e : List ℕ} → Begins e → Root (tagAt e) (valueAt e) (termOf e)
 unfolding replace form number
@@ -29,7 +29,8 @@ root {e} b = go (first (b .reads)) (termOf-reads (b .reads))
         let here : t ≡ pair l r = cc in record { tagged = λ h by. rw here (sym g); valued = λ h by. rw here (sym zero) }
     go {n = n} {t = t} (first-wrapped {w = w} {t = c} i g q k) is =
         let here : t ≡ wrapped w n c = cc in record { tagged = λ h by. rw here (sym i); valued = λ h by. rw here }
-    go (first-variable g v n q k) is = record { tagged = λ h by. absurd (omega arith); valued = λ h by. absurd (omega arith) }
+    go (first-variable {s = s} g v n q k) is =
+        record { tagged = λ h by. absurd (omega (arith, sort-tag s g)); valued = λ h by. absurd (omega (arith, sort-tag s g)) }
 
 module _ {s t : List ℕ} (left : Begins s) (right : Begins t) (symbol : SymbolTag (tagAt s)) (other : SymbolTag (tagAt t)) where
   pub tags-apart : (tagAt s ≡ tagAt t → ⊥) → Common (termOf s) (termOf t) → ⊥

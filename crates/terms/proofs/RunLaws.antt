@@ -5,13 +5,13 @@ use mathlib.Core.List.{List}
 use mathlib.Core.Logic.{_↔_}
 use Prim.Native.Nat.{ℕ, _+_, _*_, _-_, _≤_}
 use native.Mathlib.Omega.{arith}
-use lib.ListN.{length, replicate}
+use lib.ListN.{length, getD, replicate}
 use Rattle.blocks.specs.Limits.{mostTermBytes}
 use Rattle.terms.specs.Term.{Term, variable, Variable, replace, asTerm}
 use Rattle.terms.specs.declared.atom.Atom.{Atom}
 use Rattle.terms.specs.Instance.{Matches}
 use Rattle.terms.specs.Apart.{Common}
-use Rattle.terms.specs.Tag.{SymbolTag, childrenOf}
+use Rattle.terms.specs.Tag.{SymbolTag, signatureTag, childrenOf}
 use Rattle.terms.specs.Entry.{termOf, Begins, tagAt, from}
 use Rattle.terms.specs.Decisions.{Says, says-same}
 use Rattle.terms.specs.Occurs.{replace-twice}
@@ -19,9 +19,10 @@ use Rattle.terms.specs.Decide.{answer, variable?, term?, match?}
 use Rattle.terms.specs.Slot.{slotCount}
 use Rattle.terms.specs.Front.{Front, Takes, SameFirst, Alike, Ran, Goes, Ready, NoncesBound, Made}
 use Rattle.terms.proofs.AnswerLaws.{says-answer}
-use Rattle.terms.proofs.EntryLaws.{from-from, from-length, from-start}
+use Rattle.terms.proofs.EntryLaws.{begins-tag, from-from, from-length, from-start}
 use Rattle.terms.proofs.SlotLaws.{symbol-slot}
 use Rattle.terms.proofs.FrontLaws.{next, front-begins, opened, KeepsFirst, next-symbol, alike-symbol, alike-other, front-few}
+use Rattle.terms.proofs.TermGraphLaws.{tag-from}
 use Rattle.terms.proofs.SameLaws.{one-term, alike-one, same-clash, same-answer}
 use Rattle.terms.proofs.MatchLaws.{none-bound}
 
@@ -39,6 +40,10 @@ ran-start {e = e} {f = f} b d = record {
 -- There is room for an entry where a term is left.
 pub front-room : (e : List ℕ) (k : ℕ) {left : ℕ} → Front left (from (4 * k) e) → ¬ (left ≡ 0) → 4 * (k + 1) ≤ length e
 front-room e k f some-left = omega (arith, front-begins f some-left .room, from-length (4 * k) e)
+
+-- And its tag is one of those there are.
+pub front-tag : (e : List ℕ) (k : ℕ) {left : ℕ} → Front left (from (4 * k) e) → ¬ (left ≡ 0) → getD e (4 * k) 0 ≤ signatureTag
+front-tag e k f some-left = rw (tag-from e k) (begins-tag (front-begins f some-left))
 
 -- One symbol more.
 module _ {need : ℕ} {e f : List ℕ} {k left : ℕ} (r : Ran need e f k left) where
@@ -84,7 +89,7 @@ module _ {need : ℕ} {e f : List ℕ} {k left : ℕ} (r : Ran need e f k left) 
       both by by′ =
           let low = g .symbol in
           let tags = g .same .tag in
-          alike-symbol left (r .front) (r .other-front) (g .some-left) by by′ (keeps low (g .some-left) by) (keeps-other (omega arith) (g .some-left) by′) (g .same)
+          alike-symbol left (r .front) (r .other-front) (g .some-left) by by′ (keeps low (g .some-left) by) (keeps-other (rw tags at low) (g .some-left) by′) (g .same)
 
   pub ran-small : 4 * left ≤ length f
   ran-small = let room = r .other-front .room in omega (arith, from-length (4 * k) f)

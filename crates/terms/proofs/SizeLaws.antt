@@ -12,13 +12,13 @@ use lib.Seq.{drop-drop, getD-drop, getD-set-same, getD-set-other}
 use borrow.Author.Tests.{ltb-true, ltb-false}
 use borrow.Rule.Slice.PartAt.{part-to-end}
 use Rattle.blocks.specs.Limits.{mostTermBytes, mostTermEntries}
-use Rattle.terms.specs.Term.{Term, encrypted, Variable, encryption}
+use Rattle.terms.specs.Term.{Term, wrapped, Variable, Wrapping, encryption, hash, signature}
 use mathlib.Core.Logic.{inl, inr}
-use Rattle.terms.specs.Tag.{pairTag, encryptionTag, MarkedTag}
+use Rattle.terms.specs.Tag.{pairTag, signatureTag, wrappingTag, WrapperTag, MarkedTag}
 use Rattle.terms.specs.Entry.{size, termOf, Reads, Begins, from}
 use Rattle.terms.specs.TermGraph.{tagIn, valueIn, rightIn, sizeIn, SizesOf}
 use Rattle.terms.specs.Sizes.{SizedFrom, KeptBelow}
-use Rattle.terms.proofs.EntryLaws.{four, termOf-reads, fits, suffix, pair-first, encryption-first, leaf-first}
+use Rattle.terms.proofs.EntryLaws.{begins-tag, four, termOf-reads, fits, suffix, pair-first, wrapped-first, leaf-first}
 use Rattle.terms.proofs.TermGraphLaws.{tag-in, value-in, PairIn, pair-in, WrappedIn, wrapped-in}
 
 -- An entry with a tag lies before the end.
@@ -46,17 +46,23 @@ pair-there {e} k b g =
     let p = pair-first here (sym (tag-in e k) ∙ g) in
     record { left = p .left; right = p .right; others = p .others; is = pair-in e k (p .whole) }
 
--- Tag 3: an encryption.
-pub record EncryptionThere (e : List ℕ) (k : ℕ) : Type 0 where
+-- A wrapper's tag: something around a term.
+wrapper-inside : (e : List ℕ) (k : ℕ) (w : Wrapping) → tagIn e k ≡ wrappingTag w → 4 * k < length e
+unfolding wrappingTag
+wrapper-inside e k encryption g = tag-inside e k g
+wrapper-inside e k hash g = tag-inside e k g
+wrapper-inside e k signature g = tag-inside e k g
+
+pub record WrappedThere (e : List ℕ) (k : ℕ) (w : Wrapping) : Type 0 where
   pub content : Term Variable
   pub others : List (Term Variable)
-  pub is : WrappedIn encryption e k (valueIn e k) content others
+  pub is : WrappedIn w e k (valueIn e k) content others
 
-pub encryption-there : {e : List ℕ} (k : ℕ) → Begins e → tagIn e k ≡ encryptionTag → EncryptionThere e k
-encryption-there {e} k b g =
-    let here = suffix k b (tag-inside e k g) in
-    let p = encryption-first here (sym (tag-in e k) ∙ g) in
-    let whole : Reads (drop (4 * k) e) (encrypted (valueIn e k) (p .content) ∷ p .others) = rw value-in (p .whole) in
+pub wrapped-there : {e : List ℕ} (k : ℕ) → Begins e → (w : Wrapping) → tagIn e k ≡ wrappingTag w → WrappedThere e k w
+wrapped-there {e} k b w g =
+    let here = suffix k b (wrapper-inside e k w g) in
+    let p = wrapped-first here w (sym (tag-in e k) ∙ g) in
+    let whole : Reads (drop (4 * k) e) (wrapped w (valueIn e k) (p .content) ∷ p .others) = rw value-in (p .whole) in
     record { content = p .content; others = p .others; is = wrapped-in e k whole }
 
 -- The size of the term at entry k, by its tag.
@@ -70,18 +76,21 @@ pair-size {e} k b g =
     let q = pair-in e k (p .whole) in
     size-read (p .whole) ∙ sym (ap₂ (λ (x y : ℕ). 1 + (x + y)) (size-read (q .left)) (size-read (q .right)))
 
-pub encryption-size : {e : List ℕ} (k : ℕ) → Begins e → tagIn e k ≡ encryptionTag → sizeIn e k ≡ 1 + sizeIn e (k + 1)
+pub wrapped-size : {e : List ℕ} (k : ℕ) → Begins e → (w : Wrapping) → tagIn e k ≡ wrappingTag w → sizeIn e k ≡ 1 + sizeIn e (k + 1)
 unfolding size
-encryption-size {e} k b g =
-    let p = encryption-first (suffix k b (tag-inside e k g)) (sym (tag-in e k) ∙ g) in
+wrapped-size {e} k b w g =
+    let p = wrapped-first (suffix k b (wrapper-inside e k w g)) w (sym (tag-in e k) ∙ g) in
     let q = wrapped-in e k (p .whole) in
     size-read (p .whole) ∙ sym (ap (λ (x : ℕ). 1 + x) (size-read (q .content)))
 
-pub leaf-size : {e : List ℕ} (k : ℕ) → Begins e → 4 * k < length e → (tagIn e k ≡ pairTag → ⊥) → (tagIn e k ≡ encryptionTag → ⊥) → sizeIn e k ≡ 1
-leaf-size {e} k b inside no-pair no-encryption =
-    sym (leaf-first (suffix k b inside) (λ g. no-pair (tag-in e k ∙ g)) (λ g. no-encryption (tag-in e k ∙ g)))
+pub leaf-size : {e : List ℕ} (k : ℕ) → Begins e → 4 * k < length e → (tagIn e k ≡ pairTag → ⊥) → ¬ WrapperTag (tagIn e k) → sizeIn e k ≡ 1
+leaf-size {e} k b inside no-pair no-wrapper =
+    sym (leaf-first (suffix k b inside) (λ g. no-pair (tag-in e k ∙ g)) (λ g. no-wrapper (record { wrapping = g .wrapping; is = tag-in e k ∙ g .is })))
 
--- Where an entry begins, all of it is there.
+-- Where an entry begins, its tag is one of those there are, and all of it is there.
+pub tag-there : {e : List ℕ} (k : ℕ) → Begins e → 4 * k < length e → tagIn e k ≤ signatureTag
+tag-there {e} k b inside = rw (tag-in e k) (begins-tag (suffix k b inside))
+
 pub whole-entry : {e : List ℕ} (k : ℕ) → Begins e → 4 * k < length e → 4 * (k + 1) ≤ length e
 whole-entry {e} k b inside = omega (arith, four (suffix k b inside .reads), length-drop (4 * k) e)
 
@@ -101,7 +110,7 @@ pub record PairSizes (e z : List ℕ) (base k : ℕ) : Type 0 where
   pub whole : sizeIn e k ≡ 1 + (sizeIn e (k + 1) + sizeIn e (rightIn e k))
   pub small : sizeIn e k ≤ mostTermEntries
 
--- And of the content of an encryption.
+-- And of the content of a term with something around it.
 pub record ContentSize (e z : List ℕ) (base k : ℕ) : Type 0 where
   pub inside : base + k + 1 < length z
   pub content-size : getD z (base + k + 1) 0 ≡ sizeIn e (k + 1)
@@ -129,14 +138,14 @@ module _ {e z : List ℕ} {base : ℕ} (k : ℕ) (b : Begins e) (short : length 
         small = omega arith;
       }
 
-  pub content-size : tagIn e k ≡ encryptionTag → ContentSize e z base k
-  content-size three =
-      let p = encryption-there k b three .is in
-      let room = size-fits k b (tag-inside e k three) in
+  pub content-size : WrapperTag (tagIn e k) → ContentSize e z base k
+  content-size one =
+      let p = wrapped-there k b (one .wrapping) (one .is) .is in
+      let room = size-fits k b (wrapper-inside e k (one .wrapping) (one .is)) in
       record {
         inside = omega (arith, p .content-fits, sized .room);
         content-size = next-size (p .content-fits);
-        whole = encryption-size k b three;
+        whole = wrapped-size k b (one .wrapping) (one .is);
         small = omega arith;
       }
 

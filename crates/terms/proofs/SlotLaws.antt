@@ -7,7 +7,7 @@ use native.Mathlib.Decide.{decLt}
 use lib.ListN.{drop}
 use borrow.Author.Tests.{lt-ltb, le-ltb}
 use Rattle.terms.specs.Term.{variable, Marking, Sort, sort, plain, marked, anyMessage, oneNonce, named, Term, atom, pair, wrapped, Variable, rangeOf}
-use Rattle.terms.specs.Tag.{variables, plainTag, sortTag, SymbolTag, VariableTag, sort-tag}
+use Rattle.terms.specs.Tag.{variables, plainTag, sortTag, SymbolTag, VariableTag, wrapping-symbol, sort-tag}
 use Rattle.terms.specs.Entry.{termOf, Begins, tagAt, valueAt}
 use Rattle.terms.specs.Reading.{First, first-atom, first-pair, first-wrapped, first-variable, first}
 use Rattle.terms.specs.Slot.{slotCount, anySlots, slotIn, slotOf, inSlot}
@@ -121,7 +121,7 @@ slot-first {e} b = go (first (b .reads))
     go (first-pair {t} {u} g n q k) = rw (termOf-reads (rw q at (b .reads)))
         (symbol-slotted (tagAt e) (valueAt e) (pair t u) (omega arith) refl (λ x h. (let z : _≡_ {A = ℕ} 0 1 = cc in omega arith)))
     go (first-wrapped {w = w} {t = t} i g q k) = rw (termOf-reads (rw q at (b .reads)))
-        (symbol-slotted (tagAt e) (valueAt e) (wrapped w (valueAt e) t) (omega arith) refl (λ x h. (let z : _≡_ {A = ℕ} 0 1 = cc in omega arith)))
+        (symbol-slotted (tagAt e) (valueAt e) (wrapped w (valueAt e) t) (wrapping-symbol w i) refl (λ x h. (let z : _≡_ {A = ℕ} 0 1 = cc in omega arith)))
     go (first-variable {s = s} g v n q k) = rw (termOf-reads (rw q at (b .reads)), g) (variable-slotted s (valueAt e) n)
 
 -- A symbol stands first: it is no variable.

@@ -143,7 +143,7 @@ module _ (node : ℕ → Node) (e : List ℕ) (base slots : ℕ) (short : length
           → (home e base slots k < allNodes) × ((variableNodes ≤ home e base slots k) ⊎ IsSymbol (node (home e base slots k)))
       go (first-atom g q r) = own (tag-in e k ∙ g) refl tt
       go (first-pair g n q r) = own (tag-in e k ∙ g) refl tt
-      go (first-wrapped i g q r) = own (tag-in e k ∙ g) refl tt
+      go (first-wrapped {w = w} i g q r) = own (tag-in e k ∙ i) (rw (wrapping-tagged w) refl) (rw (wrapping-tagged w) tt)
       go (first-variable {s = s} g v n q r) =
           let low = slot-small s (mod-small (valueIn e k)) in
           slot (home-tag k (tag-in e k ∙ g) ∙ home-sort s (valueIn e k) slots (base + k)) (omega arith) (omega arith)

@@ -62,9 +62,34 @@ no-key : wrongEntry (atomsOf atoms) 5 (entry 3 0 6) ≡ At 0
 unfolding wrongEntry atomsOf atoms entry
 no-key = refl
 
+-- A hash, of value 0; a signature by a private key, not by a public one (02, No. 7).
+a-hash : wrongEntry (atomsOf atoms) 2 (entry 8 0 0 ++ entry 1 0 6) ≡ Nothing
+unfolding wrongEntry atomsOf atoms entry
+a-hash = refl
+
+hash-1 : wrongEntry (atomsOf atoms) 2 (entry 8 0 1) ≡ At 0
+unfolding wrongEntry atomsOf atoms entry
+hash-1 = refl
+
+by-private : wrongEntry (atomsOf atoms) 2 (entry 9 0 3 ++ entry 1 0 6) ≡ Nothing
+unfolding wrongEntry atomsOf atoms entry
+by-private = refl
+
+by-public : wrongEntry (atomsOf atoms) 2 (entry 9 0 2) ≡ At 0
+unfolding wrongEntry atomsOf atoms entry
+by-public = refl
+
+tag-10 : wrongEntry (atomsOf atoms) 2 (entry 10 0 0) ≡ At 0
+unfolding wrongEntry atomsOf atoms entry
+tag-10 = refl
+
 one : answer (oneTerm? good) ≡ true
 unfolding oneTerm? good entry
 one = refl
+
+one-signed-hash : answer (oneTerm? (entry 9 0 3 ++ (entry 8 0 0 ++ entry 1 0 6))) ≡ true
+unfolding oneTerm? entry
+one-signed-hash = refl
 
 too-few : answer (oneTerm? (entry 3 0 2 ++ entry 2 0 0)) ≡ false
 unfolding oneTerm? entry

@@ -11,7 +11,7 @@ use Rattle.terms.specs.Term.{Term, variable, atom, pair, Variable, named
 use Rattle.terms.specs.Place.{left, right, inside, Place, subtermAt}
 use Rattle.terms.specs.Tag.{atomTag, pairTag, sortTag, variables, Tagged, anAtom, aPair, aWrapping, aVariable, noTag, tagged, wrappingTag}
 
--- What one entry says: an atom, a pair, an encryption under a key, or a variable.
+-- What one entry says: an atom, a pair, something around a term, or a variable.
 pub data Symbol : Type 0 where
   atomSymbol : ℕ → Symbol
   pairSymbol : Symbol
@@ -26,7 +26,8 @@ tagOf pairSymbol = pairTag
 tagOf (wrapperSymbol w k) = wrappingTag w
 tagOf (variableSymbol (named s x)) = sortTag s
 
--- The value: an atom's number, 0 for a pair, the key's number, a variable's number.
+-- The value: an atom's number, 0 for a pair, the number that goes with what is put around a term (a key's, or 0), a
+-- variable's number.
 unfoldable pub valueOf : Symbol → ℕ
 valueOf (atomSymbol a) = a
 valueOf pairSymbol = 0

@@ -22,7 +22,7 @@ IsSymbol (atomNode a) = Unit {0}
 IsSymbol (pairNode l r) = Unit {0}
 IsSymbol (wrapperNode w k c) = Unit {0}
 
--- What may stand at a node whose class holds a nonce variable (02, No. 3): no pair, no encryption, and no atom but a nonce.
+-- What may stand at a node whose class holds a nonce variable (02, No. 3): no symbol but a nonce.
 abbrev pub NonceNode : List Atom → Node → Type 0
 NonceNode atoms free = Unit {0}
 NonceNode atoms (atomNode a) = Nonce atoms a

@@ -33,6 +33,7 @@ pub mod Front
 pub mod Graph
 pub mod TermGraph
 pub mod Sizes
+pub mod PlaceEntries
 pub mod Names
 pub mod Meeting
 pub mod Meetings

@@ -5,8 +5,8 @@ use mathlib.Core.List.{List}
 use mathlib.Core.Logic.{_⊎_}
 use Prim.Native.Nat.{ℕ, _≤_}
 use Rattle.terms.specs.declared.classes.How.{How}
-use Rattle.terms.specs.declared.classes.How.the-variants.{Free, Differ, Atoms, Encryptions, Pairs}
-use Rattle.terms.specs.Tag.{pairTag, encryptionTag, freeTag}
+use Rattle.terms.specs.declared.classes.How.the-variants.{Free, Differ, Atoms, Wrappers, Pairs}
+use Rattle.terms.specs.Tag.{pairTag, WrapperTag, freeTag}
 use Rattle.terms.specs.TermGraph.{variableNodes, nodeTag, nodeValue}
 
 -- Both nodes are symbols.
@@ -15,14 +15,14 @@ pub record Symbols (s t : List ℕ) (a b : ℕ) : Type 0 where
   pub right : freeTag (nodeTag s t b) ≡ false
 
 -- What each answer says of the nodes a and b: a is a variable's; or both are symbols, which differ, or are equal atoms,
--- encryptions under one key, or pairs.
+-- the same around a term each, or pairs.
 abbrev pub MeetAs : List ℕ → List ℕ → ℕ → ℕ → How → Type 0
 MeetAs s t a b Free = variableNodes ≤ a
 MeetAs s t a b Differ =
     Symbols s t a b × ((nodeTag s t a ≡ nodeTag s t b → ⊥) ⊎
     ((nodeTag s t a ≡ nodeTag s t b) × (nodeTag s t a ≡ pairTag → ⊥) × (nodeValue s t a ≡ nodeValue s t b → ⊥)))
 MeetAs s t a b Atoms =
-    Symbols s t a b × (nodeTag s t a ≡ nodeTag s t b) × (nodeTag s t a ≡ pairTag → ⊥) × (nodeTag s t a ≡ encryptionTag → ⊥)
+    Symbols s t a b × (nodeTag s t a ≡ nodeTag s t b) × (nodeTag s t a ≡ pairTag → ⊥) × ¬ WrapperTag (nodeTag s t a)
     × (nodeValue s t a ≡ nodeValue s t b)
-MeetAs s t a b Encryptions = Symbols s t a b × (nodeTag s t a ≡ nodeTag s t b) × (nodeTag s t a ≡ encryptionTag) × (nodeValue s t a ≡ nodeValue s t b)
+MeetAs s t a b Wrappers = Symbols s t a b × (nodeTag s t a ≡ nodeTag s t b) × WrapperTag (nodeTag s t a) × (nodeValue s t a ≡ nodeValue s t b)
 MeetAs s t a b Pairs = Symbols s t a b × (nodeTag s t a ≡ nodeTag s t b) × (nodeTag s t a ≡ pairTag)

@@ -4,7 +4,7 @@ use mathlib.Core.List.{List}
 use mathlib.Core.Option.{some}
 use Prim.Native.Nat.{ℕ, _<_}
 use native.Mathlib.Omega.{arith}
-use Rattle.terms.specs.Term.{Term, variable, atom, pair, encrypted, Variable, named, wrapped, encryption}
+use Rattle.terms.specs.Term.{Term, variable, atom, pair, encrypted, Variable, named, wrapped, encryption, hash, signature}
 use Rattle.terms.specs.Tag.{variables}
 use Rattle.terms.specs.Entry.{Symbol, termEntries, symbolOf, withZero}
 
@@ -27,7 +27,7 @@ pub record HasSymbol (tag zeroByte value : ℕ) : Type 0 where
   pub symbol : Symbol
   pub is : withZero zeroByte (symbolOf tag value) ≡ some symbol
 
--- Number 8: a pattern's root is an encryption.
+-- Number 8: a pattern's root is an encryption: no hash and no signature (02, No. 7).
 pub record IsEncryption {X : Type 0} (t : Term X) : Type 0 where
   pub key : ℕ
   pub content : Term X
@@ -38,3 +38,5 @@ encryption? (variable x) = no (λ w. (let e = w .is in let z : _≡_ {A = ℕ} 0
 encryption? (atom a) = no (λ w. (let e = w .is in let z : _≡_ {A = ℕ} 0 1 = cc in omega arith))
 encryption? (pair t u) = no (λ w. (let e = w .is in let z : _≡_ {A = ℕ} 0 1 = cc in omega arith))
 encryption? (wrapped encryption k t) = yes (record { key = k; content = t; is = refl })
+encryption? (wrapped hash k t) = no (λ w. (let e = w .is in let z : _≡_ {A = ℕ} 0 1 = cc in omega arith))
+encryption? (wrapped signature k t) = no (λ w. (let e = w .is in let z : _≡_ {A = ℕ} 0 1 = cc in omega arith))

@@ -1,22 +1,24 @@
 -- Places (document 01, "Messages, intruder, runs"): "A place is a subterm's spot. The key of an encryption is no place"
--- (the paper's non-critical position).
+-- (the paper's non-critical position), nor is that of a signature, and "nothing below a hash is a place" (02, No. 7).
+use Prim.Native.Nat.{ℕ}
 use mathlib.Core.Path.{_≡_}
 use mathlib.Core.List.{List, [], _∷_, _++_, map}
 use mathlib.Core.Option.{Option, none, some}
-use Rattle.terms.specs.Term.{Term, variable, atom, pair, wrapped}
+use Rattle.terms.specs.Term.{Term, variable, atom, pair, wrapped, hashed}
 
--- From a term to a part of it: the halves of a pair, and what an encryption holds. There is no turn to the key.
+-- From a term to a part of it: the halves of a pair, and what an encryption, a hash or a signature holds. There is no turn to
+-- a key.
 pub data Turn : Type 0 where
   left : Turn
   right : Turn
   inside : Turn
   deriving Discrete as Turn-discrete
 
--- A place: the turns that lead to it from the root.
+-- A place, by the turns that lead to it from the root. (Turns may also lead below a hash: `IsPlace` says which lead to a place.)
 abbrev pub Place : Type 0
 Place = List Turn
 
--- The subterm that stands at a place, if the term has that place.
+-- The subterm to which the turns lead, if there is one.
 unfoldable pub subtermAt : {X : Type 0} → Place → Term X → Option (Term X)
 subtermAt [] t = some t
 subtermAt (left ∷ p) (pair t u) = subtermAt p t
@@ -43,7 +45,11 @@ pub record AtOrAbove (q p : Place) : Type 0 where
   pub rest : Place
   pub split : p ≡ q ++ rest
 
--- One of a term's places, with the subterm there.
+-- A place of the term: "nothing below a hash is a place" (02, No. 7), so no hash stands strictly above it.
+pub record IsPlace {X : Type 0} (t : Term X) (p : Place) : Type 0 where
+  pub noHash : (q : Place) → StrictlyAbove q p → (n : ℕ) (s : Term X) → subtermAt q t ≡ some (hashed n s) → ⊥
+
+-- One of a term's subterms, with the turns that lead to it.
 abbrev pub Spot : Type 0 → Type 0
 Spot X = Place × Term X
 

@@ -10,8 +10,8 @@ use lib.Dec.{ltb}
 use lib.ListN.{getD, drop}
 use borrow.Author.Tests.{ltb-true, lt-ltb}
 use Rattle.terms.specs.Term.{Term, variable, atom, pair, Sort, Variable, named, wrapped, Wrapping}
-use Rattle.terms.specs.Tag.{atomTag, pairTag, sortTag, variables, VariableTag, Tagged, anAtom, aPair, aWrapping, aVariable, noTag, wrappingTag, WrapperTag, wrapping-tag, wrapping-tagged}
-use Rattle.terms.specs.Tag.{tagged, sort-tag, sort-tagged}
+use Rattle.terms.specs.Tag.{atomTag, pairTag, encryptionTag, sortTag, variables, Tagged, anAtom, aPair, aWrapping, aVariable, noTag, wrappingTag, wrapping-tag, wrapping-tagged}
+use Rattle.terms.specs.Tag.{tagged, sort-range, sort-tagged}
 use Rattle.terms.specs.Entry.{Symbol, atomSymbol, pairSymbol, wrapperSymbol, variableSymbol, tagOf, valueOf, entryOf, termEntries, numbered, symbolBy}
 use Rattle.terms.specs.Entry.{symbolOf, before, beforeAll, withZero, termsOf, Reads, tagAt, valueAt}
 use Rattle.terms.specs.OneTerm.{Numbered, OneTerm}
@@ -20,9 +20,9 @@ use Rattle.terms.specs.OneTerm.{Numbered, OneTerm}
 pub data First (tag n : ℕ) (rest : List ℕ) (l : List (Term Variable)) : Type 0 where
   first-atom : {m : List (Term Variable)} → tag ≡ atomTag → l ≡ atom n ∷ m → Reads rest m → First tag n rest l
   first-pair : {t u : Term Variable} {m : List (Term Variable)} → tag ≡ pairTag → n ≡ 0 → l ≡ pair t u ∷ m → Reads rest (t ∷ u ∷ m) → First tag n rest l
-  first-wrapped : {w : Wrapping} {t : Term Variable} {m : List (Term Variable)} → tag ≡ wrappingTag w → WrapperTag tag → l ≡ wrapped w n t ∷ m
+  first-wrapped : {w : Wrapping} {t : Term Variable} {m : List (Term Variable)} → tag ≡ wrappingTag w → pairTag < tag → l ≡ wrapped w n t ∷ m
       → Reads rest (t ∷ m) → First tag n rest l
-  first-variable : {s : Sort} {m : List (Term Variable)} → tag ≡ sortTag s → VariableTag tag → n < variables → l ≡ variable (named s n) ∷ m
+  first-variable : {s : Sort} {m : List (Term Variable)} → tag ≡ sortTag s → encryptionTag < tag → n < variables → l ≡ variable (named s n) ∷ m
       → Reads rest m → First tag n rest l
 
 pub none≢some : {A : Type 0} (x : A) → none ≡ some x → ⊥
@@ -53,7 +53,7 @@ module _ (rest : List ℕ) (l : List (Term Variable)) {tag : ℕ} where
   unfolding beforeAll before
   variableCase s g n false o q b r = absurd (none≢some _ r)
   variableCase s g n true none q b r = absurd (none≢some _ r)
-  variableCase s g n true (some m) q b r = first-variable {s = s} {m = m} g (sort-tag s g) (ltb-true n variables b) (cc) (record { is = q })
+  variableCase s g n true (some m) q b r = first-variable {s = s} {m = m} g (sort-range s g .0) (ltb-true n variables b) (cc) (record { is = q })
 
   fromSymbol : (n : ℕ) → beforeAll (symbolOf tag n) (termsOf rest) ≡ some l → First tag n rest l
   unfolding symbolOf beforeAll

@@ -1,11 +1,14 @@
--- Deciding: one of a list, one of a term's places, one of the places above. All of these compute.
-use mathlib.Core.Path.{_≡_, refl, subst, _∙_}
+-- Deciding: one of a list, one of a term's subterms, one of the places above, a place. All of these compute.
+use mathlib.Core.Path.{_≡_, refl, sym, subst, _∙_}
 use mathlib.Core.Logic.{_⊎_, inl, inr, ⊎-elim}
 use mathlib.Core.List.{List, [], _∷_, _++_, map, nil≢cons, List·Memᴰ, List·Memᴰ·head, List·Memᴰ·tail, List·Memᴰ·not-nil, List·Memᴰ·cases-cons}
 use mathlib.Core.List.{List·Memᴰ·append-cases, List·Memᴰ·eq-of-singleton, Memᴰ·cast, Memᴰ·append-left, Memᴰ·append-right, Memᴰ·map, Memᴰ·of-map}
 use mathlib.Core.Option.{some}
-use Rattle.terms.specs.Term.{Term, variable, atom, pair, wrapped}
-use Rattle.terms.specs.Place.{Turn, Turn-discrete, left, right, inside, Place, subtermAt, StrictlyAbove, AtOrAbove, Spot, down, spots}
+use mathlib.Core.Option.{Option, none, Option·none-ne-some}
+use Prim.Native.Nat.{ℕ}
+use native.Mathlib.Omega.{arith}
+use Rattle.terms.specs.Term.{Term, variable, atom, pair, wrapped, encryption, hash, signature}
+use Rattle.terms.specs.Place.{Turn, Turn-discrete, left, right, inside, Place, subtermAt, StrictlyAbove, AtOrAbove, IsPlace, Spot, down, spots}
 use Rattle.terms.specs.Decisions.{dec-map, dec-not, dec-and, dec-or, dec-all}
 use Rattle.terms.specs.Turns.{nothing-above-root, by-turns}
 
@@ -68,10 +71,30 @@ at-or-above? (a ∷ q) (b ∷ p) =
     (λ x. (let e = x .split in cc, record { rest = x .rest; split = let e = x .split in cc }))
     (dec-and (Turn-discrete a b) (λ e. at-or-above? q p))
 
+-- A place.
+unfoldable pub is-place? : {X : Type 0} (t : Term X) (p : Place) → Dec (IsPlace t p)
+unfolding subtermAt dec-map all-above?
+is-place? {X} t p = dec-map (λ h. record { noHash = h }) (λ h. h .noHash) (all-above? p (λ q. here q (subtermAt q t) refl))
+  where
+    Clear : Place → Type 0
+    Clear q = (n : ℕ) (s : Term X) → subtermAt q t ≡ some (wrapped hash n s) → ⊥
+
+    other : (q : Place) {o : Option (Term X)} → subtermAt q t ≡ o → ((n : ℕ) (s : Term X) → o ≡ some (wrapped hash n s) → ⊥) → Dec (Clear q)
+    other q e off = yes (λ n s f. off n s (sym e ∙ f))
+
+    here : (q : Place) (o : Option (Term X)) → subtermAt q t ≡ o → Dec (Clear q)
+    here q none e = other q e (λ n s f. Option·none-ne-some _ f)
+    here q (some (variable x)) e = other q e (λ n s f. let z : _≡_ {A = ℕ} 0 1 = cc in omega arith)
+    here q (some (atom a)) e = other q e (λ n s f. let z : _≡_ {A = ℕ} 0 1 = cc in omega arith)
+    here q (some (pair u w)) e = other q e (λ n s f. let z : _≡_ {A = ℕ} 0 1 = cc in omega arith)
+    here q (some (wrapped encryption k u)) e = other q e (λ n s f. let z : _≡_ {A = ℕ} 0 1 = cc in omega arith)
+    here q (some (wrapped signature k u)) e = other q e (λ n s f. let z : _≡_ {A = ℕ} 0 1 = cc in omega arith)
+    here q (some (wrapped hash k u)) e = no (λ clear. clear k u e)
+
 abbrev pub Stands : {X : Type 0} → Term X → Spot X → Type 0
 Stands t w = subtermAt (w .0) t ≡ some (w .1)
 
--- Every place is among them.
+-- Every way to a subterm is among them.
 pub in-spots : {X : Type 0} (p : Place) (t : Term X) {s : Term X} → subtermAt p t ≡ some s → List·Memᴰ (p, s) (spots t)
 unfolding spots
 in-spots {X} p t e =

@@ -3,12 +3,12 @@
 use mathlib.Core.Path.{_≡_, refl}
 use mathlib.Core.Bool.{Bool, true, false}
 use mathlib.Core.Logic.{_⊎_, inl, inr}
-use Prim.Native.Nat.{ℕ, zero, suc, _≤_, _<_}
+use Prim.Native.Nat.{ℕ, zero, suc, _%_, _≤_, _<_}
 use native.Mathlib.Omega.{arith}
-use Rattle.terms.specs.Term.{Sort, sort, plain, marked, anyMessage, oneNonce, Wrapping, encryption}
+use Rattle.terms.specs.Term.{Sort, sort, plain, marked, anyMessage, oneNonce, Wrapping, encryption, hash, signature}
 
 -- Tags: 1 atom; 2 pair; 3 encryption; 4 plain variable; 5 marked variable; 6 plain nonce variable; 7 marked one
--- (02, No. 3).
+-- (02, No. 3); 8 hash; 9 signature (02, No. 7).
 abbrev pub atomTag : ℕ
 atomTag = 1
 
@@ -30,9 +30,17 @@ plainNonceTag = 6
 abbrev pub markedNonceTag : ℕ
 markedNonceTag = 7
 
+abbrev pub hashTag : ℕ
+hashTag = 8
+
+abbrev pub signatureTag : ℕ
+signatureTag = 9
+
 -- The tag of what is put around a term.
 unfoldable pub wrappingTag : Wrapping → ℕ
 wrappingTag encryption = encryptionTag
+wrappingTag hash = hashTag
+wrappingTag signature = signatureTag
 
 -- The tag of a variable of this sort.
 unfoldable pub sortTag : Sort → ℕ
@@ -45,20 +53,21 @@ sortTag (sort marked oneNonce) = markedNonceTag
 abbrev pub variables : ℕ
 variables = 8
 
--- A variable's tag; and a symbol's: an atom's, a pair's or an encryption's.
+-- A variable's tag: of those there are, 4 to 7 (told by one bit, as the code does). Any other is a symbol's.
 abbrev pub VariableTag : ℕ → Type 0
-VariableTag tag = encryptionTag < tag
+VariableTag tag = plainTag ≤ tag % 8
 
 abbrev pub SymbolTag : ℕ → Type 0
-SymbolTag tag = tag ≤ encryptionTag
+SymbolTag tag = tag % 8 < plainTag
 
 -- The tag of a variable that is marked.
 abbrev pub MarkedTag : ℕ → Type 0
 MarkedTag tag = (tag ≡ markedTag) ⊎ (tag ≡ markedNonceTag)
 
--- A tag that has one child.
-abbrev pub WrapperTag : ℕ → Type 0
-WrapperTag tag = tag ≡ encryptionTag
+-- The tag of something that is put around a term: it has one child.
+pub record WrapperTag (tag : ℕ) : Type 0 where
+  pub wrapping : Wrapping
+  pub is : tag ≡ wrappingTag wrapping
 
 -- What a byte says as a tag.
 pub data Tagged (tag : ℕ) : Type 0 where
@@ -66,7 +75,7 @@ pub data Tagged (tag : ℕ) : Type 0 where
   aPair : tag ≡ pairTag → Tagged tag
   aWrapping : (w : Wrapping) → tag ≡ wrappingTag w → Tagged tag
   aVariable : (s : Sort) → tag ≡ sortTag s → Tagged tag
-  noTag : (tag < atomTag) ⊎ (markedNonceTag < tag) → Tagged tag
+  noTag : (tag < atomTag) ⊎ (signatureTag < tag) → Tagged tag
 
 unfoldable pub tagged : (tag : ℕ) → Tagged tag
 unfolding sortTag wrappingTag
@@ -78,7 +87,9 @@ tagged (suc (suc (suc (suc zero)))) = aVariable (sort plain anyMessage) refl
 tagged (suc (suc (suc (suc (suc zero))))) = aVariable (sort marked anyMessage) refl
 tagged (suc (suc (suc (suc (suc (suc zero)))))) = aVariable (sort plain oneNonce) refl
 tagged (suc (suc (suc (suc (suc (suc (suc zero))))))) = aVariable (sort marked oneNonce) refl
-tagged (suc (suc (suc (suc (suc (suc (suc (suc n)))))))) = noTag (inr (omega arith))
+tagged (suc (suc (suc (suc (suc (suc (suc (suc zero)))))))) = aWrapping hash refl
+tagged (suc (suc (suc (suc (suc (suc (suc (suc (suc zero))))))))) = aWrapping signature refl
+tagged (suc (suc (suc (suc (suc (suc (suc (suc (suc (suc n)))))))))) = noTag (inr (omega arith))
 
 -- How many children an entry of this tag has.
 abbrev pub childrenBy : {tag : ℕ} → Tagged tag → ℕ
@@ -112,6 +123,13 @@ sort-tag (sort marked anyMessage) e = omega arith
 sort-tag (sort plain oneNonce) e = omega arith
 sort-tag (sort marked oneNonce) e = omega arith
 
+pub sort-range : {tag : ℕ} (s : Sort) → tag ≡ sortTag s → (encryptionTag < tag) × (tag < hashTag)
+unfolding sortTag
+sort-range (sort plain anyMessage) e = (omega arith, omega arith)
+sort-range (sort marked anyMessage) e = (omega arith, omega arith)
+sort-range (sort plain oneNonce) e = (omega arith, omega arith)
+sort-range (sort marked oneNonce) e = (omega arith, omega arith)
+
 pub sort-tagged : (s : Sort) → tagged (sortTag s) ≡ aVariable s refl
 unfolding tagged sortTag
 sort-tagged (sort plain anyMessage) = refl
@@ -119,11 +137,27 @@ sort-tagged (sort marked anyMessage) = refl
 sort-tagged (sort plain oneNonce) = refl
 sort-tagged (sort marked oneNonce) = refl
 
--- The same of what is put around a term.
-pub wrapping-tag : {tag : ℕ} (w : Wrapping) → tag ≡ wrappingTag w → WrapperTag tag
+-- The same of what is put around a term: it is no atom's and no pair's, nor a variable's.
+pub wrapping-tag : {tag : ℕ} (w : Wrapping) → tag ≡ wrappingTag w → pairTag < tag
 unfolding wrappingTag
-wrapping-tag encryption e = e
+wrapping-tag encryption e = omega arith
+wrapping-tag hash e = omega arith
+wrapping-tag signature e = omega arith
+
+pub wrapping-symbol : {tag : ℕ} (w : Wrapping) → tag ≡ wrappingTag w → SymbolTag tag
+unfolding wrappingTag
+wrapping-symbol encryption e = omega arith
+wrapping-symbol hash e = omega arith
+wrapping-symbol signature e = omega arith
+
+pub wrapping-last : {tag : ℕ} (w : Wrapping) → tag ≡ wrappingTag w → tag ≤ signatureTag
+unfolding wrappingTag
+wrapping-last encryption e = omega arith
+wrapping-last hash e = omega arith
+wrapping-last signature e = omega arith
 
 pub wrapping-tagged : (w : Wrapping) → tagged (wrappingTag w) ≡ aWrapping w refl
 unfolding tagged wrappingTag
 wrapping-tagged encryption = refl
+wrapping-tagged hash = refl
+wrapping-tagged signature = refl

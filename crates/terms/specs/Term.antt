@@ -1,14 +1,17 @@
 -- Messages and terms (document 01, "Messages, intruder, runs").
 use Prim.Native.Nat.{ℕ, _≤_}
 
--- What is put around a term, with a number: encryption, whose number is that of the key.
+-- What is put around a term, with a number: encryption, whose number is that of the key; and (02, No. 7) a hash, whose number
+-- is 0, and a signature, whose number is that of the signing key.
 pub data Wrapping : Type 0 where
   encryption : Wrapping
+  hash : Wrapping
+  signature : Wrapping
   deriving Discrete as Wrapping-discrete
 
--- A term over the variables X: a variable, an atom by its number, a pair (t, u), or a term with something around it, which
--- is {t}k, t encrypted under the key atom k. Any number may stand as an atom or as a key: that only makes what is proved of runs stronger, and changes no
--- answer on shared instances (`built-answer` of proofs/BuiltLaws.antt).
+-- A term over the variables X: a variable, an atom by its number, a pair (t, u), or a term with something around it. Any
+-- number may stand as an atom, as a key, and with a hash: that only makes what is proved of runs stronger, and changes no answer
+-- on shared instances (`built-answer` of proofs/BuiltLaws.antt).
 pub data Term (X : Type 0) : Type 0 where
   variable : X → Term X
   atom : ℕ → Term X
@@ -16,11 +19,20 @@ pub data Term (X : Type 0) : Type 0 where
   wrapped : Wrapping → ℕ → Term X → Term X
   deriving Discrete as Term-discrete
 
--- {t}k.
+-- {t}k, t encrypted under the key atom k.
 abbrev pub encrypted : {X : Type 0} → ℕ → Term X → Term X
 encrypted k t = wrapped encryption k t
 
--- A message is an atom, a pair (m, n), or {m}k: a term that holds no variable. Terms and messages are finite.
+-- The hash of t (02, No. 7). The number n is 0 in every file.
+abbrev pub hashed : {X : Type 0} → ℕ → Term X → Term X
+hashed n t = wrapped hash n t
+
+-- t, signed with the private key k (02, No. 7).
+abbrev pub signed : {X : Type 0} → ℕ → Term X → Term X
+signed k t = wrapped signature k t
+
+-- A message is an atom, a pair (m, n), or {m}k, or (02, No. 7) a hash or a signature: a term that holds no variable. Terms and
+-- messages are finite.
 abbrev pub Message : Type 0
 Message = Term ⊥
 

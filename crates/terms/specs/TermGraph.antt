@@ -8,7 +8,7 @@ use lib.Dec.{ltb}
 use lib.ListN.{length, getD, drop}
 use Rattle.blocks.specs.Limits.{mostTermBytes}
 use Rattle.blocks.specs.Block.{wordAt}
-use Rattle.terms.specs.Tag.{pairTag, encryptionTag, variables, Tagged, anAtom, aPair, aWrapping, aVariable, noTag, tagged}
+use Rattle.terms.specs.Tag.{pairTag, WrapperTag, variables, Tagged, anAtom, aPair, aWrapping, aVariable, noTag, tagged}
 use Rattle.terms.specs.Decisions.{pick}
 use Rattle.terms.specs.Slot.{slotCount, slotIn}
 use Rattle.terms.specs.Entry.{termOf, size, Begins}
@@ -114,6 +114,6 @@ pub record OwnEntry (s t : List ℕ) (i : ℕ) : Type 0 where
   pub left : i < rightNodes → 4 * (i + 1) ≤ length s
   pub right : rightNodes ≤ i → 4 * (i - rightNodes + 1) ≤ length t
 
--- A pair or an encryption stands at the node.
+-- A pair stands at the node, or something around a term.
 abbrev pub HasChild : List ℕ → List ℕ → ℕ → Type 0
-HasChild s t i = (nodeTag s t i ≡ pairTag) ⊎ (nodeTag s t i ≡ encryptionTag)
+HasChild s t i = (nodeTag s t i ≡ pairTag) ⊎ WrapperTag (nodeTag s t i)

@@ -1,12 +1,12 @@
 // Classes of nodes that must get equal messages. In the array c every node leads to a lower node of its class, and the lowest
 // leads to itself and names the class; so a symbol's class is named by a symbol.
+use crate::entry::children;
 use crate::node::ALL_NODES;
 use crate::node::VARIABLE_NODES;
 use crate::node::first_child;
 use crate::node::second_child;
 use crate::node::tag_at;
 use crate::node::value_at;
-use crate::tag::ENCRYPTION;
 use crate::tag::PAIR;
 use blocks::wide;
 ghost use mathlib.Core.Path.{_≡_};
@@ -54,7 +54,7 @@ enum How {
     Free,
     Differ,
     Atoms,
-    Encryptions,
+    Wrappers,
     Pairs,
 }
 
@@ -75,8 +75,8 @@ fn meeting(s: &[u8], t: &[u8], a: usize, b: usize) -> How
     if value_at(s, t, a) != value_at(s, t, b) {
         return How::Differ;
     }
-    if tag == ENCRYPTION {
-        return How::Encryptions;
+    if children(tag) == 1 {
+        return How::Wrappers;
     }
     How::Atoms
 }
@@ -134,7 +134,7 @@ fn unite_names(
             c[a] = b as u8;
             true
         }
-        How::Encryptions => {
+        How::Wrappers => {
             c[a] = b as u8;
             unite(s, t, zs, zt, c, first_child(s, t, a), first_child(s, t, b))
         }

@@ -1,13 +1,13 @@
 // Whether every way down over the classes comes to an end: one walk down from the entries of both terms marks each class
 // it meets.
 use crate::classes::find;
+use crate::entry::children;
 use crate::node::ALL_NODES;
 use crate::node::RIGHT_NODES;
 use crate::node::VARIABLE_NODES;
 use crate::node::first_child;
 use crate::node::second_child;
 use crate::node::tag_at;
-use crate::tag::ENCRYPTION;
 use crate::tag::PAIR;
 ghost use mathlib.Core.Path.{_≡_};
 ghost use mathlib.Core.Bool.{true, false};
@@ -77,7 +77,7 @@ fn children_end(
         } else {
             false
         }
-    } else if tag == ENCRYPTION {
+    } else if children(tag) == 1 {
         ends(s, t, zs, zt, c, marks, first_child(s, t, a))
     } else {
         true
@@ -103,7 +103,7 @@ fn node_ends(
     if tag == PAIR {
         return ends(s, t, zs, zt, c, marks, k);
     }
-    if tag == ENCRYPTION {
+    if children(tag) == 1 {
         return ends(s, t, zs, zt, c, marks, k);
     }
     true

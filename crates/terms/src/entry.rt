@@ -4,10 +4,12 @@ ghost use Prim.Native.Nat.{_+_, _*_, _≤_, _<_};
 ghost use lib.ListN.{length};
 ghost use Rattle.blocks.specs.Limits.{mostTermBytes};
 ghost use Rattle.terms.specs.Entry.{Begins, termOf, size, valueAt, from};
-ghost use Rattle.terms.specs.Tag.{childrenOf};
+ghost use Rattle.terms.specs.Tag.{signatureTag, childrenOf};
 ghost use Rattle.terms.specs.TermGraph.{sizeIn, SizesOf};
 ghost use Rattle.terms.specs.Sizes.{SizedFrom, KeptBelow};
-use crate::tag::ENCRYPTION;
+ghost use Rattle.terms.specs.PlaceEntries.{nextPlace};
+use crate::tag::HASH;
+use crate::tag::LAST;
 use crate::tag::PAIR;
 use blocks::wide;
 
@@ -22,14 +24,15 @@ pub fn value(e: &[u8]) -> usize
     blocks::word(e, 2)
 }
 
-// How many children an entry of this tag has.
-pub(crate) fn children(tag: u8) -> usize
+// For each tag, how many children an entry of it has.
+const CHILDREN: [u8; LAST + 1] = [0, 0, 2, 1, 0, 0, 0, 0, 1, 1];
+
+// How many children an entry of this tag has: a pair two, what is put around a term one.
+pub fn children(tag: u8) -> usize
+    requires { ⌜ tag ≤ signatureTag ⌝ }
     ensures { λ r. ⌜ (r ≡ childrenOf tag) × (r ≤ 2) ⌝ }
 {
-    if tag == PAIR {
-        return 2;
-    }
-    if tag == ENCRYPTION { 1 } else { 0 }
+    wide(CHILDREN[wide(tag)])
 }
 
 // How many entries the term has that stands first, walked child by child.
@@ -41,10 +44,22 @@ pub fn term_size(e: &[u8]) -> usize
     if tag == PAIR {
         let right = 1 + term_size(&e[4..]);
         right + term_size(&e[4 * right..])
-    } else if tag == ENCRYPTION {
+    } else if children(tag) == 1 {
         1 + term_size(&e[4..])
     } else {
         1
+    }
+}
+
+// Where the walk over the places of a term goes on behind entry k: what a hash holds is passed over.
+pub fn next_place(e: &[u8], k: usize) -> usize
+    requires { ⌜ Begins (from (4 * k) (now e)) × (4 * k < length (now e)) × (length (now e) ≤ mostTermBytes) ⌝ }
+    ensures { λ r. ⌜ (r ≡ nextPlace (now (e .entry)) k) × (k < r) × (4 * r ≤ length (now (e .entry))) ⌝ }
+{
+    if e[4 * k] == HASH {
+        k + term_size(&e[4 * k..])
+    } else {
+        k + 1
     }
 }
 
@@ -57,7 +72,7 @@ fn size_by_children(e: &[u8], z: &[u8], base: usize, k: usize) -> u8
     if tag == PAIR {
         let left = wide(z[base + k + 1]);
         (1 + left + wide(z[base + k + 1 + left])) as u8
-    } else if tag == ENCRYPTION {
+    } else if children(tag) == 1 {
         (1 + wide(z[base + k + 1])) as u8
     } else {
         1

@@ -64,7 +64,7 @@ pub fn value_at(s: &[u8], t: &[u8], i: usize) -> usize
     }
 }
 
-// The node of the first child of a pair, or of what an encryption holds.
+// The node of the first child of a pair, or of the term that something is put around.
 pub fn first_child(s: &[u8], t: &[u8], i: usize) -> usize
     requires { ⌜ graph.TwoTerms (now s) (now t) × graph.HasChild (now s) (now t) i ⌝ }
     ensures { λ r. ⌜ (r ≡ graph.firstChild (now (s .entry)) (now (t .entry)) i) × graph.AtHome (now (s .entry)) (now (t .entry)) r ⌝ }

@@ -1,7 +1,7 @@
 // Shared instances: two terms are walked side by side, by recursion over the entries left; where a variable stands on either
 // side, the two entries are noted. The terms share an instance if messages for the variables make the noted entries equal,
-// two and two: classes of nodes that must get equal messages are united; a class that holds a nonce variable must hold no pair,
-// no encryption and no atom but a nonce; and every way down over the classes must come to an end. `zs` and `zt` have the sizes
+// two and two: classes of nodes that must get equal messages are united; a class that holds a nonce variable must hold no symbol
+// but a nonce; and every way down over the classes must come to an end. `zs` and `zt` have the sizes
 // of the terms at the entries of each side, and `nonces` tells which atoms are nonces.
 use crate::atom::is_nonce;
 use crate::classes::alone;
@@ -30,7 +30,7 @@ ghost use Prim.Native.Nat.{_≤_};
 ghost use lib.ListN.{length};
 ghost use Rattle.blocks.specs.Limits.{mostTermBytes};
 ghost use Rattle.terms.specs.Entry.{Begins, termOf};
-ghost use Rattle.terms.specs.Tag.{childrenOf};
+ghost use Rattle.terms.specs.Tag.{signatureTag, childrenOf};
 ghost use mathlib.Core.List.{List};
 ghost use Rattle.terms.specs.declared.atom.Atom.{Atom};
 ghost use Rattle.terms.specs.Nonces.{NoncesIn};
@@ -62,6 +62,7 @@ struct Passed {
 
 // Is either a variable's tag, and neither one of an entry with children?
 fn leaves_meet(p: u8, q: u8) -> bool
+    requires { ⌜ (p ≤ signatureTag) × (q ≤ signatureTag) ⌝ }
     ensures { λ r. ⌜ (r ≡ true → (childrenOf p ≡ 0) × (childrenOf q ≡ 0)) ⌝ }
 {
     if !is_variable(p) {
@@ -153,8 +154,8 @@ fn note(
     requires { ⌜ TwoTerms (now s) (now t) × SizesOf (now s) (now zs) × SizesOf (now t) (now zt) × Walking (now s) (now t) (now m) n i j left × ¬ (left ≡ 0) × Stops (now s) (now t) i j ⌝ }
     ensures { λ r. ⌜ WalkSays (now (s .entry)) (now (t .entry)) (now (m .exit)) r ⌝ }
 {
-    if s[4 * i] <= 3 {
-        if t[4 * j] <= 3 {
+    if !is_variable(s[4 * i]) {
+        if !is_variable(t[4 * j]) {
             return Walk::Apart;
         }
     }

@@ -16,8 +16,12 @@ pub const MARKED: u8 = 5;
 
 pub const MARKED_NONCE: u8 = 7;
 
+pub const HASH: u8 = 8;
+
+pub const SIGNATURE: u8 = 9;
+
 // The last tag.
-pub const LAST: usize = 7;
+pub const LAST: usize = 9;
 
 // How many variables of each sort there are.
 pub const VARIABLES: usize = 8;
@@ -30,11 +34,11 @@ pub const ANY_SLOTS: usize = 2 * VARIABLES;
 // The tag of the first sort of variables.
 const PLAIN: usize = 4;
 
-// Is it a variable's tag?
+// Is it a variable's tag? Those from 4 to 7 are told by one bit: of the tags there are, no other one has it.
 pub fn is_variable(tag: u8) -> bool
     ensures { λ r. ⌜ Says r (VariableTag tag) ⌝ }
 {
-    ENCRYPTION < tag
+    4 <= tag % 8
 }
 
 // Is it the tag of a marked variable?

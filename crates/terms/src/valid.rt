@@ -8,11 +8,11 @@ ghost use Rattle.terms.specs.Decide.{answer};
 ghost use Rattle.terms.specs.Entry.{Begins, termOf};
 ghost use Rattle.terms.specs.Atom.{joinedAtoms, NamedBack, AtomRight, wrongAtom};
 ghost use Rattle.terms.specs.TermEntry.{wrongEntry};
-ghost use Rattle.terms.specs.EntryTables.{listedKind, plainLimit, markedLimit, limitsOf, ByTables};
+ghost use Rattle.terms.specs.EntryTables.{listedKind, plainLimit, markedLimit, limitsOf, ByLimits};
 ghost use Rattle.terms.specs.Each.{Each};
 ghost use Rattle.terms.specs.OneTerm.{HasSymbol, encryption?};
 ghost use Rattle.terms.specs.Reading.{oneTerm?};
-ghost use Rattle.terms.specs.Count.{tagsOf, areTerms};
+ghost use Rattle.terms.specs.Count.{tagsOf, SomeTags, areTerms};
 use crate::atom::NONCE;
 use crate::atom::PRINCIPAL;
 use crate::atom::PRIVATE;
@@ -23,6 +23,7 @@ use crate::entry::children;
 use crate::entry::value;
 use crate::tag::ENCRYPTION;
 use crate::tag::LAST;
+use crate::tag::SIGNATURE;
 use crate::tag::VARIABLES;
 use blocks::kinds::BAD;
 use blocks::kinds::GOOD;
@@ -122,34 +123,31 @@ fn limits(kind: u8, count: usize) -> [usize; LAST + 1]
 {
     let plain = plain_limit(kind);
     let marked = marked_limit(kind);
-    [0, count, 1, count, plain, marked, plain, marked]
+    [0, count, 1, count, plain, marked, plain, marked, 1, count]
 }
 
-// The term entry that stands first is right by the tables: its value is below its tag's limit, and the atom of that
-// number has not less than its tag's least kind.
-fn right_entry(
-    atoms: &[u8],
-    more: &[u8],
-    limits: &[usize; LAST + 1],
-    least: &[u8; LAST + 1],
-    e: &[u8],
-) -> bool
-    requires { ⌜ (4 ≤ length (now e)) × (length (now limits) ≡ 8) × (length (now least) ≡ 8) ⌝ }
-    ensures { λ r. ⌜ Says r (ByTables (joinedAtoms (now (atoms .entry)) (now (more .entry))) (now (limits .entry)) (now (least .entry)) (now (e .entry))) ⌝ }
+// The term entry that stands first is right: its value is below its tag's limit; that of an encryption is the number of a key, an
+// atom of kind 3 to 5, and that of a signature a private key's.
+fn right_entry(atoms: &[u8], more: &[u8], limits: &[usize; LAST + 1], e: &[u8]) -> bool
+    requires { ⌜ (4 ≤ length (now e)) × (length (now limits) ≡ 10) ⌝ }
+    ensures { λ r. ⌜ Says r (ByLimits (joinedAtoms (now (atoms .entry)) (now (more .entry))) (now (limits .entry)) (now (e .entry))) ⌝ }
 {
     if e[1] != 0 {
         return false;
     }
-    let tag = wide(e[0]);
-    if LAST < tag {
+    let tag = e[0];
+    if SIGNATURE < tag {
         return false;
     }
     let n = value(e);
-    if limits[tag] <= n {
+    if limits[wide(tag)] <= n {
         return false;
     }
-    if listed_kind(atoms, more, n) < least[tag] {
-        return false;
+    if tag == ENCRYPTION {
+        return PUBLIC <= listed_kind(atoms, more, n);
+    }
+    if tag == SIGNATURE {
+        return listed_kind(atoms, more, n) == PRIVATE;
     }
     true
 }
@@ -160,11 +158,9 @@ pub fn wrong_entry(atoms: &[u8], more: &[u8], kind: u8, e: &[u8]) -> Found
 {
     let count = e.len() / 4;
     let limits = limits(kind, atoms.len() / 4 + more.len() / 4);
-    // The value of an encryption is the number of a key: an atom of kind 3 or more.
-    let least = [0u8, 0, 0, PUBLIC, 0, 0, 0, 0];
     let mut i = 0;
     while i < count {
-        if right_entry(atoms, more, &limits, &least, &e[4 * i..]) {
+        if right_entry(atoms, more, &limits, &e[4 * i..]) {
             i += 1;
         } else {
             return Found::At(i);
@@ -193,7 +189,7 @@ fn tags(e: &[u8]) -> [u8; TAGS]
 
 // The entries left, from entry `at` up to entry `count`, are so many terms.
 fn are_terms(tags: &[u8; TAGS], at: usize, count: usize, need: usize) -> bool
-    requires { ⌜ (length (now tags) ≡ 128) × (count ≤ 128) × (need ≤ at + 1) ⌝ }
+    requires { ⌜ (length (now tags) ≡ 128) × (count ≤ 128) × (need ≤ at + 1) × SomeTags (now tags) count ⌝ }
     ensures { λ r. ⌜ r ≡ areTerms (slice at count (now (tags .entry))) need ⌝ }
 {
     if count <= at {

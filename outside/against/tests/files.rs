@@ -46,18 +46,19 @@ fn deep_files() {
 }
 
 /// One byte of a bench file changed, and the block sealed again. After the first
-/// come files with marks in bad patterns, with nonce variables and with secrets in
-/// premises; the last have two atom blocks.
+/// come files with marks in bad patterns, with nonce variables, with secrets in
+/// premises, with a wrong check, and with hashes and signatures; the last have
+/// two atom blocks.
 #[test]
 fn changed_bytes() {
     let all = certificates("../bench/files");
-    for path in all[..13].iter().chain(&all[all.len() - 2..]) {
+    for path in all[..16].iter().chain(&all[all.len() - 2..]) {
         let (name, file) = (files::name(path), bytes(path));
         let mut random = generate::random::Random::new(7);
         for _ in 0..100 {
             let mut changed = file.clone();
             let at = random.below(file.len());
-            changed[at] = random.below(9) as u8;
+            changed[at] = random.below(11) as u8;
             let start = at / 512 * 512;
             literal::seal(&mut changed[start..start + 512]).expect("a block");
             assert_same(&format!("{name}, byte {at}"), &changed);

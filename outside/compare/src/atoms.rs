@@ -3,9 +3,9 @@
 use literal::numbers::{atom_kind, ENTRY, MOST_ATOMS};
 use literal::read::Atom;
 
-/// As many atoms as there can be, all of them keys.
+/// As many atoms as there can be, all of them keys that may sign.
 pub fn all_keys() -> Vec<u8> {
-    of_kinds(&[atom_kind::SYMMETRIC; MOST_ATOMS])
+    of_kinds(&[atom_kind::PRIVATE; MOST_ATOMS])
 }
 
 pub fn of_kinds(kinds: &[u8]) -> Vec<u8> {

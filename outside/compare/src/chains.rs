@@ -1,4 +1,5 @@
-//! The chain family at its largest: x1 = (x2, x2), x2 = (x3, x3) and so on,
+//! The chain family at its largest: x1 = (x2, x2), x2 = (x3, x3) and so on, or
+//! with encryptions, hashes or signatures in place of the pairs,
 //! spread over two terms of 63 entries, and its variants.
 
 use literal::numbers::{MOST_ENTRIES, VARIABLES};
@@ -50,6 +51,8 @@ fn kinds(ends: Ends) -> Vec<(&'static str, Equations)> {
     vec![
         ("twice the next", across(20, twice, ends)),
         ("the next under a key", across(24, under_key, ends)),
+        ("the hash of the next", across(24, Term::hash, ends)),
+        ("the next signed", across(24, signed, ends)),
         ("bodies on one side", one_side(12, ends)),
         ("two chains, equal heads", two_chains(ends)),
     ]
@@ -61,6 +64,10 @@ fn twice(next: Term) -> Term {
 
 fn under_key(next: Term) -> Term {
     Term::encryption(next, KEY)
+}
+
+fn signed(next: Term) -> Term {
+    Term::signature(next, KEY)
 }
 
 /// The plain ones, then the marked ones.
@@ -124,8 +131,7 @@ fn two_chains(ends: Ends) -> Equations {
 fn moved(term: &Term) -> Term {
     match term {
         Term::Plain(number) => Term::Marked(*number),
-        Term::Pair(left, right) => Term::pair(moved(left), moved(right)),
-        _ => term.clone(),
+        _ => term.with_parts(moved),
     }
 }
 

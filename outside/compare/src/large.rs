@@ -16,7 +16,15 @@ const SHARES: [bool; 4] = [true, false, false, false];
 
 pub fn vectors() -> Result<Vec<Vector>, String> {
     let keys = all_keys();
-    let pairs = [lists(), trees(), nests(), many_variables(), chains()].concat();
+    let pairs = [
+        lists(),
+        trees(),
+        nests(),
+        other_nests(),
+        many_variables(),
+        chains(),
+    ]
+    .concat();
     pairs
         .iter()
         .map(|(first, second, answers)| Vector::new(&keys, first, second, *answers))
@@ -137,6 +145,46 @@ fn nests() -> Vec<Pair> {
             [true, false, true, false],
         ),
     ]
+}
+
+/// The term in so many hashes, or signatures with KAi.
+fn wrapped(term: &str, depth: usize, (open, close): (&str, &str)) -> String {
+    format!("{}{term}{}", open.repeat(depth), close.repeat(depth))
+}
+
+/// Hashes and signatures, 62 deep.
+fn other_nests() -> Vec<Pair> {
+    let hash = ("h(", ")");
+    let signed = ("sig(", ")KAi");
+    let mut pairs = Vec::new();
+    for around in [hash, signed] {
+        let deepest = wrapped("?x", 62, around);
+        let innermost = |term: &str| wrapped(term, 61, around);
+        pairs.extend([
+            (deepest.clone(), wrapped("A", 62, around), MATCHES),
+            (deepest.clone(), wrapped("A", 61, around), NO),
+            (wrapped("A", 62, around), wrapped("T", 62, around), NO),
+            (wrapped("?x", 1, around), deepest.clone(), MATCHES),
+            (deepest.clone(), wrapped("*x", 62, around), RENAMED),
+            (deepest.clone(), wrapped("?n!x", 62, around), MATCHES),
+            (wrapped("?n!x", 61, around), deepest.clone(), NO),
+            (deepest.clone(), innermost("{?x}KAi"), NO),
+            (
+                innermost("{A}KAi"),
+                innermost("{?x}KAi"),
+                [true, false, true, false],
+            ),
+            (
+                format!("(?x, {})", wrapped("?x", 60, around)),
+                "(?y, ?y)".to_string(),
+                NO,
+            ),
+        ]);
+    }
+    let (hashes, signatures) = (wrapped("?x", 62, hash), wrapped("?x", 62, signed));
+    pairs.push((hashes, signatures.clone(), NO));
+    pairs.push((signatures, wrapped("sig(?x)KI", 61, signed), NO));
+    pairs
 }
 
 /// All variables on both sides, and as many again as fit.

@@ -3,12 +3,14 @@
 
 use crate::atoms::{all_keys, of_kinds};
 use crate::words::entries;
-use literal::numbers::atom_kind::{NONCE, PRINCIPAL, SYMMETRIC};
+use literal::numbers::atom_kind::{NONCE, PRINCIPAL, PRIVATE, PUBLIC, SYMMETRIC};
 use literal::numbers::{tag, ENTRY, MOST_ATOMS};
 
 const ATOM: [u8; ENTRY] = [tag::ATOM, 0, 0, 0];
 const PAIR: [u8; ENTRY] = [tag::PAIR, 0, 0, 0];
 const ENCRYPTION: [u8; ENTRY] = [tag::ENCRYPTION, 0, 2, 0];
+const HASH: [u8; ENTRY] = [tag::HASH, 0, 0, 0];
+const SIGNATURE: [u8; ENTRY] = [tag::SIGNATURE, 0, 2, 0];
 
 pub struct NoTerm {
     pub what: &'static str,
@@ -17,13 +19,33 @@ pub struct NoTerm {
 }
 
 pub fn all() -> Vec<NoTerm> {
-    let over_keys = [lengths(), shapes(), single_entries()].concat();
+    let over_keys = [lengths(), shapes(), single_entries(), wrong_values()].concat();
     let of = |(what, bytes)| NoTerm {
         what,
         atoms: all_keys(),
         bytes,
     };
-    over_keys.into_iter().map(of).chain(by_atoms()).collect()
+    let by_atoms = by_atoms().into_iter().chain(by_signing_key());
+    over_keys.into_iter().map(of).chain(by_atoms).collect()
+}
+
+/// Signatures with what is no private key.
+fn by_signing_key() -> Vec<NoTerm> {
+    let kinds = of_kinds(&[PRINCIPAL, NONCE, PUBLIC, PRIVATE, SYMMETRIC, 0, 6]);
+    let signed = |what, key: u8| NoTerm {
+        what,
+        atoms: kinds.clone(),
+        bytes: [[tag::SIGNATURE, 0, key, 0], ATOM].concat(),
+    };
+    vec![
+        signed("a principal as a signing key", 0),
+        signed("a nonce as a signing key", 1),
+        signed("a public key as a signing key", 2),
+        signed("a symmetric key as a signing key", 4),
+        signed("an atom of kind 0 as a signing key", 5),
+        signed("an atom of kind 6 as a signing key", 6),
+        signed("a signing key that is not listed", 7),
+    ]
 }
 
 /// What is a term over other atoms.
@@ -77,6 +99,14 @@ fn lengths() -> Vec<(&'static str, Vec<u8>)> {
         ("63 entries and a byte", [list(32), vec![0]].concat()),
         ("64 entries, nested", nest(63)),
         (
+            "64 entries, hashes",
+            [HASH.repeat(63), ATOM.to_vec()].concat(),
+        ),
+        (
+            "64 entries, signatures",
+            [SIGNATURE.repeat(63), ATOM.to_vec()].concat(),
+        ),
+        (
             "64 entries, a list",
             [ENCRYPTION.to_vec(), list(32)].concat(),
         ),
@@ -101,6 +131,15 @@ fn shapes() -> Vec<(&'static str, Vec<u8>)> {
         ("two atoms", ATOM.repeat(2)),
         ("63 pairs", PAIR.repeat(63)),
         ("63 encryptions", ENCRYPTION.repeat(63)),
+        ("63 hashes", HASH.repeat(63)),
+        ("63 signatures", SIGNATURE.repeat(63)),
+        ("a hash alone", HASH.to_vec()),
+        ("a signature alone", SIGNATURE.to_vec()),
+        ("a hash of two atoms", [HASH, ATOM, ATOM].concat()),
+        (
+            "a signature over two atoms",
+            [SIGNATURE, ATOM, ATOM].concat(),
+        ),
         ("63 atoms", ATOM.repeat(63)),
         (
             "62 entries, the last of 63 missing",
@@ -112,7 +151,8 @@ fn shapes() -> Vec<(&'static str, Vec<u8>)> {
 fn single_entries() -> Vec<(&'static str, Vec<u8>)> {
     vec![
         ("tag 0", vec![0, 0, 0, 0]),
-        ("tag 8", vec![8, 0, 0, 0]),
+        ("tag 10", vec![10, 0, 0, 0]),
+        ("tag 10 over an atom", with_root([10, 0, 0, 0], 1)),
         ("tag 255", vec![255, 0, 0, 0]),
         ("an atom with second byte 1", vec![1, 1, 0, 0]),
         ("a plain variable with second byte 1", vec![4, 1, 0, 0]),
@@ -139,9 +179,24 @@ fn single_entries() -> Vec<(&'static str, Vec<u8>)> {
             with_root([3, 1, 2, 0], 1),
         ),
         (
-            "tag 8 deep inside",
-            [ENCRYPTION.repeat(30), vec![8, 0, 0, 0]].concat(),
+            "tag 10 deep inside",
+            [ENCRYPTION.repeat(30), vec![10, 0, 0, 0]].concat(),
         ),
+    ]
+}
+
+/// Hashes and signatures with a wrong value or second byte.
+fn wrong_values() -> Vec<(&'static str, Vec<u8>)> {
+    vec![
+        ("a hash with value 1", with_root([8, 0, 1, 0], 1)),
+        ("a hash with value 256", with_root([8, 0, 0, 1], 1)),
+        ("a hash with second byte 1", with_root([8, 1, 0, 0], 1)),
+        (
+            "a signing key too many",
+            with_root([9, 0, MOST_ATOMS as u8, 0], 1),
+        ),
+        ("signing key 256", with_root([9, 0, 0, 1], 1)),
+        ("a signature with second byte 1", with_root([9, 1, 2, 0], 1)),
     ]
 }
 

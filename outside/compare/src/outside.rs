@@ -3,6 +3,7 @@
 use crate::{atoms, Answer, Question};
 use literal::numbers::{ENTRY, MOST_ATOMS, MOST_ENTRIES};
 use literal::read::Atom;
+use literal::term::Symbol;
 use literal::Term;
 
 pub fn ask(question: Question, atoms: &[u8], s: &[u8], t: &[u8]) -> Answer {
@@ -33,12 +34,11 @@ pub fn read(atoms: &[u8], bytes: &[u8]) -> Option<Term> {
 
 fn atoms_listed(atoms: &[Atom], term: &Term) -> bool {
     let atom = |number: u16| atoms.get(number as usize);
-    match term {
-        Term::Atom(number) => atom(*number).is_some(),
-        Term::Pair(left, right) => atoms_listed(atoms, left) && atoms_listed(atoms, right),
-        Term::Encryption(message, key) => {
-            atom(*key).is_some_and(Atom::is_key) && atoms_listed(atoms, message)
-        }
+    let number_right = match term.symbol() {
+        Symbol::Atom(number) => atom(number).is_some(),
+        Symbol::Encryption(key) => atom(key).is_some_and(Atom::is_key),
+        Symbol::Signature(key) => atom(key).is_some_and(Atom::is_private_key),
         _ => true,
-    }
+    };
+    number_right && term.parts().all(|part| atoms_listed(atoms, part))
 }

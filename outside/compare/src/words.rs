@@ -1,9 +1,9 @@
 //! Terms in the text form. The first eight atoms have the document's names,
 //! the others are `a8` to `a251`.
 
-use crate::{atoms, outside, Question};
+use crate::{atoms, Question};
 use literal::block::{entry_at, first_count};
-use literal::numbers::{BLOCK, HEADER, MOST_ATOMS};
+use literal::numbers::{BLOCK, HEADER, MOST_ATOMS, MOST_ENTRIES};
 use literal::Term;
 use text::{document, sorts};
 
@@ -30,6 +30,8 @@ pub fn text_of(term: &Term) -> String {
         Term::Atom(number) => name(*number),
         Term::Pair(left, right) => format!("({}, {})", text_of(left), text_of(right)),
         Term::Encryption(message, key) => format!("{{{}}}{}", text_of(message), name(*key)),
+        Term::Hash(message) => format!("h({})", text_of(message)),
+        Term::Signature(message, key) => format!("sig({}){}", text_of(message), name(*key)),
         variable => sorts::shown(variable).expect("all other terms are variables"),
     }
 }
@@ -42,9 +44,9 @@ pub fn asked(question: Question, atoms: &[u8], s: &[u8], t: &[u8]) -> String {
 
 /// The term as text, or the bytes if they are none, whatever the atoms are.
 pub fn shown(bytes: &[u8]) -> String {
-    match outside::read(&atoms::all_keys(), bytes) {
-        Some(term) => text_of(&term),
-        None => format!("the bytes [{}]", hex(bytes)),
+    match literal::decode(bytes) {
+        Some(term) if term.size() <= MOST_ENTRIES => text_of(&term),
+        _ => format!("the bytes [{}]", hex(bytes)),
     }
 }
 

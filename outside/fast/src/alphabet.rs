@@ -2,13 +2,16 @@
 
 use crate::block::Block;
 use crate::numbers::{atom_kind, tag, ATOM_BLOCKS, ENTRIES, ENTRY, HEADER};
-use crate::numbers::{TAGS, VALUES, VALUE_BITS, VARIABLES};
+use crate::numbers::{MOST_ATOMS, TAGS, VALUES, VALUE_BITS, VARIABLES};
 
-/// Tag x 256 + value. Variables of patterns have 256 added, so that they are
-/// never equal to those of rules; variables for one nonce have 512 added, so
-/// that they follow all others.
+/// Tag x 256 + value, but for some. Variables of patterns have 256 added, so that
+/// they are never equal to those of rules; variables for one nonce have 512
+/// added, so that they follow all others; signatures and hashes follow the pair,
+/// so that all with something below stand between the atoms and the variables.
 pub type Symbol = u16;
 pub const PAIR: Symbol = tag::PAIR << VALUE_BITS;
+const FIRST_SIGNATURE: Symbol = PAIR + 1;
+pub const HASH: Symbol = FIRST_SIGNATURE + MOST_ATOMS as Symbol;
 pub const FIRST_VARIABLE: Symbol = tag::PLAIN << VALUE_BITS;
 pub const PATTERN_VARIABLE: Symbol = VALUES as Symbol;
 pub const FIRST_PATTERN_MARK: Symbol = (tag::MARKED << VALUE_BITS) + PATTERN_VARIABLE;
@@ -16,12 +19,15 @@ pub const NONCE_VARIABLE: Symbol = 2 * VALUES as Symbol;
 /// From a variable to the one for a nonce that is of the same sort otherwise.
 pub const TO_NONCE: Symbol = ((tag::PLAIN_NONCE - tag::PLAIN) << VALUE_BITS) + NONCE_VARIABLE;
 const SYMBOLS: usize = TAGS * VALUES;
+const _: () = assert!(HASH < tag::ENCRYPTION << VALUE_BITS);
 
 // Marks of a symbol, by bits: where it is allowed, and what it is.
 pub const IN_SECRET: u32 = 0;
 pub const IN_PATTERN: u32 = 1;
 pub const IN_RULE: u32 = 2;
-pub const FOR_NONCE: u32 = 3;
+/// Its symbol is not tag x 256 + value: a variable for one nonce, a hash or a
+/// signature.
+pub const MOVED: u32 = 3;
 pub const IS_PAIR: u32 = 4;
 pub const VARIABLE: u32 = 5;
 pub const ENCRYPTION: u32 = 6;
@@ -72,6 +78,9 @@ impl Alphabet {
             if atom.kind >= atom_kind::PUBLIC {
                 self.marks[index(tag::ENCRYPTION, number)] = EVERYWHERE | 1 << ENCRYPTION;
             }
+            if atom.kind == atom_kind::PRIVATE {
+                self.marks[index(tag::SIGNATURE, number)] = EVERYWHERE | 1 << MOVED;
+            }
             self.partners[number] = atom.partner as u8;
             known |= (atom.known as u128) << i;
             nonces |= ((atom.kind == atom_kind::NONCE) as u128) << i;
@@ -120,10 +129,28 @@ pub fn symbol_of(entry: u32) -> Symbol {
     (tag << VALUE_BITS | value) as Symbol
 }
 
-/// The number of an atom, a key or a variable.
+/// The symbol of an entry that is moved, by what it would be otherwise.
+pub fn moved(symbol: Symbol) -> Symbol {
+    const SIGNATURE: Symbol = tag::SIGNATURE << VALUE_BITS;
+    match symbol >> VALUE_BITS {
+        tag::HASH => HASH,
+        tag::SIGNATURE => symbol - SIGNATURE + FIRST_SIGNATURE,
+        _ => symbol + NONCE_VARIABLE,
+    }
+}
+
+/// The number of an atom, of an encryption's key or of a variable.
 #[inline(always)]
 pub fn value_of(symbol: Symbol) -> usize {
     symbol as usize & (VALUES - 1)
+}
+
+/// The number of the key of an encryption or a signature.
+pub fn key_of(symbol: Symbol) -> usize {
+    match symbol >> VALUE_BITS {
+        tag::ENCRYPTION => value_of(symbol),
+        _ => (symbol - FIRST_SIGNATURE) as usize,
+    }
 }
 
 /// The symbol of a tag and a value.
@@ -134,14 +161,15 @@ const fn index(tag: u16, value: usize) -> usize {
 const fn marks_without_atoms() -> [u8; SYMBOLS] {
     let mut marks = [0; SYMBOLS];
     marks[PAIR as usize] = EVERYWHERE | 1 << IS_PAIR;
+    marks[index(tag::HASH, 0)] = EVERYWHERE | 1 << MOVED;
     let mut i = 0;
     while i < VARIABLES {
         let marked = 1 << IN_PATTERN | 1 << VARIABLE;
         let plain = marked | 1 << IN_RULE;
         marks[index(tag::PLAIN, i)] = plain;
         marks[index(tag::MARKED, i)] = marked;
-        marks[index(tag::PLAIN_NONCE, i)] = plain | 1 << FOR_NONCE;
-        marks[index(tag::MARKED_NONCE, i)] = marked | 1 << FOR_NONCE;
+        marks[index(tag::PLAIN_NONCE, i)] = plain | 1 << MOVED;
+        marks[index(tag::MARKED_NONCE, i)] = marked | 1 << MOVED;
         i += 1;
     }
     marks

@@ -59,6 +59,7 @@ pub fn entries(block: &Block) -> [u32; 2 * PLACES] {
 }
 
 /// The two counts, if they, byte 3 and the unused entries are right.
+#[inline(always)]
 pub fn counts(block: &Block) -> Option<(usize, usize)> {
     let (first, second) = (block[1] as usize, block[2] as usize);
     let right = match block[0] {

@@ -1,34 +1,40 @@
 //! Prepared terms of one kind, sorted, so that equal beginnings are neighbours:
 //! where one clashes, the next ones with the same beginning clash too.
 
-use crate::alphabet::{value_of, Symbol, FIRST_VARIABLE, PAIR};
-use crate::numbers::{MOST_BLOCKS, SLOTS, VALUES};
+use crate::alphabet::{Symbol, FIRST_VARIABLE, PAIR};
+use crate::numbers::{MOST_BLOCKS, SLOTS};
 use crate::term::Term;
 use crate::walk::Watched;
 
-/// A root that no key is.
-const PAIR_ROOT: usize = VALUES - 1;
+/// How many symbols there are of all with something below.
+const ROOTS: usize = (FIRST_VARIABLE - PAIR) as usize;
+const _: () = assert!(ROOTS.is_power_of_two());
 
 pub struct Family {
-    count: usize,
+    /// The place behind the last member's; the first has place 1, and place 0
+    /// stands for none.
+    end: usize,
     members: [u8; MOST_BLOCKS],
     /// Entries that a member has in common with the one before.
     common: [u8; MOST_BLOCKS],
     watched: [Watched; MOST_BLOCKS],
     /// The entries of the longest member.
     pub longest: usize,
-    /// For a root, the first member and the one after the last.
-    ranges: [(u8, u8); VALUES],
+    /// For a root, the first member.
+    firsts: [u8; ROOTS],
+    /// For such a first member, the one after the last with that root.
+    ends: [u8; MOST_BLOCKS],
 }
 
 impl Family {
     const EMPTY: Family = Family {
-        count: 0,
+        end: 1,
         members: [0; MOST_BLOCKS],
         common: [0; MOST_BLOCKS],
         watched: [Watched::NONE; MOST_BLOCKS],
         longest: 0,
-        ranges: [(0, 0); VALUES],
+        firsts: [0; ROOTS],
+        ends: [0; MOST_BLOCKS],
     };
 
     /// The terms of these blocks, two slots a block, that are no atoms.
@@ -48,42 +54,42 @@ impl Family {
                 family.insert(terms, 2 * block);
             }
         }
-        for place in 0..family.count {
+        for place in 1..family.end {
             family.prepare(terms, place);
         }
         family
     }
 
     fn insert(&mut self, terms: &[Term; SLOTS], slot: usize) {
-        let mut place = self.count;
-        while place > 0 && comes_before(&terms[slot], &terms[self.slot(place - 1)]) {
+        let mut place = self.end;
+        while place > 1 && comes_before(&terms[slot], &terms[self.slot(place - 1)]) {
             self.members[place] = self.members[place - 1];
             place -= 1;
         }
         self.members[place] = slot as u8;
-        self.count += 1;
+        self.end += 1;
     }
 
     fn prepare(&mut self, terms: &[Term; SLOTS], place: usize) {
         let term = &terms[self.slot(place)];
         let root = root_of(term.symbol(0));
-        if place > 0 {
+        if place > 1 {
             let before = &terms[self.slot(place - 1)];
             self.common[place] = beginning(before, term) as u8;
         }
         self.longest = self.longest.max(term.length());
         self.watched[place] = Watched::of(term);
         if self.common[place] == 0 {
-            self.ranges[root].0 = place as u8;
+            self.firsts[root] = place as u8;
         }
-        self.ranges[root].1 = place as u8 + 1;
+        self.ends[self.firsts[root] as usize] = place as u8 + 1;
     }
 
     /// The members with this root.
     #[inline(always)]
     pub fn with_root(&self, symbol: Symbol) -> std::ops::Range<usize> {
-        let (first, last) = self.ranges[root_of(symbol)];
-        first as usize..last as usize
+        let first = self.firsts[root_of(symbol)] as usize;
+        first..self.ends[first & (MOST_BLOCKS - 1)] as usize
     }
 
     /// Some member with this root passes the test, which tells the member's
@@ -129,14 +135,10 @@ fn comes_before(one: &Term, other: &Term) -> bool {
     ranks.lt(other.subterm(0).iter().map(rank))
 }
 
-/// Keys by number, and a place of its own for pairs.
+/// A place for the pair, the hash and each key of a signature or an encryption.
 #[inline(always)]
 fn root_of(symbol: Symbol) -> usize {
-    if symbol == PAIR {
-        PAIR_ROOT
-    } else {
-        value_of(symbol)
-    }
+    (symbol - PAIR) as usize & (ROOTS - 1)
 }
 
 /// How many entries are the same from the first on.

@@ -1,6 +1,6 @@
 //! Numbers 9, 10, 11, 15 and 12, each over all blocks.
 
-use crate::alphabet::value_of;
+use crate::alphabet::{key_of, value_of, HASH, PAIR};
 use crate::family::Family;
 use crate::fault;
 use crate::numbers::{kind, ALL_VARIABLES, ORDINARY};
@@ -80,17 +80,18 @@ fn is_known_atom(certificate: &Certificate, block: usize) -> bool {
     secret.length() == 1 && certificate.alphabet.is_known(number(secret, 0))
 }
 
-/// Weakly closed: a half of a pair, or the message or the key, is listed.
+/// Weakly closed: a half of a pair is listed, a hash's message, or the message
+/// or the key of an encryption or a signature.
 fn is_closed(certificate: &Certificate, secrets: &Family, block: usize) -> bool {
     let secret = certificate.term(block);
     if secret.length() == 1 {
         return true;
     }
     let listed = |i| is_listed(certificate, secrets, secret, i);
-    let other = if secret.pairs & 1 == 1 {
-        listed(secret.end(1))
-    } else {
-        certificate.alphabet.is_secret(number(secret, 0))
+    let other = match secret.symbol(0) {
+        PAIR => listed(secret.end(1)),
+        HASH => false,
+        symbol => certificate.alphabet.is_secret(key_of(symbol)),
     };
     other || listed(1)
 }

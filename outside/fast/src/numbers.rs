@@ -29,7 +29,7 @@ pub const SLOTS: usize = 2 * MOST_BLOCKS;
 pub const VALUE_BITS: u32 = 8;
 pub const VALUES: usize = 1 << VALUE_BITS;
 /// Room for tags.
-pub const TAGS: usize = 8;
+pub const TAGS: usize = 16;
 /// Room for the variables but those for one nonce: a rule's, then the plain and
 /// the marked ones of a pattern.
 pub const ORDINARY: usize = 4 * VARIABLES;
@@ -70,4 +70,6 @@ pub mod tag {
     pub const MARKED: u16 = 5;
     pub const PLAIN_NONCE: u16 = 6;
     pub const MARKED_NONCE: u16 = 7;
+    pub const HASH: u16 = 8;
+    pub const SIGNATURE: u16 = 9;
 }

@@ -14,14 +14,14 @@ const FIRST_OF_VARIABLES: u8 = 2 * PATTERN;
 const FREE: u8 = u8::MAX;
 const STEPS: usize = 4;
 const MOST_WAITING: usize = 16;
-/// Seldom are more variables bound to pairs or encryptions.
+/// Seldom are more variables bound to what has something below it.
 const FEW: usize = 8;
 
 pub struct Quick<'a, const ROOM: usize> {
     sides: [&'a Term; 2],
     /// The node that a variable is bound to.
     bound: [u8; ROOM],
-    /// The variables that are bound to pairs or encryptions.
+    /// The variables that are bound to what has something below it.
     nested: u64,
     occurrences: &'a Occurrences,
     /// How many more pairs of nodes may be taken apart.

@@ -57,7 +57,8 @@ impl<'a, const ROOM: usize> Judge<'a, ROOM> {
     /// both.
     pub fn rule(&mut self, premise: &Term, conclusion: &Term) -> Result<(), Wrong> {
         let nested = self.sharing_with_nested_secret(conclusion);
-        let mut risky = conclusion.variables | conclusion.secret_atoms | nested;
+        let variables = conclusion.variables & conclusion.places;
+        let mut risky = variables | conclusion.secret_atoms | nested;
         if premise.length() > 0 {
             let secrets = self.secrets_in(premise);
             let same = match risky {
@@ -112,7 +113,7 @@ impl<'a, const ROOM: usize> Judge<'a, ROOM> {
         if self.secrets.longest == 0 {
             return found;
         }
-        for i in Bits(term.pairs | term.encryptions) {
+        for i in Bits(term.nested & term.places) {
             if term.size(i) <= self.secrets.longest {
                 let yes = self.secrets.any(term.symbol(i), |member| {
                     test(i, &self.terms[self.secrets.slot(member)])
@@ -291,12 +292,12 @@ fn places_of(term: &Term, variables: u64) -> u64 {
 }
 
 fn variables_of_both(premise: &Term, conclusion: &Term) -> u64 {
-    places_of(premise, variables_at(conclusion, u64::MAX))
+    premise.places & places_of(premise, variables_at(conclusion, conclusion.places))
 }
 
 /// The places of `other` with the same subterm as one of these places.
 fn twins(term: &Term, places: u64, other: &Term) -> u64 {
-    let nested = other.pairs | other.encryptions;
+    let nested = other.nested & other.places;
     Bits(places).fold(0, |found, i| found | twins_of(term, i, other, nested))
 }
 

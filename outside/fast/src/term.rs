@@ -15,8 +15,12 @@ pub struct Term {
     ends: [u8; PLACES],
     length: u16,
     pub variables: u64,
+    /// All with something below: pairs, encryptions, hashes and signatures.
+    pub nested: u64,
+    /// All but those below a hash.
+    pub places: u64,
+    /// Of these places, the encryptions and the secret atoms.
     pub encryptions: u64,
-    pub pairs: u64,
     pub secret_atoms: u64,
     /// The variables for one nonce and, in files that have some, the nonces.
     pub nonces: u64,
@@ -63,8 +67,9 @@ impl Term {
         ends: leaf_ends(),
         length: 0,
         variables: 0,
+        nested: 0,
+        places: u64::MAX,
         encryptions: 0,
-        pairs: 0,
         secret_atoms: 0,
         nonces: 0,
     };
@@ -95,27 +100,44 @@ impl Term {
         self.length = length as u16;
         self.variables = used & marks.entries_with(VARIABLE);
         self.encryptions = used & marks.entries_with(ENCRYPTION);
-        self.pairs = used & marks.entries_with(IS_PAIR);
         self.secret_atoms = used & marks.entries_with(SECRET_ATOM);
-        if marks.has_some(FOR_NONCE) {
-            self.find_nonce_variables(used & marks.entries_with(FOR_NONCE));
+        let pairs = used & marks.entries_with(IS_PAIR);
+        self.nested = pairs | self.encryptions;
+        match marks.has_some(MOVED) {
+            true => self.move_symbols(used & marks.entries_with(MOVED), pairs),
+            false => self.find_ends(pairs),
         }
-        self.find_ends();
         used & !marks.entries_with(place) == 0
     }
 
-    /// These variables are for one nonce.
+    /// These are variables for one nonce, hashes and signatures.
     #[cold]
-    fn find_nonce_variables(&mut self, entries: u64) {
-        self.nonces = entries;
+    fn move_symbols(&mut self, entries: u64, pairs: u64) {
+        self.nonces = entries & self.variables;
+        self.nested |= entries & !self.variables;
         for i in Bits(entries) {
-            self.symbols[i] += NONCE_VARIABLE;
+            self.symbols[i] = moved(self.symbols[i]);
         }
+        self.find_ends(pairs);
+        if self.is_whole() {
+            self.leave_out_below_hashes(entries);
+        }
+    }
+
+    /// Nothing below a hash, which is one of these entries, is a place.
+    fn leave_out_below_hashes(&mut self, entries: u64) {
+        for i in Bits(entries) {
+            if self.symbol(i) == HASH {
+                self.places &= !self.below(i);
+            }
+        }
+        self.encryptions &= self.places;
+        self.secret_atoms &= self.places;
     }
 
     /// Adds the nonces, in a file with variables for one.
     pub fn find_nonces(&mut self, alphabet: &Alphabet) {
-        let atoms = !(self.variables | self.pairs | self.encryptions) & span(0, self.length());
+        let atoms = !(self.variables | self.nested) & span(0, self.length());
         self.nonces = Bits(atoms)
             .filter(|i| alphabet.is_nonce(value_of(self.symbol(*i))))
             .fold(self.nonces, |nonces, i| nonces | 1 << i);
@@ -137,18 +159,18 @@ impl Term {
         self.length() > 0 && self.end(0) == self.length()
     }
 
-    /// Where pairs and encryptions end, from the last to the first. `later`
-    /// holds the starts of the finished terms behind the one that follows, and
-    /// the end: a leaf puts one more before them, a pair takes one away.
-    fn find_ends(&mut self) {
+    /// Where all but leaves end, from the last to the first. `later` holds the
+    /// starts of the finished terms behind the one that follows, and the end: a
+    /// leaf puts one more before them, a pair takes one away.
+    fn find_ends(&mut self, pairs: u64) {
         let mut later = 0u64;
         let mut reached = 1u64 << self.length();
-        for from_last in Bits((self.pairs | self.encryptions).reverse_bits()) {
+        for from_last in Bits(self.nested.reverse_bits()) {
             let i = PLACES - 1 - from_last;
             let bit = 1u64 << i;
             // All entries from here to the one reached are leaves.
             later |= (reached << 1).wrapping_sub(bit << 2);
-            later &= later.wrapping_sub(self.pairs >> i & 1);
+            later &= later.wrapping_sub(pairs >> i & 1);
             self.ends[i] = later.trailing_zeros() as u8;
             reached = bit;
         }

@@ -139,8 +139,7 @@ impl Parts {
         if run < pattern.length() && !is_variable(one) && !is_variable(other) {
             return Err(run);
         }
-        let leaves = !(term.pairs | term.encryptions);
-        let pattern_leaves = !(pattern.pairs | pattern.encryptions);
+        let (leaves, pattern_leaves) = (!term.nested, !pattern.nested);
         self.count = 0;
         let (mut i, mut j) = (at, 0);
         while j < pattern.length() {
@@ -284,7 +283,7 @@ pub fn instance<const ROOM: usize>(
     term: &Term,
     at: usize,
 ) -> Result<u64, usize> {
-    let leaves = !(term.pairs | term.encryptions);
+    let leaves = !term.nested;
     let mut replaced = Replaced::<ROOM>::NONE;
     let (mut i, mut j) = (at, 0);
     loop {

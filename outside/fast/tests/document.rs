@@ -1,26 +1,11 @@
 //! The document's certificates to try, its lengths, marks in bad patterns, nonce
 //! variables, open secrets, and two atom blocks.
 
+mod common;
+
+use common::{answer, file, joined, refused, usual, with_bads, with_good};
 use fast::check;
-use text::document::{joined_atoms, ATOMS, GOOD, SECRETS};
-
-fn file(rest: &str) -> Vec<u8> {
-    text::assemble(&format!("{ATOMS}{rest}")).expect("the text is right")
-}
-
-/// The answer to these lines after the atoms.
-fn answer(rest: &str) -> u32 {
-    check(&file(rest))
-}
-
-/// With the usual secrets and good pattern.
-fn usual(rule: &str) -> u32 {
-    answer(&format!("{SECRETS}{GOOD}{rule}"))
-}
-
-fn refused(number: u32, block: u32, place: u32) -> u32 {
-    number * 65_536 + block * 256 + place
-}
+use text::document::{GOOD, SECRETS};
 
 #[test]
 fn cases_a_to_d() {
@@ -62,12 +47,6 @@ fn case_l() {
     assert_eq!(answer(&shared), refused(12, 4, 4));
 }
 
-/// With these bad patterns after the usual lines.
-fn with_bads(bads: &[&str], rule: &str) -> u32 {
-    let lines: String = bads.iter().map(|bad| format!("bad {bad}\n")).collect();
-    usual(&format!("{lines}rule {rule}"))
-}
-
 #[test]
 fn marks_of_bad_patterns_for_sure_hats() {
     let sent = "-> {(I, (N, T))}KA";
@@ -105,11 +84,6 @@ fn marks_of_bad_patterns_for_open_places() {
     assert_eq!(pair("{(I, (?x, *m))}KA"), refused(12, 6, 6));
     assert_eq!(usual("bad *m\nrule -> T"), refused(8, 4, 0));
     assert_eq!(usual("rule *m -> T"), refused(7, 4, 0));
-}
-
-/// With these secrets' good pattern.
-fn with_good(good: &str, rule: &str) -> u32 {
-    answer(&format!("{SECRETS}good {good}\nrule {rule}"))
 }
 
 #[test]
@@ -224,13 +198,6 @@ fn lengths() {
     let mut longer = file(&format!("{SECRETS}{GOOD}{rules}"));
     longer.extend_from_within(32_256..);
     assert_eq!(check(&longer), refused(1, 0, 0));
-}
-
-/// The blocks of a certificate with two atom blocks.
-fn joined(rest: &str) -> Vec<Vec<u8>> {
-    let text = format!("{}secret L\nsecret M\n{rest}", joined_atoms());
-    let bytes = text::assemble(&text).expect("the text is right");
-    bytes.chunks(512).map(<[u8]>::to_vec).collect()
 }
 
 /// The answer after these changes of bytes, each with its block sealed again.

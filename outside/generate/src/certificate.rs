@@ -9,6 +9,7 @@ use literal::read::Atom;
 use literal::{matches, Term};
 
 mod exceptions;
+mod hashes;
 mod nonces;
 mod open_secrets;
 
@@ -16,6 +17,8 @@ pub use open_secrets::OPEN_SECRETS;
 
 /// Of a hundred certificates, so many may have nonce variables.
 const NONCE_VARIABLES: usize = 40;
+/// Of a hundred certificates, so many may have hashes and signatures.
+const HASHES: usize = 30;
 
 /// A certificate of the generator, not yet bytes.
 pub fn sketch(random: &mut Random) -> Sketch {
@@ -47,15 +50,21 @@ struct Maker<'r> {
     has_nonce_variables: bool,
     /// Whether premises may show a secret.
     has_open_secrets: bool,
+    /// Whether secrets, patterns and rules have hashes and signatures.
+    has_hashes: bool,
 }
 
 impl<'r> Maker<'r> {
     fn new(random: &'r mut Random) -> Maker<'r> {
+        let has_hashes = random.aside().chance(HASHES);
         let has_nonce_variables = random.chance(NONCE_VARIABLES);
         let has_open_secrets = random.chance(OPEN_SECRETS);
         let mut atoms = atoms(random);
         if has_nonce_variables && random.chance(6) {
             atoms = nonces::without_nonces(&atoms);
+        }
+        if has_hashes && random.chance(30) {
+            hashes::with_unknown_public_keys(&mut atoms);
         }
         let mut maker = Maker {
             random,
@@ -67,6 +76,7 @@ impl<'r> Maker<'r> {
             variables: vec![0, 1],
             has_nonce_variables,
             has_open_secrets,
+            has_hashes,
         };
         maker.choose_hat_keys();
         maker
@@ -156,6 +166,9 @@ impl<'r> Maker<'r> {
         }
         self.random.shuffle(&mut secrets);
         self.sketch.secrets = secrets;
+        if self.has_hashes {
+            self.make_hash_secrets();
+        }
     }
 
     /// Weakly closed with the secrets so far, but for a few.
@@ -187,6 +200,13 @@ impl<'r> Maker<'r> {
     // Patterns.
 
     fn make_goods(&mut self) {
+        self.make_plain_goods();
+        if self.has_hashes {
+            self.make_hash_goods();
+        }
+    }
+
+    fn make_plain_goods(&mut self) {
         if self.has_nonce_variables && self.random.chance(45) {
             return self.make_nonce_goods();
         }
@@ -244,7 +264,11 @@ impl<'r> Maker<'r> {
 
     fn random_pattern(&mut self, depth: usize, marked: bool) -> Term {
         let nests = if depth == 0 { 0 } else { 50 };
-        match self.random.weighted(&[nests, nests / 2, 20, 40, 25]) {
+        let either = self.if_hashes(nests / 3);
+        match self
+            .random
+            .weighted(&[nests, nests / 2, 20, 40, 25, either, either])
+        {
             0 => Term::pair(
                 self.random_pattern(depth - 1, marked),
                 self.random_pattern(depth - 1, marked),
@@ -255,6 +279,11 @@ impl<'r> Maker<'r> {
             }
             2 => self.any_atom(),
             3 if marked => self.mark(),
+            5 => Term::hash(self.random_pattern(depth - 1, marked)),
+            6 => {
+                let message = self.random_pattern(depth - 1, marked);
+                self.signed(message)
+            }
             _ => self.plain(),
         }
     }
@@ -265,6 +294,9 @@ impl<'r> Maker<'r> {
             if bad.size() <= MOST_ENTRIES {
                 self.sketch.bads.push(bad);
             }
+        }
+        if self.has_hashes {
+            self.make_hash_bads();
         }
         if self.random.chance(35) {
             self.mark_bads();
@@ -308,12 +340,15 @@ impl<'r> Maker<'r> {
 
     fn narrow_body(&mut self) -> Term {
         let x = self.plain();
-        match self.random.weighted(&[30, 30, 20, 10, 10]) {
+        let either = self.if_hashes(10);
+        match self.random.weighted(&[30, 30, 20, 10, 10, either, either]) {
             0 => self.any_atom(),
             1 => Term::pair(self.any_atom(), x),
             2 => x,
             3 => Term::pair(x.clone(), x),
-            _ => Term::encryption(x, self.any_key()),
+            4 => Term::encryption(x, self.any_key()),
+            5 => Term::hash(x),
+            _ => self.signed(x),
         }
     }
 
@@ -321,7 +356,7 @@ impl<'r> Maker<'r> {
 
     /// Fewer where more of them do not pass.
     fn rule_count(&mut self) -> usize {
-        match self.has_nonce_variables {
+        match self.has_nonce_variables || self.has_hashes {
             true => self.random.weighted(&[0, 34, 31, 19, 8, 5, 3]),
             false => self.random.weighted(&[0, 18, 24, 22, 16, 12, 8]),
         }
@@ -331,6 +366,9 @@ impl<'r> Maker<'r> {
         loop {
             let mut rule = self.next_rule();
             self.change_rule(&mut rule);
+            if self.has_hashes {
+                self.change_hashes(&mut rule);
+            }
             if !self.has_open_secrets {
                 rule = self.without_open_secrets(rule);
             }
@@ -362,6 +400,9 @@ impl<'r> Maker<'r> {
     fn next_rule(&mut self) -> (Option<Term>, Term) {
         if self.wants_open_secret() {
             return self.open_secret_rule();
+        }
+        if self.wants_hash_rule() {
+            return self.hash_rule();
         }
         if self.wants_exception() {
             return self.exception_rule();
@@ -425,7 +466,11 @@ impl<'r> Maker<'r> {
     /// A small rule term.
     fn small(&mut self, depth: usize) -> Term {
         let nests = if depth == 0 { 0 } else { 25 };
-        match self.random.weighted(&[nests, nests / 2, 35, 15, 5]) {
+        let either = self.if_hashes(nests / 3);
+        match self
+            .random
+            .weighted(&[nests, nests / 2, 35, 15, 5, either, either])
+        {
             0 => Term::pair(self.small(depth - 1), self.small(depth - 1)),
             1 => {
                 let message = self.small(depth - 1);
@@ -433,7 +478,12 @@ impl<'r> Maker<'r> {
             }
             2 => self.variable(),
             3 => self.harmless_atom(),
-            _ => self.random.pick(&self.sketch.secrets).clone(),
+            4 => self.random.pick(&self.sketch.secrets).clone(),
+            5 => Term::hash(self.small(depth - 1)),
+            _ => {
+                let message = self.small(depth - 1);
+                self.signed(message)
+            }
         }
     }
 
@@ -455,9 +505,10 @@ impl<'r> Maker<'r> {
 
     fn premise_piece(&mut self, depth: usize) -> Term {
         let nests = if depth == 0 { 0 } else { 8 };
+        let either = self.if_hashes(nests);
         match self
             .random
-            .weighted(&[16, 8, 20, 22, 18, 10, nests, nests, 3])
+            .weighted(&[16, 8, 20, 22, 18, 10, nests, nests, 3, either, either])
         {
             0 => self.variable(),
             1 => self.harmless_atom(),
@@ -473,7 +524,12 @@ impl<'r> Maker<'r> {
                 let inner = self.premise_piece(depth - 1);
                 Term::encryption(inner, self.hat_key())
             }
-            _ => self.random.pick(&self.sketch.secrets).clone(),
+            8 => self.random.pick(&self.sketch.secrets).clone(),
+            9 => Term::hash(self.premise_piece(depth - 1)),
+            _ => {
+                let inner = self.premise_piece(depth - 1);
+                self.signed(inner)
+            }
         }
     }
 
@@ -516,6 +572,7 @@ impl<'r> Maker<'r> {
                     self.add_open(message, open);
                 }
             }
+            Term::Signature(message, _) => self.add_open(message, open),
             _ => {}
         }
     }
@@ -529,7 +586,11 @@ impl<'r> Maker<'r> {
         } else {
             34
         };
-        match self.random.weighted(&[copies, 8, nests, nests, hats, 3]) {
+        let either = self.if_hashes(nests / 2);
+        match self
+            .random
+            .weighted(&[copies, 8, nests, nests, hats, 3, either, either])
+        {
             0 => self.random.pick(open).clone(),
             1 => self.harmless_atom(),
             2 => Term::pair(
@@ -541,7 +602,12 @@ impl<'r> Maker<'r> {
                 Term::encryption(message, self.any_key())
             }
             4 => self.hat(depth, open),
-            _ => self.small(2),
+            5 => self.small(2),
+            6 => Term::hash(self.small(2)),
+            _ => {
+                let message = self.conclusion(depth - 1, open);
+                self.signed(message)
+            }
         }
     }
 
@@ -642,7 +708,7 @@ fn with_partners(wanted: &[Wanted]) -> Vec<Atom> {
 /// The variables of a term, each once.
 pub fn variables_of(term: &Term) -> Vec<Term> {
     let mut found = Vec::new();
-    for place in literal::term::places(term) {
+    for place in literal::term::subterms(term) {
         if place.subterm.is_variable() && !found.contains(place.subterm) {
             found.push(place.subterm.clone());
         }
@@ -652,13 +718,9 @@ pub fn variables_of(term: &Term) -> Vec<Term> {
 
 /// The term with each listed variable replaced by the term beside it.
 pub fn replace(term: &Term, by: &[(Term, Term)]) -> Term {
-    match term {
-        Term::Pair(left, right) => Term::pair(replace(left, by), replace(right, by)),
-        Term::Encryption(message, key) => Term::encryption(replace(message, by), *key),
-        _ => match by.iter().find(|(v, _)| v == term) {
-            Some((_, body)) => body.clone(),
-            None => term.clone(),
-        },
+    match by.iter().find(|(v, _)| v == term) {
+        Some((_, body)) => body.clone(),
+        None => term.with_parts(|part| replace(part, by)),
     }
 }
 
@@ -667,17 +729,13 @@ pub fn replace_at(term: &Term, entry: usize, other: &Term) -> Term {
     if entry == 0 {
         return other.clone();
     }
-    match term {
-        Term::Pair(left, right) if entry <= left.size() => {
-            Term::pair(replace_at(left, entry - 1, other), (**right).clone())
+    let mut first = 1;
+    term.with_parts(|part| {
+        let within = entry.checked_sub(first).filter(|w| *w < part.size());
+        first += part.size();
+        match within {
+            Some(within) => replace_at(part, within, other),
+            None => part.clone(),
         }
-        Term::Pair(left, right) => {
-            let within = entry - 1 - left.size();
-            Term::pair((**left).clone(), replace_at(right, within, other))
-        }
-        Term::Encryption(message, key) => {
-            Term::encryption(replace_at(message, entry - 1, other), *key)
-        }
-        _ => term.clone(),
-    }
+    })
 }

@@ -7,6 +7,7 @@ use crate::sketch::Sketch;
 use literal::block::{check_of, entry_at};
 use literal::numbers::{atom_kind, kind, tag, BLOCK, CHECKED, ENTRIES, HEADER, MODULUS};
 use literal::numbers::{MOST_ATOMS, MOST_ATOM_BLOCKS, MOST_BYTES, MOST_ENTRIES, VARIABLES};
+use literal::read::Atom;
 use literal::{encode, Term};
 
 /// A certificate with one fault, at times two.
@@ -91,14 +92,20 @@ fn atom_with(random: &mut Random, sketch: &Sketch, known: bool) -> Term {
     Term::Atom(*random.pick(&possible))
 }
 
-/// A pair or an encryption of atoms, no part of it meant to be listed.
+/// A compound of atoms, nothing that closes it meant to be listed.
 fn not_closed(random: &mut Random, sketch: &Sketch) -> Term {
     let left = atom_with(random, sketch, true);
     let right = atom_with(random, sketch, true);
-    if random.chance(50) {
-        return Term::pair(left, right);
+    match random.weighted(&[40, 30, 10, 10, 10]) {
+        0 => Term::pair(left, right),
+        1 => Term::encryption(left, any_key(random, sketch)),
+        2 => Term::hash(left),
+        3 => Term::signature(left, key_with(random, sketch, Atom::is_private_key)),
+        _ => {
+            let secret = atom_with(random, sketch, false);
+            Term::hash(Term::pair(secret, left))
+        }
     }
-    Term::encryption(left, any_key(random, sketch))
 }
 
 /// A pattern under any key: mostly its inverse is not listed.
@@ -108,8 +115,12 @@ fn not_kept(random: &mut Random, sketch: &Sketch) -> Term {
 }
 
 fn any_key(random: &mut Random, sketch: &Sketch) -> u16 {
+    key_with(random, sketch, Atom::is_key)
+}
+
+fn key_with(random: &mut Random, sketch: &Sketch, wanted: fn(&Atom) -> bool) -> u16 {
     let keys: Vec<u16> = (0..sketch.atoms.len() as u16)
-        .filter(|i| sketch.atoms[*i as usize].is_key())
+        .filter(|i| wanted(&sketch.atoms[*i as usize]))
         .collect();
     *random.pick(&keys)
 }
@@ -297,8 +308,10 @@ pub(crate) fn some_entry(random: &mut Random, blocks: &[Vec<u8>]) -> Option<(usi
 }
 
 fn wrong_entry(random: &mut Random, blocks: &mut [Vec<u8>]) {
-    if random.chance(30) {
-        return misplaced_nonce_variable(random, blocks);
+    match random.weighted(&[50, 25, 25]) {
+        0 => {}
+        1 => return misplaced_nonce_variable(random, blocks),
+        _ => return wrong_hash(random, blocks),
     }
     let Some((number, entry)) = some_entry(random, blocks) else {
         return;
@@ -396,14 +409,46 @@ fn misplaced_nonce_variable(random: &mut Random, blocks: &mut [Vec<u8>]) {
     seal(block);
 }
 
+/// A hash or a signature with a wrong value or second byte, made of any entry
+/// with one child.
+fn wrong_hash(random: &mut Random, blocks: &mut [Vec<u8>]) {
+    let atoms = atoms_listed(blocks).max(1);
+    let with_one_child = |block: &[u8]| {
+        let tags = [tag::ENCRYPTION, tag::HASH, tag::SIGNATURE];
+        tags.map(|tag| entries_with(block, tag)).concat()
+    };
+    let possible: Vec<usize> = (0..blocks.len())
+        .filter(|i| holds_terms(&blocks[*i]) && !with_one_child(&blocks[*i]).is_empty())
+        .collect();
+    if possible.is_empty() {
+        return;
+    }
+    let block = &mut blocks[*random.pick(&possible)];
+    let entry = *random.pick(&with_one_child(block));
+    let number = random.below(atoms) as u16;
+    match random.weighted(&[20, 40, 15, 10, 15]) {
+        0 => block[entry_at(entry)] = tag::SIGNATURE,
+        1 => set_entry(block, entry, tag::SIGNATURE, number),
+        2 => set_entry(block, entry, tag::HASH, number),
+        3 => set_entry(block, entry, tag::HASH, *random.pick(&[1, 256, 65_535])),
+        _ => {
+            let either = *random.pick(&[tag::HASH, tag::SIGNATURE]);
+            block[entry_at(entry)..entry_at(entry) + 2].copy_from_slice(&[either, 1]);
+        }
+    }
+    seal(block);
+}
+
 fn set_entry(block: &mut [u8], entry: usize, tag: u8, value: u16) {
     block[entry_at(entry)] = tag;
     set_value(block, entry, value);
 }
 
 fn wrong_shape(random: &mut Random, blocks: &mut [Vec<u8>]) {
-    if random.chance(20) {
-        return both_terms(random, blocks);
+    match random.weighted(&[65, 20, 15]) {
+        0 => {}
+        1 => return both_terms(random, blocks),
+        _ => return other_root(random, blocks),
     }
     let Some((number, entry)) = some_entry(random, blocks) else {
         return;
@@ -442,6 +487,32 @@ fn both_terms(random: &mut Random, blocks: &mut [Vec<u8>]) {
     set_entry(block, random.below(premise), tag::PAIR, 0);
     let spoilt = random.between(premise, all - 1);
     spoil_entry(random, block, spoilt, atoms);
+    seal(block);
+}
+
+/// A pattern that is a hash or a signature.
+fn other_root(random: &mut Random, blocks: &mut [Vec<u8>]) {
+    let lists = &blocks[..atom_blocks(blocks)];
+    let kinds = lists.iter().flat_map(|list| {
+        let used = (list[1] as usize).min(ENTRIES);
+        (0..used).map(|i| list[entry_at(i)])
+    });
+    let keys: Vec<u16> = (0..)
+        .zip(kinds)
+        .filter(|(_, kind)| *kind == atom_kind::PRIVATE)
+        .map(|(number, _)| number)
+        .collect();
+    let is_pattern = |block: &&mut Vec<u8>| [kind::GOOD, kind::BAD].contains(&block[0]);
+    let mut patterns: Vec<&mut Vec<u8>> = blocks.iter_mut().filter(is_pattern).collect();
+    if patterns.is_empty() || keys.is_empty() {
+        return;
+    }
+    let at = random.below(patterns.len());
+    let block = &mut patterns[at];
+    match random.chance(40) {
+        true => set_entry(block, 0, tag::HASH, 0),
+        false => set_entry(block, 0, tag::SIGNATURE, *random.pick(&keys)),
+    }
     seal(block);
 }
 

@@ -2,7 +2,7 @@
 //! variables.
 
 use crate::certificate::{replace, replace_at, variables_of, OPEN_SECRETS};
-use crate::pairs::{self, term_pair, KEYS};
+use crate::pairs::{self, term_pair, KEYS, SIGNING_KEYS};
 use crate::random::Random;
 use crate::sketch::Sketch;
 use crate::spread::onto_two_blocks;
@@ -43,10 +43,12 @@ fn secrets(random: &mut Random) -> Vec<Term> {
     while random.chance(40) {
         let (_, term) = term_pair(random.number());
         let inner = without_variables(random, &term);
-        let nested = match random.below(3) {
+        let nested = match random.below(5) {
             0 => Term::encryption(inner, *random.pick(&KEYS)),
             1 => Term::pair(Term::Atom(SECRET), inner),
-            _ => Term::pair(inner, Term::Atom(SECRET)),
+            2 => Term::pair(inner, Term::Atom(SECRET)),
+            3 => Term::signature(inner, SIGNING_KEYS[0]),
+            _ => Term::hash(random.pick(&secrets).clone()),
         };
         if nested.size() <= MOST_ENTRIES {
             secrets.push(nested);

@@ -103,7 +103,7 @@ fn not_listed(random: &mut Random, blocks: &mut [Vec<u8>]) {
         return;
     };
     let block = &mut blocks[number];
-    if block[entry_at(i)] != tag::ENCRYPTION {
+    if ![tag::ENCRYPTION, tag::SIGNATURE].contains(&block[entry_at(i)]) {
         block[entry_at(i)..entry_at(i) + ENTRY].copy_from_slice(&[tag::ATOM, 0, 0, 0]);
     }
     set_value(block, i, *random.pick(&[listed, MOST_ATOMS]) as u16);

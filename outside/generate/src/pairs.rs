@@ -1,18 +1,21 @@
-//! Pairs of terms for sharing and matching, as entry bytes. Atoms 0 to 7 of
-//! every kind, the keys 2 to 5.
+//! Pairs of terms for sharing and matching, as entry bytes. Atoms 0 to 9 of
+//! every kind, encryptions under the keys 2 to 5, signatures with 3 and 9.
 
 use crate::certificate::{replace, replace_at, variables_of};
 use crate::random::Random;
 use literal::numbers::atom_kind::{NONCE, PRINCIPAL, PRIVATE, PUBLIC, SYMMETRIC};
 use literal::numbers::{MOST_ENTRIES, VARIABLES};
 use literal::read::Atom;
+use literal::term::subterms;
 use literal::{encode, Term};
 
 pub const KEYS: [u16; 4] = [2, 3, 4, 5];
 const NONCES: [u16; 2] = [6, 7];
+/// The private keys.
+pub const SIGNING_KEYS: [u16; 2] = [3, 9];
 
-/// Two principals, a public and a private key, two symmetric ones, two nonces.
-/// No key is known, so that each may be a root key.
+/// Two principals, a public and a private key, two symmetric ones, two nonces,
+/// another public and private key. No key is known, so that each may be a root key.
 pub fn atoms() -> Vec<Atom> {
     let rows = [
         (PRINCIPAL, 1, 0),
@@ -23,6 +26,8 @@ pub fn atoms() -> Vec<Atom> {
         (SYMMETRIC, 0, 5),
         (NONCE, 0, 0),
         (NONCE, 1, 0),
+        (PUBLIC, 0, 9),
+        (PRIVATE, 0, 8),
     ];
     rows.map(|(kind, known, partner)| Atom {
         kind,
@@ -33,7 +38,7 @@ pub fn atoms() -> Vec<Atom> {
 }
 
 /// A pattern, which may hold marked variables, and a rule term. Either may hold
-/// nonce variables.
+/// nonce variables, hashes and signatures.
 #[derive(Clone, Debug)]
 pub struct TermPair {
     pub pattern: Vec<u8>,
@@ -79,6 +84,8 @@ struct Shape {
     marks: bool,
     /// Of a hundred variables so many are for one nonce.
     nonces: usize,
+    /// How often there is a hash, and how often a signature, where it may nest.
+    hashes: usize,
 }
 
 impl Shape {
@@ -118,9 +125,19 @@ fn share_of_nonces(random: &mut Random) -> usize {
     *random.pick(&[0, 0, 20, 40, 70])
 }
 
+/// Often none.
+fn share_of_hashes(random: &mut Random) -> usize {
+    *random.pick(&[0, 0, 6, 12, 20])
+}
+
+fn signed(random: &mut Random, message: Term) -> Term {
+    Term::signature(message, *random.pick(&SIGNING_KEYS))
+}
+
 fn random_term(random: &mut Random, shape: &Shape, depth: usize) -> Term {
     let nests = if depth == 0 { 0 } else { 40 };
-    match random.weighted(&[nests, nests / 3, 12, 30]) {
+    let either = if depth == 0 { 0 } else { shape.hashes };
+    match random.weighted(&[nests, nests / 3, 12, 30, either, either]) {
         0 => Term::pair(
             random_term(random, shape, depth - 1),
             random_term(random, shape, depth - 1),
@@ -130,7 +147,12 @@ fn random_term(random: &mut Random, shape: &Shape, depth: usize) -> Term {
             Term::encryption(random_term(random, shape, depth - 1), key)
         }
         2 => Term::Atom(*random.pick(&shape.atoms)),
-        _ => shape.variable(random),
+        3 => shape.variable(random),
+        4 => Term::hash(random_term(random, shape, depth - 1)),
+        _ => {
+            let message = random_term(random, shape, depth - 1);
+            signed(random, message)
+        }
     }
 }
 
@@ -152,6 +174,7 @@ fn small_pair(random: &mut Random) -> (Term, Term) {
         keys: 1,
         marks: true,
         nonces: share_of_nonces(random),
+        hashes: share_of_hashes(random),
     };
     let pattern = fitting_term(random, &shape);
     (pattern, fitting_term(random, &shape.without_marks()))
@@ -166,6 +189,7 @@ fn deep_pair(random: &mut Random) -> (Term, Term) {
         keys: 2,
         marks: true,
         nonces: share_of_nonces(random) / 2,
+        hashes: share_of_hashes(random),
     };
     let shape = marked.without_marks();
     let mut left = random_term(random, &marked, 2);
@@ -181,17 +205,31 @@ fn deep_pair(random: &mut Random) -> (Term, Term) {
                 Term::pair(leaf.1, right.clone()),
             )
         } else {
-            let key = 2 + random.below(2) as u16;
-            (
-                Term::encryption(left.clone(), key),
-                Term::encryption(right.clone(), key),
-            )
+            around_both(random, &shape, &left, &right)
         };
         if l.size().max(r.size()) > MOST_ENTRIES || random.chance(4) {
             return (left, right);
         }
         (left, right) = (l, r);
     }
+}
+
+/// Both under one key, below a hash or a signature; rarely below two of these.
+fn around_both(random: &mut Random, shape: &Shape, left: &Term, right: &Term) -> (Term, Term) {
+    let key = 2 + random.below(2) as u16;
+    let signing_key = *random.pick(&SIGNING_KEYS);
+    let around = |choice: usize, term: &Term| match choice {
+        0 => Term::encryption(term.clone(), key),
+        1 => Term::hash(term.clone()),
+        _ => Term::signature(term.clone(), signing_key),
+    };
+    let weights = [16, shape.hashes, shape.hashes];
+    let choice = random.weighted(&weights);
+    let other = match random.chance(1) {
+        true => random.weighted(&weights),
+        false => choice,
+    };
+    (around(choice, left), around(other, right))
 }
 
 /// The term is the pattern with its variables replaced, at times changed.
@@ -203,6 +241,7 @@ fn instance_pair(random: &mut Random) -> (Term, Term) {
         keys: 2,
         marks: true,
         nonces: share_of_nonces(random),
+        hashes: share_of_hashes(random),
     };
     let shape = marked.without_marks();
     loop {
@@ -219,10 +258,32 @@ fn instance_pair(random: &mut Random) -> (Term, Term) {
             let other = random_term(random, &shape, 1);
             term = replace_at(&term, random.below(term.size()), &other);
         }
+        if random.chance(25) {
+            term = turned(random, &term);
+        }
         if term.size() <= MOST_ENTRIES {
             return (pattern, term);
         }
     }
+}
+
+/// One of its signatures with the other key or as a hash, or one of its hashes
+/// as a signature.
+fn turned(random: &mut Random, term: &Term) -> Term {
+    let mut possible = subterms(term);
+    possible.retain(|s| s.subterm.is_hash() || s.subterm.is_signature());
+    if possible.is_empty() {
+        return term.clone();
+    }
+    let found = random.pick(&possible);
+    let message = found.subterm.parts().next().expect("a message").clone();
+    let [one, two] = SIGNING_KEYS;
+    let other = match found.subterm {
+        Term::Signature(_, key) if random.chance(60) => Term::signature(message, one + two - key),
+        Term::Signature(..) => Term::hash(message),
+        _ => signed(random, message),
+    };
+    replace_at(term, found.entry, &other)
 }
 
 /// A term to put for the variable; for one nonce mostly a nonce.
@@ -236,7 +297,8 @@ fn body_of(random: &mut Random, variable: &Term, shape: &Shape) -> Term {
     }
 }
 
-// Chains x1 = (x2, x2), x2 = (x3, x3) and so on, spread over the two sides.
+// Chains x1 = (x2, x2), x2 = (x3, x3) and so on, or with hashes or signatures in
+// place of the pairs, spread over the two sides.
 
 /// A variable of the pattern's side or of the term's side.
 #[derive(Clone, Copy, PartialEq)]
@@ -248,11 +310,30 @@ enum Link {
 /// The two sides of a list of equations.
 type Equations = Vec<(Term, Term)>;
 
+/// What a link is, made of the next one.
+type Body = fn(Term) -> Term;
+
+fn twice(next: Term) -> Term {
+    Term::pair(next.clone(), next)
+}
+
+/// Mostly the pair of the next link with itself.
+fn some_body(random: &mut Random) -> Body {
+    match random.weighted(&[60, 10, 12, 9, 9]) {
+        0 => twice,
+        1 => Term::hash,
+        2 => |next| Term::hash(twice(next)),
+        3 => |next| Term::signature(next, SIGNING_KEYS[0]),
+        _ => |next| Term::signature(twice(next), SIGNING_KEYS[1]),
+    }
+}
+
 fn chain_pair(random: &mut Random) -> (Term, Term) {
+    let body = some_body(random);
     let mut equations = match random.below(4) {
-        0 => closed_chain(random),
-        1 | 2 => two_chains(random),
-        _ => open_chain(random),
+        0 => closed_chain(random, body),
+        1 | 2 => two_chains(random, body),
+        _ => open_chain(random, body),
     };
     if random.chance(50) {
         tie_to_nonces(random, &mut equations);
@@ -292,9 +373,9 @@ fn last_variable(term: &Term) -> Term {
     variables_of(term).pop().unwrap_or(Term::Plain(0))
 }
 
-fn open_chain(random: &mut Random) -> Equations {
+fn open_chain(random: &mut Random, body: Body) -> Equations {
     let length = random.between(2, 2 * VARIABLES as usize);
-    let mut equations = chain(&links(random, 0, length));
+    let mut equations = chain(&links(random, 0, length), body);
     if random.chance(50) {
         equations.push((Term::Plain(0), some_atom(random)));
     }
@@ -302,11 +383,11 @@ fn open_chain(random: &mut Random) -> Equations {
 }
 
 /// The last link holds the first: no finite message, unless the chain is cut.
-fn closed_chain(random: &mut Random) -> Equations {
+fn closed_chain(random: &mut Random, body: Body) -> Equations {
     let length = random.between(2, 2 * VARIABLES as usize - 1);
     let mut all = links(random, 0, length);
     all.push(all[0]);
-    let mut equations = chain(&all);
+    let mut equations = chain(&all, body);
     if random.chance(30) {
         equations.remove(random.below(equations.len()));
     }
@@ -314,12 +395,12 @@ fn closed_chain(random: &mut Random) -> Equations {
 }
 
 /// Two chains with equal heads, and at times ends that differ.
-fn two_chains(random: &mut Random) -> Equations {
+fn two_chains(random: &mut Random, body: Body) -> Equations {
     let length = random.between(2, VARIABLES as usize);
     let one = links(random, 0, length);
     let other = links(random, VARIABLES, length);
-    let mut equations = chain(&one);
-    equations.extend(chain(&other));
+    let mut equations = chain(&one, body);
+    equations.extend(chain(&other, body));
     equations.extend(equal(one[0], other[0]));
     for link in [one[length - 1], other[length - 1]] {
         if random.chance(50) {
@@ -359,15 +440,12 @@ fn variable(link: Link) -> Term {
     }
 }
 
-/// Each link is the pair of the next one with itself.
-fn chain(links: &[Link]) -> Equations {
+/// Each link is this body of the next one.
+fn chain(links: &[Link], body: Body) -> Equations {
     links
         .windows(2)
         .filter(|two| different_sides(two[0], two[1]))
-        .map(|two| {
-            let next = variable(two[1]);
-            sides(two[0], Term::pair(next.clone(), next))
-        })
+        .map(|two| sides(two[0], body(variable(two[1]))))
         .collect()
 }
 

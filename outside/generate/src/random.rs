@@ -9,6 +9,11 @@ impl Random {
         Random { state: seed }
     }
 
+    /// Another one; what this one gives stays as it is.
+    pub fn aside(&self) -> Random {
+        Random::new(!self.state)
+    }
+
     pub fn number(&mut self) -> u64 {
         self.state = self.state.wrapping_add(0x9E37_79B9_7F4A_7C15);
         let mut z = self.state;

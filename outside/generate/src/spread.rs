@@ -44,9 +44,9 @@ pub fn renumbered(sketch: &Sketch, atoms: Vec<Atom>, to: impl Fn(u16) -> u16) ->
 fn moved(term: &Term, to: &impl Fn(u16) -> u16) -> Term {
     match term {
         Term::Atom(number) => Term::Atom(to(*number)),
-        Term::Pair(left, right) => Term::pair(moved(left, to), moved(right, to)),
         Term::Encryption(message, key) => Term::encryption(moved(message, to), to(*key)),
-        _ => term.clone(),
+        Term::Signature(message, key) => Term::signature(moved(message, to), to(*key)),
+        _ => term.with_parts(|part| moved(part, to)),
     }
 }
 

@@ -245,8 +245,8 @@ fn files_rest_on_marks_of_bad_patterns() {
         share(uses.accepted_by_marks, uses.accepted, 5),
         "accepted by marks"
     );
-    assert!(share(uses.marked_bads_decide, uses.all, 20), "bads decide");
-    assert!(share(uses.below_for_hat, uses.all, 5), "below, hat");
+    assert!(share(uses.marked_bads_decide, uses.all, 12), "bads decide");
+    assert!(share(uses.below_for_hat, uses.all, 3), "below, hat");
     assert!(share(uses.below_for_hat_of_nested, uses.all, 1), "nested");
     assert!(share(uses.below_for_open, uses.all, 1), "below, open");
     assert!(share(uses.open_secret, uses.all, 5), "open secret");

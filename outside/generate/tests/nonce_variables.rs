@@ -9,7 +9,7 @@ use judged::judged;
 use literal::hats::{first_secret, has_sure_hat, is_risky, stands_at};
 use literal::hats::{Closing, Exception, SureHat};
 use literal::read::{Atom, Certificate, Listed, Rule};
-use literal::term::{is_one_nonce, joined, marks, places, strictly_above, Path, Place};
+use literal::term::{is_one_nonce, joined, marks, places, Path, Place};
 use literal::Term;
 
 const FILES: u64 = 100_000;
@@ -112,13 +112,11 @@ fn shares_at_once(atoms: &[Atom], left: &Term, right: &Term) -> bool {
 
 fn fit(atoms: &[Atom], left: &Term, right: &Term) -> bool {
     let may_be = |term: &Term| is_one_nonce(atoms, term) || term.is_variable();
-    match (left, right) {
-        (Term::Pair(l, r), Term::Pair(l2, r2)) => fit(atoms, l, l2) && fit(atoms, r, r2),
-        (Term::Encryption(m, _), Term::Encryption(m2, _)) => fit(atoms, m, m2),
-        _ if left.is_nonce_variable() => may_be(right),
-        _ if right.is_nonce_variable() => may_be(left),
-        _ => true,
+    if left.is_nonce_variable() || right.is_nonce_variable() {
+        return may_be(left) && may_be(right);
     }
+    let mut parts = left.parts().zip(right.parts());
+    parts.all(|(one, other)| fit(atoms, one, other))
 }
 
 /// How terms share and match.
@@ -184,11 +182,7 @@ impl Reading {
     fn open<'a>(&self, certificate: &Certificate, rule: &'a Rule) -> Vec<Place<'a>> {
         let mut open = rule.premise.as_ref().map_or(Vec::new(), places);
         let closings = self.closings(certificate, &open);
-        let closes = |upper: &Closing, place: &Place| {
-            strictly_above(&upper.path, &place.path)
-                && !upper.exceptions.iter().any(|bad| bad.exposes(place))
-        };
-        open.retain(|place| !closings.iter().any(|upper| closes(upper, place)));
+        open.retain(|place| !closings.iter().any(|upper| upper.closes(place)));
         open
     }
 

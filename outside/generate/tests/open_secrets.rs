@@ -69,7 +69,8 @@ impl Uses {
         let rule = &certificate.rules[at];
         let open = open_places(certificate, rule);
         let all = premise_places(rule);
-        let place = &all[entry];
+        let mut at_entry = all.iter().filter(|place| place.entry == entry);
+        let place = at_entry.next().expect("a place");
         let is_above = |upper: &Place| literal::term::strictly_above(&upper.path, &place.path);
         let mut upper = all.iter().filter(|upper| is_above(upper));
         let add = |count: &mut u64, yes: bool| *count += u64::from(yes);
@@ -261,7 +262,7 @@ impl Uses {
         let often = |count: u64, of: u64, percent: u64, name: &str| {
             assert!(count * 100 > of * percent, "{name}");
         };
-        often(self.all, with_rules_judged, 30, "all");
+        often(self.all, with_rules_judged, 25, "all");
         often(self.accepted, self.all, 20, "accepted");
         often(self.uncovered, self.all, 20, "uncovered");
         often(self.refused, self.all, 15, "refused");

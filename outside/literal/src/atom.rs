@@ -18,6 +18,11 @@ impl Atom {
         )
     }
 
+    /// What signatures are made with.
+    pub fn is_private_key(&self) -> bool {
+        self.kind == atom_kind::PRIVATE
+    }
+
     pub fn is_nonce(&self) -> bool {
         self.kind == atom_kind::NONCE
     }

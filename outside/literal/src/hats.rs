@@ -77,6 +77,8 @@ pub struct SureHat {
 pub fn sure_hats(certificate: &Certificate, conclusion: &Term) -> Vec<SureHat> {
     let mut hats = Vec::new();
     for place in places(conclusion) {
+        #[cfg(test)]
+        let place = slip::hashes::hat_read(place);
         for good in &certificate.goods {
             if matches(&certificate.atoms, &good.term, place.subterm) {
                 hats.push(SureHat {
@@ -86,6 +88,8 @@ pub fn sure_hats(certificate: &Certificate, conclusion: &Term) -> Vec<SureHat> {
                 });
                 #[cfg(test)]
                 slip::give_more_marks(certificate, hats.last_mut());
+                #[cfg(test)]
+                slip::hashes::raise_marks(&good.term, hats.last_mut());
             }
         }
     }
@@ -163,7 +167,7 @@ pub struct Closing {
 
 impl Closing {
     /// It stands strictly above the place, and no bad pattern exposes that.
-    pub(crate) fn closes(&self, place: &Place) -> bool {
+    pub fn closes(&self, place: &Place) -> bool {
         strictly_above(&self.path, &place.path)
             && !self.exceptions.iter().any(|bad| bad.exposes(place))
     }
@@ -172,8 +176,11 @@ impl Closing {
 /// The encryptions of a premise that close what no bad pattern exposes.
 pub fn closings(certificate: &Certificate, premise: &Term) -> Vec<Closing> {
     let closes = |place: &Place| place.subterm.is_encryption() && is_closing(certificate, place);
-    let places = places(premise).into_iter().filter(closes);
+    let places = places(premise).into_iter();
+    #[cfg(test)]
+    let places = places.map(slip::hashes::closing_read);
     places
+        .filter(closes)
         .map(|place| Closing {
             exceptions: exceptions_by_matching(certificate, &place),
             path: place.path,
@@ -203,11 +210,19 @@ fn exceptions_by_matching(certificate: &Certificate, place: &Place) -> Vec<Excep
 /// replaced by terms, without marks or with one at or above the place. The
 /// answer is those places, entries rising.
 pub fn open_places<'a>(certificate: &Certificate, rule: &'a Rule) -> Vec<Place<'a>> {
-    let Some(premise) = &rule.premise else {
-        return Vec::new();
-    };
+    let premise = rule.premise.as_ref();
+    premise.map_or(Vec::new(), |term| {
+        open_among(certificate, term, places(term))
+    })
+}
+
+/// Those of the premise's subterms that no encryption closes.
+pub(crate) fn open_among<'a>(
+    certificate: &Certificate,
+    premise: &Term,
+    mut open: Vec<Place<'a>>,
+) -> Vec<Place<'a>> {
     let closings = closings(certificate, premise);
-    let mut open = places(premise);
     #[cfg(test)]
     if slip::open_otherwise(&mut open, &closings) {
         return open;
@@ -224,6 +239,8 @@ pub fn first_open_secret(certificate: &Certificate, rule: &Rule) -> Option<usize
         return other;
     }
     let open = open_places(certificate, rule);
+    #[cfg(test)]
+    let open = slip::hashes::open_for_secrets(certificate, rule).unwrap_or(open);
     first_secret(&open, &certificate.secrets)
 }
 
@@ -260,7 +277,9 @@ pub fn is_covered(hats: &[SureHat], open: &[Place], place: &Place) -> bool {
         return has_sure_hat(hats, place);
     }
     #[cfg(test)]
-    if slip::nonces::is_shown_otherwise(open, place.subterm) {
+    if slip::nonces::is_shown_otherwise(open, place.subterm)
+        || slip::hashes::is_shown_otherwise(open, place.subterm)
+    {
         return true;
     }
     has_sure_hat(hats, place) || stands_at(open, place.subterm)
@@ -275,13 +294,21 @@ pub fn stands_at(places: &[Place], term: &Term) -> bool {
 /// covered; none for a rule that passes.
 pub fn first_uncovered(certificate: &Certificate, rule: &Rule) -> Option<usize> {
     let open = open_places(certificate, rule);
+    #[cfg(test)]
+    let open = slip::hashes::open_for_cover(certificate, rule).unwrap_or(open);
     let hats = sure_hats(certificate, &rule.conclusion);
     let mut places = places(&rule.conclusion);
     #[cfg(test)]
     slip::drop_places(&mut places);
+    #[cfg(test)]
+    let mut places = slip::hashes::places_of_conclusion(&rule.conclusion).unwrap_or(places);
     places.retain(|place| is_risky(certificate, place));
-    places
-        .iter()
-        .find(|place| !is_covered(&hats, &open, place))
-        .map(|place| rule.premise_entries() + place.entry)
+    let uncovered = places.iter().find(|place| {
+        #[cfg(test)]
+        if let Some(hats) = slip::hashes::hats_reaching(&hats, &rule.conclusion, place) {
+            return !is_covered(&hats, &open, place);
+        }
+        !is_covered(&hats, &open, place)
+    })?;
+    Some(rule.premise_entries() + uncovered.entry)
 }

@@ -60,7 +60,8 @@ fn known_secret(certificate: &Certificate) -> Result<(), Refusal> {
     Ok(())
 }
 
-/// 10: with a pair, one half is listed; with {m}k, m or k is.
+/// 10: with a pair, one half is listed; with {m}k, m or k is; with a hash, its
+/// message; with a signature, its message or its key.
 fn secret_not_weakly_closed(certificate: &Certificate) -> Result<(), Refusal> {
     let listed = |term: &Term| is_listed(term, &certificate.secrets);
     for secret in &certificate.secrets {
@@ -71,8 +72,12 @@ fn secret_not_weakly_closed(certificate: &Certificate) -> Result<(), Refusal> {
                 let key = &slip::key_for_closed(certificate, *key);
                 listed(message) || listed(&Term::Atom(*key))
             }
+            Term::Hash(message) => listed(message),
+            Term::Signature(message, key) => listed(message) || listed(&Term::Atom(*key)),
             _ => true,
         };
+        #[cfg(test)]
+        let closed = slip::hashes::closed_otherwise(certificate, &secret.term).unwrap_or(closed);
         if !closed {
             return Err(refuse(10, secret.block, 0));
         }
@@ -102,6 +107,8 @@ fn root_key_not_kept(certificate: &Certificate) -> Result<(), Refusal> {
 pub(crate) fn rule_with_open_secret(certificate: &Certificate) -> Result<(), Refusal> {
     for rule in &certificate.rules {
         if let Some(entry) = first_open_secret(certificate, rule) {
+            #[cfg(test)]
+            let entry = slip::hashes::entry_told(rule, entry);
             return Err(refuse(15, rule.block, entry));
         }
     }
@@ -113,7 +120,7 @@ pub(crate) fn rule_not_passing(certificate: &Certificate) -> Result<(), Refusal>
     for rule in &certificate.rules {
         if let Some(entry) = first_uncovered(certificate, rule) {
             #[cfg(test)]
-            let entry = slip::entry_told(rule, entry);
+            let entry = slip::hashes::entry_told(rule, slip::entry_told(rule, entry));
             return Err(refuse(12, rule.block, entry));
         }
         #[cfg(test)]

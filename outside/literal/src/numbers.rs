@@ -54,4 +54,6 @@ pub mod tag {
     pub const MARKED: u8 = 5;
     pub const PLAIN_NONCE: u8 = 6;
     pub const MARKED_NONCE: u8 = 7;
+    pub const HASH: u8 = 8;
+    pub const SIGNATURE: u8 = 9;
 }

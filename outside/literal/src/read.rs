@@ -245,12 +245,20 @@ fn read_listed(atoms: &[Atom], number: usize, block: &[u8]) -> Result<Listed, Re
     let entries = block::entries(block, 0, block::first_count(block));
     entries_right(atoms, number, kind, &entries)?;
     match term_of(&entries) {
-        Some(term) if kind == kind::SECRET || term.is_encryption() => Ok(Listed {
+        Some(term) if kind == kind::SECRET || may_be_pattern(&term) => Ok(Listed {
             block: number,
             term,
         }),
         _ => Err(refuse(8, number, 0)),
     }
+}
+
+fn may_be_pattern(term: &Term) -> bool {
+    #[cfg(test)]
+    if slip::hashes::may_be_pattern(term) {
+        return true;
+    }
+    term.is_encryption()
 }
 
 fn read_rule(atoms: &[Atom], number: usize, block: &[u8]) -> Result<Rule, Refusal> {
@@ -296,6 +304,10 @@ fn entry_right(atoms: &[Atom], kind: u8, entry: &Entry) -> bool {
     if let Some(answer) = slip::nonces::entry_right_otherwise(kind, entry) {
         return answer;
     }
+    #[cfg(test)]
+    if let Some(answer) = slip::hashes::entry_right_otherwise(atoms, kind, entry) {
+        return answer;
+    }
     let atom = atoms.get(entry.value as usize);
     #[cfg(test)]
     let atom = slip::atom_reached(atom, entry.value);
@@ -306,7 +318,8 @@ fn entry_right(atoms: &[Atom], kind: u8, entry: &Entry) -> bool {
         tag::ENCRYPTION if slip::is(Slip::AnyAtomAsKey) => atom.is_some(),
         #[cfg(test)]
         tag::MARKED if slip::is(Slip::MarkRefusedInBad) => is_variable && kind == kind::GOOD,
-        tag::PAIR => entry.value == 0,
+        tag::PAIR | tag::HASH => entry.value == 0,
+        tag::SIGNATURE => atom.is_some_and(Atom::is_private_key),
         tag::ENCRYPTION => atom.is_some_and(Atom::is_key),
         tag::PLAIN | tag::PLAIN_NONCE => is_variable && kind != kind::SECRET,
         tag::MARKED | tag::MARKED_NONCE => is_variable && matches!(kind, kind::GOOD | kind::BAD),

@@ -6,12 +6,13 @@ use crate::block;
 use crate::hats::{marks_below, Closing, Exception, SureHat};
 use crate::numbers::{atom_kind, kind, ENTRIES, MODULUS, MOST_ATOM_BLOCKS};
 use crate::read::{check_right, read_atoms, refuse, Atom, Certificate, Rule};
-use crate::term::{at_or_above, joined, strictly_above, Path, Place, Term};
+use crate::term::{at_or_above, joined, strictly_above, Path, Place, Symbol, Term};
 use crate::verdict::Refusal;
 use std::cell::Cell;
 
 pub mod bads;
 pub mod checks;
+pub mod hashes;
 pub mod loaders;
 pub mod nonces;
 pub mod open_secrets;
@@ -85,6 +86,71 @@ pub enum Slip {
     MarkedNonceInRule,
     MarkedNonceRefusedInBad,
     NonceValuesToFifteen,
+    // Hashes and signatures: places.
+    BelowHashRisky,
+    BelowHashCovers,
+    BelowHashOpenSecret,
+    DeepBelowHashRisky,
+    DeepBelowHashCovers,
+    VariableBelowHashRisky,
+    EncryptionBelowHashRisky,
+    SignatureBelowHashRisky,
+    HashNotRisky,
+    HashDoesNotCover,
+    HashCoveredByItsMessage,
+    BelowSignatureNotRisky,
+    BelowSignatureDoesNotCover,
+    BelowSignatureNoOpenSecret,
+    SignatureNotRisky,
+    SignatureDoesNotCover,
+    SigningKeysAsPlaces,
+    EntriesBelowHashNotCounted,
+    // Hashes and signatures: hats.
+    SignatureAsHat,
+    SignatureCloses,
+    HatEndsAtSignature,
+    GoodMarkBelowHashCoversTheHash,
+    BadMarkBelowHashNotCounted,
+    BadMarkBelowHashIsNoneForHat,
+    BadMarkBelowHashIsNoneForOpen,
+    BadMarkBelowHashExposesTheHash,
+    // Hashes and signatures: matching and sharing.
+    SigningKeyNotMatched,
+    SigningKeyNotShared,
+    MatchingEndsAtHash,
+    SharingEndsAtHash,
+    HashMatchesSignature,
+    HashMatchesEncryption,
+    HashSharesSignature,
+    HashSharesEncryption,
+    SignatureMatchesEncryption,
+    SignatureSharesEncryption,
+    VariableInItselfBelowHash,
+    VariableInItselfBelowSignature,
+    NonceMatchesHash,
+    NonceMatchesSignature,
+    NonceSharesHash,
+    NonceSharesSignature,
+    // Hashes and signatures: reading and number 10.
+    HashWithAnyValue,
+    SignatureWithPublicKey,
+    SignatureWithSymmetricKey,
+    SignatureWithNoKey,
+    SignatureNamesPublicKey,
+    HashRefusedInSecret,
+    HashRefusedInPattern,
+    SignatureRefusedInSecret,
+    SignatureRefusedInPattern,
+    HashAsPattern,
+    SignatureAsPattern,
+    HashAlwaysClosed,
+    HashClosedByAnyPart,
+    HashClosedByAllParts,
+    SignatureAlwaysClosed,
+    SignatureClosedByMessageOnly,
+    SignatureClosedByKeyOnly,
+    SignatureClosedByBoth,
+    SignatureClosedByInverse,
     // Places and rules.
     KeysAsPlaces,
     VariableAtFirstOccurrenceOnly,
@@ -191,15 +257,18 @@ pub fn with<R>(slip: Slip, work: impl FnOnce() -> R) -> R {
     result
 }
 
-/// An encryption's key as if it stood beside the message.
-pub fn add_key_place(path: &Path, entry: usize, key: u16, found: &mut Vec<Place<'_>>) {
-    if is(Slip::KeysAsPlaces) {
-        found.push(Place {
-            path: joined(path, &[1]),
-            entry,
-            subterm: Box::leak(Box::new(Term::Atom(key))),
-        });
-    }
+/// An encryption's or a signature's key as if it stood beside the message.
+pub fn add_key_place(path: &Path, entry: usize, symbol: Symbol, found: &mut Vec<Place<'_>>) {
+    let key = match symbol {
+        Symbol::Encryption(key) if is(Slip::KeysAsPlaces) => key,
+        Symbol::Signature(key) if is(Slip::SigningKeysAsPlaces) => key,
+        _ => return,
+    };
+    found.push(Place {
+        path: joined(path, &[1]),
+        entry,
+        subterm: Box::leak(Box::new(Term::Atom(key))),
+    });
 }
 
 /// A marked variable read as the plain one of its number.
@@ -519,7 +588,8 @@ mod tests {
     #[test]
     fn generated_files_tell_every_slip() {
         let files: Vec<_> = (0..FILES).map(generate::file).map(with_verdict).collect();
-        let counts: Vec<(Slip, usize)> = ALL
+        let counts: Vec<(Slip, usize)> = [&ALL[..], &hashes::ALL]
+            .concat()
             .iter()
             .map(|slip| (*slip, told_apart(&files, *slip)))
             .collect();

@@ -17,6 +17,21 @@ pub enum Term {
     /// Variables for one nonce.
     PlainNonce(u8),
     MarkedNonce(u8),
+    Hash(Box<Term>),
+    /// The message and the signing key's number.
+    Signature(Box<Term>, u16),
+}
+
+/// What stands at a term's root; of a variable whether it is for one nonce.
+#[derive(Clone, Copy, Debug, PartialEq, Eq)]
+pub enum Symbol {
+    Variable,
+    NonceVariable,
+    Atom(u16),
+    Pair,
+    Encryption(u16),
+    Hash,
+    Signature(u16),
 }
 
 impl Term {
@@ -26,6 +41,49 @@ impl Term {
 
     pub fn encryption(message: Term, key: u16) -> Term {
         Term::Encryption(Box::new(message), key)
+    }
+
+    pub fn hash(message: Term) -> Term {
+        Term::Hash(Box::new(message))
+    }
+
+    pub fn signature(message: Term, key: u16) -> Term {
+        Term::Signature(Box::new(message), key)
+    }
+
+    pub fn symbol(&self) -> Symbol {
+        match self {
+            Term::Atom(number) => Symbol::Atom(*number),
+            Term::Pair(..) => Symbol::Pair,
+            Term::Encryption(_, key) => Symbol::Encryption(*key),
+            Term::Plain(_) | Term::Marked(_) => Symbol::Variable,
+            Term::PlainNonce(_) | Term::MarkedNonce(_) => Symbol::NonceVariable,
+            Term::Hash(_) => Symbol::Hash,
+            Term::Signature(_, key) => Symbol::Signature(*key),
+        }
+    }
+
+    /// The two halves of a pair, or the message.
+    pub fn parts(&self) -> impl Iterator<Item = &Term> {
+        let (first, second) = match self {
+            Term::Pair(left, right) => (Some(&**left), Some(&**right)),
+            Term::Encryption(message, _) | Term::Signature(message, _) | Term::Hash(message) => {
+                (Some(&**message), None)
+            }
+            _ => (None, None),
+        };
+        first.into_iter().chain(second)
+    }
+
+    /// The same with other parts.
+    pub fn with_parts(&self, mut other: impl FnMut(&Term) -> Term) -> Term {
+        match self {
+            Term::Pair(left, right) => Term::pair(other(left), other(right)),
+            Term::Encryption(message, key) => Term::encryption(other(message), *key),
+            Term::Hash(message) => Term::hash(other(message)),
+            Term::Signature(message, key) => Term::signature(other(message), *key),
+            _ => self.clone(),
+        }
     }
 
     pub fn is_variable(&self) -> bool {
@@ -45,36 +103,37 @@ impl Term {
         matches!(self, Term::Encryption(..))
     }
 
+    pub fn is_hash(&self) -> bool {
+        matches!(self, Term::Hash(_))
+    }
+
+    pub fn is_signature(&self) -> bool {
+        matches!(self, Term::Signature(..))
+    }
+
     /// How many entries the term takes.
     pub fn size(&self) -> usize {
-        match self {
-            Term::Pair(left, right) => 1 + left.size() + right.size(),
-            Term::Encryption(message, _) => 1 + message.size(),
-            _ => 1,
-        }
+        1 + self.parts().map(Term::size).sum::<usize>()
     }
 }
 
 /// The term's entries as bytes: parents before children, left before right.
 pub fn encode(term: &Term) -> Vec<u8> {
-    match term {
-        Term::Atom(number) => entry_bytes(tag::ATOM, *number),
-        Term::Pair(left, right) => {
-            [entry_bytes(tag::PAIR, 0), encode(left), encode(right)].concat()
-        }
-        Term::Encryption(message, key) => {
-            [entry_bytes(tag::ENCRYPTION, *key), encode(message)].concat()
-        }
-        Term::Plain(number) => entry_bytes(tag::PLAIN, *number as u16),
-        Term::Marked(number) => entry_bytes(tag::MARKED, *number as u16),
-        Term::PlainNonce(number) => entry_bytes(tag::PLAIN_NONCE, *number as u16),
-        Term::MarkedNonce(number) => entry_bytes(tag::MARKED_NONCE, *number as u16),
-    }
-}
-
-fn entry_bytes(tag: u8, value: u16) -> Vec<u8> {
+    let (tag, value) = match term {
+        Term::Atom(number) => (tag::ATOM, *number),
+        Term::Pair(..) => (tag::PAIR, 0),
+        Term::Encryption(_, key) => (tag::ENCRYPTION, *key),
+        Term::Plain(number) => (tag::PLAIN, *number as u16),
+        Term::Marked(number) => (tag::MARKED, *number as u16),
+        Term::PlainNonce(number) => (tag::PLAIN_NONCE, *number as u16),
+        Term::MarkedNonce(number) => (tag::MARKED_NONCE, *number as u16),
+        Term::Hash(_) => (tag::HASH, 0),
+        Term::Signature(_, key) => (tag::SIGNATURE, *key),
+    };
     let [low, high] = value.to_le_bytes();
-    vec![tag, 0, low, high]
+    let mut entries = vec![tag, 0, low, high];
+    entries.extend(term.parts().flat_map(encode));
+    entries
 }
 
 /// The term that the bytes hold, if they are exactly one term. Any atom and
@@ -93,8 +152,8 @@ pub fn decode(bytes: &[u8]) -> Option<Term> {
 fn readable(entry: &Entry) -> bool {
     entry.second == 0
         && match entry.first {
-            tag::ATOM | tag::ENCRYPTION => true,
-            tag::PAIR => entry.value == 0,
+            tag::ATOM | tag::ENCRYPTION | tag::SIGNATURE => true,
+            tag::PAIR | tag::HASH => entry.value == 0,
             tag::PLAIN..=tag::MARKED_NONCE => entry.value < VARIABLES as u16,
             _ => false,
         }
@@ -124,15 +183,22 @@ fn first_term(entries: &[Entry]) -> Option<(Term, &[Entry])> {
         tag::MARKED => Some((Term::Marked(entry.value as u8), rest)),
         tag::PLAIN_NONCE => Some((Term::PlainNonce(entry.value as u8), rest)),
         tag::MARKED_NONCE => Some((Term::MarkedNonce(entry.value as u8), rest)),
+        tag::HASH => {
+            let (message, rest) = first_term(rest)?;
+            Some((Term::hash(message), rest))
+        }
+        tag::SIGNATURE => {
+            let (message, rest) = first_term(rest)?;
+            Some((Term::signature(message, entry.value), rest))
+        }
         _ => None,
     }
 }
 
-/// From the root: 0 for the left half or the message of an encryption, 1 for
-/// the right half.
+/// From the root: 0 for the left half or the message, 1 for the right half.
 pub type Path = Vec<u8>;
 
-/// A subterm's spot. The key of an encryption is no place.
+/// A subterm's spot. The key of an encryption or of a signature is no place.
 #[derive(Clone, Debug)]
 pub struct Place<'a> {
     pub path: Path,
@@ -141,37 +207,51 @@ pub struct Place<'a> {
     pub subterm: &'a Term,
 }
 
-/// Every place of the term, entries rising.
+/// Every place of the term, entries rising: nothing below a hash is one.
 pub fn places(term: &Term) -> Vec<Place<'_>> {
+    walked(term, |subterm| !subterm.is_hash())
+}
+
+/// Every subterm, also those below a hash: one for each entry.
+pub fn subterms(term: &Term) -> Vec<Place<'_>> {
+    walked(term, |_| true)
+}
+
+/// The subterms, entries rising, with the parts of those that are gone below.
+pub(crate) fn walked(term: &Term, goes_below: impl Fn(&Term) -> bool) -> Vec<Place<'_>> {
     let mut found = Vec::new();
-    add_places(term, Vec::new(), 0, &mut found);
+    walk(term, &goes_below, Vec::new(), 0, &mut found);
     found
 }
 
-/// Adds the places of the subterm at `path`, whose first entry is `entry`.
-fn add_places<'a>(subterm: &'a Term, path: Path, entry: usize, found: &mut Vec<Place<'a>>) {
+/// Adds the subterm at `path`, whose first entry is `entry`, and goes on.
+fn walk<'a>(
+    subterm: &'a Term,
+    goes_below: &impl Fn(&Term) -> bool,
+    path: Path,
+    entry: usize,
+    found: &mut Vec<Place<'a>>,
+) {
     found.push(Place {
         path: path.clone(),
         entry,
         subterm,
     });
-    match subterm {
-        Term::Pair(left, right) => {
-            add_places(left, joined(&path, &[0]), entry + 1, found);
-            add_places(right, joined(&path, &[1]), entry + 1 + left.size(), found);
-        }
-        Term::Encryption(message, _key) => {
-            #[cfg(test)]
-            slip::add_key_place(&path, entry, *_key, found);
-            add_places(message, joined(&path, &[0]), entry + 1, found);
-        }
-        _ => {}
+    #[cfg(test)]
+    slip::add_key_place(&path, entry, subterm.symbol(), found);
+    if !goes_below(subterm) {
+        return;
+    }
+    let mut next = entry + 1;
+    for (step, part) in (0..).zip(subterm.parts()) {
+        walk(part, goes_below, joined(&path, &[step]), next, found);
+        next += part.size();
     }
 }
 
-/// The places of the marked variables of a pattern.
+/// Where the marked variables of a pattern stand, also those below a hash.
 pub fn marks(pattern: &Term) -> Vec<Path> {
-    places(pattern)
+    subterms(pattern)
         .into_iter()
         .filter(|place| place.subterm.is_mark())
         .map(|place| place.path)
@@ -215,15 +295,23 @@ struct Matching<'a> {
 
 impl<'a> Matching<'a> {
     fn goes_on(&mut self, pattern: &Term, term: &'a Term) -> bool {
-        match (pattern, term) {
-            (variable, _) if variable.is_variable() => {
-                self.may_replace(variable, term) && self.put(variable, term)
-            }
-            (Term::Atom(a), Term::Atom(b)) => a == b,
-            (Term::Pair(l, r), Term::Pair(l2, r2)) => self.goes_on(l, l2) && self.goes_on(r, r2),
-            (Term::Encryption(m, k), Term::Encryption(m2, k2)) => k == k2 && self.goes_on(m, m2),
-            _ => false,
+        if pattern.is_variable() {
+            return self.may_replace(pattern, term) && self.put(pattern, term);
         }
+        #[cfg(test)]
+        if slip::hashes::is_matched_otherwise(pattern.symbol(), term.symbol()) {
+            return self.parts_go_on(pattern, term);
+        }
+        pattern.symbol() == term.symbol() && self.parts_go_on(pattern, term)
+    }
+
+    fn parts_go_on(&mut self, pattern: &Term, term: &'a Term) -> bool {
+        #[cfg(test)]
+        if slip::hashes::ends_matching(pattern) {
+            return true;
+        }
+        let mut both = pattern.parts().zip(term.parts());
+        both.all(|(one, other)| self.goes_on(one, other))
     }
 
     /// At a nonce variable a nonce atom or a nonce variable, elsewhere anything.

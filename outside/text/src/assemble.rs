@@ -240,16 +240,29 @@ impl Terms<'_> {
                 Ok(Term::pair(left, right))
             }
             Token::Sign('{') => {
-                let message = self.term(depth + 1)?;
-                self.expect(Token::Sign('}'))?;
-                match self.next("a key's name")? {
-                    Token::Name(name) => {
-                        Ok(Term::encryption(message, number_of(&name, self.names)?))
-                    }
-                    other => Err(format!("a key's name must stand for {}", other.shown())),
-                }
+                let message = self.message(depth, '}')?;
+                Ok(Term::encryption(message, self.key()?))
+            }
+            Token::Hash => Ok(Term::hash(self.message(depth, ')')?)),
+            Token::Signature => {
+                let message = self.message(depth, ')')?;
+                Ok(Term::signature(message, self.key()?))
             }
             other => Err(format!("a term cannot begin with {}", other.shown())),
+        }
+    }
+
+    /// One term up to this sign.
+    fn message(&mut self, depth: usize, end: char) -> Result<Term, String> {
+        let message = self.term(depth + 1)?;
+        self.expect(Token::Sign(end))?;
+        Ok(message)
+    }
+
+    fn key(&mut self) -> Result<u16, String> {
+        match self.next("a key's name")? {
+            Token::Name(name) => number_of(&name, self.names),
+            other => Err(format!("a key's name must stand for {}", other.shown())),
         }
     }
 

@@ -2,7 +2,7 @@
 //! go by them.
 
 /// The requests 1 to this one; 0 is the base.
-pub const LEVEL: u32 = 6;
+pub const LEVEL: u32 = 7;
 
 /// The line that a text of the corpus expects now: of its `#: expect N LINE`
 /// comments the one with the largest N up to the level.

@@ -288,6 +288,10 @@ impl Printer {
             Term::Encryption(message, key) => {
                 format!("{{{}}}{}", self.shown(message), self.name(*key as usize))
             }
+            Term::Hash(message) => format!("h({})", self.shown(message)),
+            Term::Signature(message, key) => {
+                format!("sig({}){}", self.shown(message), self.name(*key as usize))
+            }
             variable => sorts::shown(variable).expect("all other terms are variables"),
         }
     }
@@ -301,11 +305,14 @@ impl Printer {
         match (entry.first, self.listed_name(value)) {
             (tag::ATOM, Some(name)) => Ok(format!("atom {name}")),
             (tag::ENCRYPTION, Some(name)) => Ok(format!("encryption under {name}")),
-            (tag::ATOM | tag::ENCRYPTION, None) => {
+            (tag::SIGNATURE, Some(name)) => Ok(format!("signature with {name}")),
+            (tag::ATOM | tag::ENCRYPTION | tag::SIGNATURE, None) => {
                 Err(format!("atom number {value} is not listed"))
             }
             (tag::PAIR, _) if value == 0 => Ok("pair".to_string()),
             (tag::PAIR, _) => Err(format!("a pair with value {value}")),
+            (tag::HASH, _) if value == 0 => Ok("hash".to_string()),
+            (tag::HASH, _) => Err(format!("a hash with value {value}")),
             (tag::PLAIN..=tag::MARKED_NONCE, _) if value >= VARIABLES as u16 => {
                 Err(format!("a variable with number {value}"))
             }
@@ -313,7 +320,7 @@ impl Printer {
             (tag::MARKED, _) => Ok(format!("marked variable {value}")),
             (tag::PLAIN_NONCE, _) => Ok(format!("plain nonce variable {value}")),
             (tag::MARKED_NONCE, _) => Ok(format!("marked nonce variable {value}")),
-            (tag, _) => Err(format!("tag {tag} is none of 1 to 7")),
+            (tag, _) => Err(format!("tag {tag} is none of 1 to 9")),
         }
     }
 
@@ -334,6 +341,7 @@ impl Printer {
             let entry = block::entry(block, i);
             let words = match entry.first {
                 tag::ENCRYPTION if !self.is_key(entry.value) => "is no key",
+                tag::SIGNATURE if !self.is_private_key(entry.value) => "is no private key",
                 tag::PLAIN..=tag::MARKED_NONCE if kind == kind::SECRET => "a variable in a secret",
                 tag::MARKED | tag::MARKED_NONCE if kind == kind::RULE => {
                     "a marked variable in a rule"
@@ -350,6 +358,10 @@ impl Printer {
 
     fn is_key(&self, number: u16) -> bool {
         (atom_kind::PUBLIC..=atom_kind::SYMMETRIC).contains(&self.atoms[number as usize].first)
+    }
+
+    fn is_private_key(&self, number: u16) -> bool {
+        self.atoms[number as usize].first == atom_kind::PRIVATE
     }
 }
 

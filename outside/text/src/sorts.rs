@@ -45,7 +45,7 @@ pub fn shown(term: &Term) -> Option<String> {
         Term::Marked(number) => (Sort::Marked, number),
         Term::PlainNonce(number) => (Sort::PlainNonce, number),
         Term::MarkedNonce(number) => (Sort::MarkedNonce, number),
-        Term::Atom(_) | Term::Pair(..) | Term::Encryption(..) => return None,
+        _ => return None,
     };
     Some(format!("{}{number}", sort.sign()))
 }

@@ -10,6 +10,9 @@ pub enum Token {
     Name(String),
     /// A variable and its name.
     Variable(Sort, String),
+    /// `h(` and `sig(`.
+    Hash,
+    Signature,
 }
 
 impl Token {
@@ -20,6 +23,8 @@ impl Token {
             Token::Arrow => "`->`".to_string(),
             Token::Name(name) => format!("`{name}`"),
             Token::Variable(sort, name) => format!("`{}{name}`", sort.sign()),
+            Token::Hash => "`h(`".to_string(),
+            Token::Signature => "`sig(`".to_string(),
         }
     }
 }
@@ -49,12 +54,18 @@ fn first_token(sign: char, rest: &str) -> Result<(Token, usize), String> {
             if name.is_empty() {
                 return Err(format!("`{sign}` has no meaning here"));
             }
-            let after = &rest[name.len()..];
-            if (name == "h" || name == "sig") && after.starts_with('(') {
-                return Err("hashes and signatures are not in the base".to_string());
-            }
-            Ok((Token::Name(name.to_string()), name.len()))
+            Ok(word(name, &rest[name.len()..]))
         }
+    }
+}
+
+/// A name, or the beginning of a hash or a signature: only directly before `(`
+/// are `h` and `sig` no names.
+fn word(name: &str, after: &str) -> (Token, usize) {
+    match (name, after.starts_with('(')) {
+        ("h", true) => (Token::Hash, name.len() + 1),
+        ("sig", true) => (Token::Signature, name.len() + 1),
+        _ => (Token::Name(name.to_string()), name.len()),
     }
 }
 

@@ -42,17 +42,11 @@ fn the_documents_cases() {
 
 #[test]
 fn numbers_of_variables() {
-    let entries = |line: &str| {
-        let file = assemble(&format!("{ATOMS}{line}")).unwrap();
-        let used = (file[513] + file[514]) as usize;
-        let block = &file[516..516 + 4 * used];
-        block.chunks(4).map(|e| (e[0], e[2])).collect::<Vec<_>>()
-    };
-    let good = entries("good {(?x, (*x, (?y, ?x)))}KA");
+    let good = entries_of("good {(?x, (*x, (?y, ?x)))}KA");
     assert_eq!(good[2..], [(4, 0), (2, 0), (5, 0), (2, 0), (4, 1), (4, 0)]);
-    let rule = entries("rule ?b -> (?a, ?b)");
+    let rule = entries_of("rule ?b -> (?a, ?b)");
     assert_eq!(rule, [(4, 0), (2, 0), (4, 1), (4, 0)]);
-    let digits = entries("rule ?a -> (?0, (?7, ?b))");
+    let digits = entries_of("rule ?a -> (?0, (?7, ?b))");
     assert_eq!(digits, [(4, 1), (2, 0), (4, 0), (2, 0), (4, 7), (4, 2)]);
 }
 
@@ -136,12 +130,118 @@ fn notes_on_nonce_variables() {
     assert!(too_large.contains("entry 3: marked nonce variable 0\n"));
 }
 
+/// Tag and value of the entries of a line, which stands after the atoms.
+fn entries_of(line: &str) -> Vec<(u8, u8)> {
+    let file = assemble(&format!("{ATOMS}{line}")).unwrap();
+    let used = (file[513] + file[514]) as usize;
+    let entries = file[516..516 + 4 * used].chunks(4);
+    entries.map(|e| (e[0], e[2])).collect()
+}
+
+#[test]
+fn entries_of_hashes_and_signatures() {
+    assert_eq!(entries_of("secret h(N)"), [(8, 0), (1, 6)]);
+    assert_eq!(entries_of("secret sig(N)KAi"), [(9, 3), (1, 6)]);
+    let nested = [
+        (9, 3),
+        (2, 0),
+        (8, 0),
+        (9, 5),
+        (4, 0),
+        (3, 2),
+        (8, 0),
+        (1, 7),
+    ];
+    assert_eq!(
+        entries_of("rule -> sig((h(sig(?x)KIi), {h(T)}KA))KAi"),
+        nested
+    );
+}
+
+#[test]
+fn hashes_and_signatures() {
+    let lines = "\
+        secret h(N)\nsecret sig((N, T))KAi\nsecret N\nsecret KAi\ngood {sig((h(?x), *s))KAi}KA\n\
+        bad {(h(*m), sig(?x)KIi)}KA\nrule sig(?x)KIi -> (?x, (h((N, ?y)), {sig((h(T), N))KAi}KA))\n";
+    let file = assemble(&format!("{ATOMS}{lines}")).unwrap();
+    let printed = print(&file);
+    for line in [
+        "secret h(n6)",
+        "secret sig((n6, n7))k3",
+        "good {sig((h(?0), *0))k3}k2",
+        "bad {(h(*0), sig(?0)k5)}k2",
+        "rule sig(?0)k5 -> (?0, (h((n6, ?1)), {sig((h(n7), n6))k3}k2))",
+    ] {
+        assert!(
+            printed.contains(&format!("\n{line}\n")),
+            "{line}\n{printed}"
+        );
+    }
+    assert!(!printed.contains('#'));
+    assert_eq!(assemble(&printed), Ok(file));
+    assert_eq!(
+        line_of(lines),
+        "accepted blocks=8 secrets=4 good=1 bad=1 rules=1"
+    );
+}
+
+/// Only directly before `(` are `h` and `sig` no names.
+#[test]
+fn atoms_named_h_and_sig() {
+    let atoms = "\
+        atom h nonce known\natom sig private unknown partner H\n\
+        atom H public known partner sig\n";
+    let lines = "\
+        secret sig\nsecret sig(h)sig\nrule (h, ?h) -> (sig(h)sig, (h(h), (h(sig), {h}H)))\n";
+    let file = assemble(&format!("{atoms}{lines}")).unwrap();
+    let printed = print(&file);
+    let rule = "\nrule (n0, ?0) -> (sig(n0)k1, (h(n0), (h(k1), {n0}k2)))\n";
+    assert!(printed.ends_with(rule), "{printed}");
+    let apart = assemble(&format!("{atoms}rule -> h (h)")).unwrap_err();
+    assert_eq!(apart.to_string(), "line 4: the line must end before `(`");
+    let longer = assemble(&format!("{ATOMS}rule -> N(T)")).unwrap_err();
+    assert_eq!(longer.to_string(), "line 9: the line must end before `(`");
+}
+
+/// The assembler writes any atom as a signing key, and the checker refuses it.
+#[test]
+fn notes_on_hashes_and_signatures() {
+    let signed = |key: &str| print(&assemble(&format!("{ATOMS}secret sig(N){key}")).unwrap());
+    for key in ["KA", "A", "T"] {
+        let printed = signed(key);
+        let words = "# block 1: entry 0: is no private key\n";
+        assert!(printed.contains(words), "{printed}");
+    }
+    assert!(!signed("KIi").contains('#'));
+    assert_eq!(
+        usual("rule -> sig(T)KA"),
+        "refused 7 block=4 place=0",
+        "a public key"
+    );
+    for root in ["h(*s)", "sig(*s)KAi"] {
+        let printed = print(&assemble(&format!("{ATOMS}good {root}")).unwrap());
+        assert!(printed.contains("# block 1: the root of the pattern is no encryption\n"));
+    }
+    let mut file = assemble(&format!("{ATOMS}rule -> (h(N), sig(N)KAi)")).unwrap();
+    file[512 + 4 + 4 + 2] = 1;
+    file[512 + 4 + 12 + 2] = 8;
+    let printed = print(&file);
+    assert!(printed.contains("# block 1: entry 1: not read, a hash with value 1\n"));
+    assert!(printed.contains("# block 1: entry 3: not read, atom number 8 is not listed\n"));
+    file[512 + 4 + 4 + 2] = 0;
+    file[512 + 4 + 12 + 2] = 3;
+    file[512 + 4 + 16] = 10;
+    let printed = print(&file);
+    assert!(printed.contains("# block 1: entry 1: hash\n"));
+    assert!(printed.contains("# block 1: entry 3: signature with k3\n"));
+}
+
 fn error_of(text: &str) -> String {
     assemble(text).unwrap_err().to_string()
 }
 
 /// Lines that cannot be read, and what is said of them after the line's number.
-const WRONG_LINES: [(&str, &str); 16] = [
+const WRONG_LINES: [(&str, &str); 25] = [
     ("secret (N, T", "the line ends where `)` must stand"),
     ("secret (N T)", "`,` must stand for `T`"),
     ("secret N T", "the line must end before `T`"),
@@ -156,6 +256,18 @@ const WRONG_LINES: [(&str, &str); 16] = [
         "bad {(*n!7, *n!9)}KA",
         "a variable's number is 0 to 7, not `9`",
     ),
+    (
+        "secret sig(N)",
+        "the line ends where a key's name must stand",
+    ),
+    ("secret (sig(N), T)", "a key's name must stand for `,`"),
+    ("rule -> sig(N)?x", "a key's name must stand for `?x`"),
+    ("rule -> sig(N)h(N)", "a key's name must stand for `h(`"),
+    ("rule -> sig(N)K", "there is no atom `K`"),
+    ("secret h(N, T)", "`)` must stand for `,`"),
+    ("secret h()", "a term cannot begin with `)`"),
+    ("secret h(N", "the line ends where `)` must stand"),
+    ("secret h", "there is no atom `h`"),
     ("atom N nonce known", "a second atom `N`"),
     (
         "atom M nonce maybe",
@@ -186,6 +298,11 @@ fn wrong_lines() {
     assert_eq!(no_atom, "line 3: there is no atom `N`");
     assert_eq!(error_of("foo"), "line 1: a line cannot begin with `foo`");
     assert_eq!(error_of("( A"), "line 1: a line cannot begin with `(`");
+    assert_eq!(error_of("h(A)"), "line 1: a line cannot begin with `h(`");
+    assert_eq!(
+        error_of("sig(A)"),
+        "line 1: a line cannot begin with `sig(`"
+    );
     let late = error_after_atoms("secret N\natom M nonce known");
     assert_eq!(late, "line 10: atoms come before all other lines");
 }
@@ -260,8 +377,6 @@ fn notes_on_atom_blocks() {
 
 #[test]
 fn later_tags_are_told() {
-    assert!(error_of("rule -> h(?x)").contains("hashes"));
-    assert!(error_of("rule -> sig(?x)K").contains("signatures"));
     assert!(error_of("rule -> <?x, ?y, ?z>").contains("flat tuples"));
 }
 
@@ -337,7 +452,7 @@ fn any_bytes_are_printed() {
 fn notes_in_words() {
     let mut file = assemble(&format!("{ATOMS}secret N\ngood {{*s}}KA\nrule -> {{N}}KA")).unwrap();
     file[508] ^= 1;
-    file[512 + 4] = 9;
+    file[512 + 4] = 10;
     file[1024 + 40] = 1;
     file[1536] = 77;
     file.extend([1, 2, 3]);
@@ -345,8 +460,8 @@ fn notes_in_words() {
     for words in [
         "# the last 3 bytes are no whole block",
         "# block 0: the check is ",
-        "# block 1: a secret block that is not read whole: entry 0, tag 9 is none of 1 to 7",
-        "# block 1: entry 0: not read, tag 9 is none of 1 to 7",
+        "# block 1: a secret block that is not read whole: entry 0, tag 10 is none of 1 to 9",
+        "# block 1: entry 0: not read, tag 10 is none of 1 to 9",
         "# block 2: unused entry 9 is not zero",
         "good {*0}k2",
         "# block 3: kind 77 is none of 1 to 5, not read",

@@ -4,6 +4,7 @@
 pub mod calls;
 pub mod cases;
 pub mod compare;
+pub mod hashes;
 pub mod known;
 pub mod lent;
 pub mod loaders;

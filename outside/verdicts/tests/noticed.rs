@@ -7,7 +7,9 @@ use generate::random::Random;
 use literal::{Refusal, Verdict};
 use verdicts::compare::differences;
 use verdicts::known::{self, Known};
-use verdicts::{calls, cases, loaders, marked_bad, more_atoms, nonce_variables, open_secrets};
+use verdicts::{
+    calls, cases, hashes, loaders, marked_bad, more_atoms, nonce_variables, open_secrets,
+};
 use verdicts::{failed, proved, seals, tally, Checker, Difference, Spot};
 
 const FILES: u64 = 300;
@@ -281,6 +283,7 @@ fn by_hand() -> Vec<Known> {
         marked_bad::all(),
         nonce_variables::all(),
         open_secrets::all(),
+        hashes::all(),
     ];
     lists.into_iter().flat_map(Result::unwrap).collect()
 }

@@ -12,15 +12,15 @@ use lib.ListN.{length, getD, set, drop, length-set}
 use lib.Seq.{getD-set-same, getD-set-other}
 use Rattle.blocks.specs.Kinds.{badKind}
 use Rattle.blocks.specs.Block.{blockAt, kindOf}
-use Rattle.terms.specs.Term.{Term, Variable, variable, pair, encrypted, Range, sort, marked, wrapped, Wrapping, encryption}
-use Rattle.terms.specs.Tag.{pairTag, encryptionTag, MarkedTag, sortTag, wrapping-tag}
-use Rattle.terms.proofs.TagLaws.{marked-sort, mark-tagged, marked-variable}
+use Rattle.terms.specs.Term.{Term, Variable, variable, pair, Range, sort, marked, wrapped, Wrapping}
+use Rattle.terms.specs.Tag.{pairTag, signatureTag, wrappingTag, WrapperTag, childrenOf, MarkedTag, sortTag, wrapping-symbol}
+use Rattle.terms.proofs.TagLaws.{two-children, one-child, two-tag, one-tag, marked-sort, mark-tagged, marked-variable}
 use Rattle.terms.specs.Place.{Turn, Place, left, right, inside, subtermAt}
 use Rattle.terms.specs.Entry.{size, termOf, tagAt, valueAt, Reads, Begins, from, entryAt}
 use Rattle.terms.specs.Reading.{First, first-atom, first-pair, first-wrapped, first-variable, first}
 use Rattle.terms.specs.Decisions.{Says, says-same}
 use Rattle.terms.specs.TermGraph.{rightIn}
-use Rattle.terms.proofs.EntryLaws.{from-start, termOf-reads, term-reads, begins, fits, size-positive, pair-first, encryption-first, from-from, from-length, reads-pair, reads-variable, reads-wrapped}
+use Rattle.terms.proofs.EntryLaws.{begins-tag, from-start, termOf-reads, term-reads, begins, fits, size-positive, pair-first, wrapped-first, from-from, from-length, reads-pair, reads-variable, reads-wrapped}
 use Rattle.terms.proofs.TermGraphLaws.{pair-in, wrapped-in, tag-from, right-in}
 use Rattle.terms.proofs.SizeLaws.{size-at, marked-inside}
 use Rattle.terms.proofs.PlaceLaws.{Composite, composite, isPair, isWrapped}
@@ -30,7 +30,7 @@ use Rattle.judge.specs.File.{patternOf}
 use Rattle.judge.specs.Listed.{MarkTag, LastMark, Noted, TermPart}
 use Rattle.judge.specs.CoverEntries.{subAt, On, Bits, either, putOn, Painted, Raised, MarkOver, MarkUnder, MarkAround, LayingAround}
 use Rattle.judge.proofs.Covering.Flags.{painted-raised, raised-none, raised-as, raised-twice}
-use Rattle.judge.proofs.Covering.Marks.{mark-marked, mark-pair, mark-encrypted, from-reads}
+use Rattle.judge.proofs.Covering.Marks.{mark-marked, mark-pair, mark-wrapped, from-reads}
 
 -- ---- terms
 
@@ -142,29 +142,29 @@ module _ {h k : ℕ} where
       back (inl (inr (inr m))) = inr (turned right (λ q. refl) (λ q. refl) (λ q. omega arith) m)
       back (inr w) = root-under (pair c d) (w .0) (w .1)
 
-  encryption-around : (i j : ℕ) (a c : Term Variable) → MarkAround (encrypted i a) (encrypted j c) h k
-      ↔ (MarkAround a c (h + 1) k ⊎ (Marked (encrypted i a) × (k ≡ h)))
+  wrapped-around : (v w : Wrapping) (i j : ℕ) (a c : Term Variable) → MarkAround (wrapped v i a) (wrapped w j c) h k
+      ↔ (MarkAround a c (h + 1) k ⊎ (Marked (wrapped v i a) × (k ≡ h)))
   unfolding subtermAt entryAt
-  encryption-around i j a c = (to, back)
+  wrapped-around v w i j a c = (to, back)
     where
       Parts : Type 0
-      Parts = MarkAround a c (h + 1) k ⊎ (Marked (encrypted i a) × (k ≡ h))
+      Parts = MarkAround a c (h + 1) k ⊎ (Marked (wrapped v i a) × (k ≡ h))
 
-      under : (q r : Place) {n : Range × ℕ} {s : Term Variable} → MarkAt (encrypted i a) (q ++ r) n → subtermAt q (encrypted j c) ≡ some s
-          → h + entryAt q (encrypted j c) ≡ k → Parts
+      under : (q r : Place) {n : Range × ℕ} {s : Term Variable} → MarkAt (wrapped v i a) (q ++ r) n → subtermAt q (wrapped w j c) ≡ some s
+          → h + entryAt q (wrapped w j c) ≡ k → Parts
       under [] r e f is = inr (record { name = _; place = r; stands = e }, omega arith)
       under (inside ∷ q) r e f is = inl (inr (record { name = _; place = q; rest = r; subterm = _; stands = e; under = f; entry = omega arith }))
       under (left ∷ q) r e f is = absurd (Option·none-ne-some _ f)
       under (right ∷ q) r e f is = absurd (Option·none-ne-some _ f)
 
-      to : MarkAround (encrypted i a) (encrypted j c) h k → Parts
-      to (inl m) = inl (inl (mark-encrypted i j a c .0 m))
+      to : MarkAround (wrapped v i a) (wrapped w j c) h k → Parts
+      to (inl m) = inl (inl (mark-wrapped v w i j a c .0 m))
       to (inr m) = under (m .place) (m .rest) (m .stands) (m .under) (m .entry)
 
-      back : Parts → MarkAround (encrypted i a) (encrypted j c) h k
-      back (inl (inl m)) = inl (mark-encrypted i j a c .1 m)
+      back : Parts → MarkAround (wrapped v i a) (wrapped w j c) h k
+      back (inl (inl m)) = inl (mark-wrapped v w i j a c .1 m)
       back (inl (inr m)) = inr (turned inside (λ q. refl) (λ q. refl) (λ q. omega arith) m)
-      back (inr w) = root-under (encrypted j c) (w .0) (w .1)
+      back (inr m) = root-under (wrapped w j c) (m .0) (m .1)
 
 -- Which terms are marked, by their symbols.
 marked-pair : {a b : Term Variable} → Marked (pair a b) ↔ (Marked a ⊎ Marked b)
@@ -181,11 +181,11 @@ marked-pair {a} {b} = (λ m. to (m .place) (m .stands), back)
     back (inl m) = record { name = m .name; place = left ∷ m .place; stands = m .stands }
     back (inr m) = record { name = m .name; place = right ∷ m .place; stands = m .stands }
 
-marked-encrypted : {i : ℕ} {a : Term Variable} → Marked (encrypted i a) ↔ Marked a
+marked-wrapped : {w : Wrapping} {i : ℕ} {a : Term Variable} → Marked (wrapped w i a) ↔ Marked a
 unfolding subtermAt
-marked-encrypted {i} {a} = (λ m. to (m .place) (m .stands), λ m. record { name = m .name; place = inside ∷ m .place; stands = m .stands })
+marked-wrapped {w} {i} {a} = (λ m. to (m .place) (m .stands), λ m. record { name = m .name; place = inside ∷ m .place; stands = m .stands })
   where
-    to : (q : Place) {n : Range × ℕ} → MarkAt (encrypted i a) q n → Marked a
+    to : (q : Place) {n : Range × ℕ} → MarkAt (wrapped w i a) q n → Marked a
     to [] e = let z : _≡_ {A = ℕ} 0 1 = cc in absurd (omega arith)
     to (inside ∷ q) e = record { name = _; place = q; stands = e }
     to (left ∷ q) e = absurd (Option·none-ne-some _ e)
@@ -214,7 +214,7 @@ module _ (e : List ℕ) (h : ℕ) (b : Begins (from (4 * h) e)) where
       go (first-variable {s = s} g v n q k) = let is = marked-sort s g is-tag in ((is .0, _), termOf-reads (rw (is .1) at (rw q at (b .reads))))
       go (first-atom g q k) = absurd (omega (arith, marked-variable is-tag))
       go (first-pair g n q k) = absurd (omega (arith, marked-variable is-tag))
-      go (first-wrapped i g q k) = absurd (omega (arith, marked-variable is-tag))
+      go (first-wrapped {w = w} i g q k) = absurd (omega (arith, wrapping-symbol w i, marked-variable is-tag))
 
   root-tag : {t : Term Variable} → subAt e h ≡ t → (n : ℕ) → (Reads (from (4 * h) e) (t ∷ b .others) → tagAt (from (4 * h) e) ≡ n) → getD e (4 * h) 0 ≡ n
   root-tag is n tag = tag-from e h ∙ tag (term-reads b is)
@@ -226,14 +226,14 @@ module _ (e : List ℕ) (h : ℕ) (b : Begins (from (4 * h) e)) where
   pair-tag : {t u : Term Variable} → subAt e h ≡ pair t u → getD e (4 * h) 0 ≡ pairTag
   pair-tag is = root-tag is pairTag (λ r. reads-pair r .0)
 
-  wrapped-tag : {w : Wrapping} {i : ℕ} {t : Term Variable} → subAt e h ≡ wrapped w i t → getD e (4 * h) 0 ≡ encryptionTag
-  wrapped-tag {w} is = root-tag is encryptionTag (λ r. wrapping-tag w (reads-wrapped r .0))
+  wrapped-tag : {w : Wrapping} {i : ℕ} {t : Term Variable} → subAt e h ≡ wrapped w i t → WrapperTag (getD e (4 * h) 0)
+  wrapped-tag {w} is = record { wrapping = w; is = root-tag is (wrappingTag w) (λ r. reads-wrapped r .0) }
 
-  no-composite : ¬ (getD e (4 * h) 0 ≡ pairTag) → ¬ (getD e (4 * h) 0 ≡ encryptionTag) → ¬ Composite (subAt e h)
+  no-composite : ¬ (getD e (4 * h) 0 ≡ pairTag) → ¬ WrapperTag (getD e (4 * h) 0) → ¬ Composite (subAt e h)
   no-composite no-pair no-wrapper (isPair is) = no-pair (pair-tag is)
   no-composite no-pair no-wrapper (isWrapped is) = no-wrapper (wrapped-tag is)
 
--- A pair at entry h, and an encryption.
+-- A pair at entry h, and something around a term.
 record PairAt (e : List ℕ) (h : ℕ) : Type 0 where
   term : subAt e h ≡ pair (subAt e (h + 1)) (subAt e (h + 1 + size (subAt e (h + 1))))
   left-begins : Begins (from (4 * (h + 1)) e)
@@ -262,21 +262,23 @@ pair-at e h b tag =
       right-inside = let fits = i .right-fits in omega arith;
     }
 
-record EncryptionAt (e : List ℕ) (h : ℕ) : Type 0 where
+record WrappedAt (e : List ℕ) (h : ℕ) : Type 0 where
+  wrapping : Wrapping
   key : ℕ
-  term : subAt e h ≡ encrypted key (subAt e (h + 1))
+  term : subAt e h ≡ wrapped wrapping key (subAt e (h + 1))
   content-begins : Begins (from (4 * (h + 1)) e)
   content-inside : 4 * (h + 1) < length e
 
-encryption-at : (e : List ℕ) (h : ℕ) → Begins (from (4 * h) e) → getD e (4 * h) 0 ≡ encryptionTag → EncryptionAt e h
-encryption-at e h b tag =
-    let f = encryption-first b (sym (tag-from e h) ∙ tag) in
+wrapped-at : (e : List ℕ) (h : ℕ) → Begins (from (4 * h) e) → WrapperTag (getD e (4 * h) 0) → WrappedAt e h
+wrapped-at e h b one =
+    let f = wrapped-first b (one .wrapping) (sym (tag-from e h) ∙ one .is) in
     let i = wrapped-in e h (drop-reads e (4 * h) (f .whole)) in
     let content-is : subAt e (h + 1) ≡ f .content = termOf-reads (from-reads e (4 * (h + 1)) (i .content)) in
     let whole = termOf-reads (f .whole) in
     record {
+      wrapping = one .wrapping;
       key = _;
-      term = whole ∙ ap (λ (x : Term Variable). encrypted (valueAt (from (4 * h) e)) x) (sym content-is);
+      term = whole ∙ ap (λ (x : Term Variable). wrapped (one .wrapping) (valueAt (from (4 * h) e)) x) (sym content-is);
       content-begins = begins (from-reads e (4 * (h + 1)) (i .content));
       content-inside = i .content-fits;
     }
@@ -384,6 +386,13 @@ module _ {p y e z : List ℕ} {last i h : ℕ} (l : LayingAround p y last i e z 
   pub term-room : 4 * (h + 1) ≤ length e
   term-room = let room = l .term .room in let inside = l .inside in omega (arith, from-length (4 * h) e)
 
+  -- The tags of both are among those there are.
+  pub pattern-tag : getD p (4 * i) 0 ≤ signatureTag
+  pattern-tag = rw (tag-from p i) (begins-tag (l .pattern))
+
+  pub term-tag : getD e (4 * h) 0 ≤ signatureTag
+  term-tag = rw (tag-from e h) (begins-tag (l .term))
+
   pub laid-end : {end : ℕ} → end ≡ h + size (subAt e h) → (h ≤ end) × (end ≤ 64)
   laid-end is =
       let room = fits (subAt e h) (term-reads (l .term) refl) in let short = l .short in
@@ -417,17 +426,17 @@ module _ {p y e z : List ℕ} {last i h : ℕ} (l : LayingAround p y last i e z 
       raised-as (painted-raised painted) (λ k. (let m = marked-around (x .0) (subAt e h) {h = h} {k = k} in rw (x .1, is) (m .1, m .0)))
 
   -- Other symbols.
-  pub around-differ : ¬ MarkedTag (getD p (4 * i) 0) → ¬ (getD p (4 * i) 0 ≡ getD e (4 * h) 0) → {a : List ℕ} {v : ℕ} → length a ≡ 64 → (r : Bool)
+  pub around-differ : ¬ MarkedTag (getD p (4 * i) 0) → ¬ (childrenOf (getD p (4 * i) 0) ≡ childrenOf (getD e (4 * h) 0)) → {a : List ℕ} {v : ℕ} → length a ≡ 64 → (r : Bool)
       → Says r (Marked (subAt p i)) → v ≡ putOn (getD a h 0) r → Raised a (set a h v) (MarkAround (subAt p i) (subAt e h) h)
   around-differ off other long r says is =
       raised-as (put-on-raised long flag-inside r says is) (λ k. (let m = differ-around {h = h} {k = k} (no-mark-root off) shape in (m .1, m .0)))
     where
       shape : ¬ SameShape (subAt p i) (subAt e h)
-      shape (pairs a b) = other (pair-tag p i (l .pattern) a ∙ sym (pair-tag e h (l .term) b))
-      shape (wrappers a b) = other (wrapped-tag p i (l .pattern) a ∙ sym (wrapped-tag e h (l .term) b))
+      shape (pairs a b) = other (sym (two-children (pair-tag p i (l .pattern) a)) ∙ two-children (pair-tag e h (l .term) b))
+      shape (wrappers a b) = other (sym (one-child (wrapped-tag p i (l .pattern) a)) ∙ one-child (wrapped-tag e h (l .term) b))
 
   -- Neither a mark nor anything below.
-  pub no-mark-found : ¬ MarkedTag (getD p (4 * i) 0) → ¬ (getD p (4 * i) 0 ≡ pairTag) → ¬ (getD p (4 * i) 0 ≡ encryptionTag) → ¬ Marked (subAt p i)
+  pub no-mark-found : ¬ MarkedTag (getD p (4 * i) 0) → ¬ (getD p (4 * i) 0 ≡ pairTag) → ¬ WrapperTag (getD p (4 * i) 0) → ¬ Marked (subAt p i)
   no-mark-found off no-pair no-wrapper = marked-leaf (subAt p i) (no-composite p i (l .pattern) no-pair no-wrapper) (no-mark-root off)
 
   pub none-behind : last ≤ i → ¬ Marked (subAt p i)
@@ -451,12 +460,12 @@ module _ {p y e z : List ℕ} {last i h : ℕ} (l : LayingAround p y last i e z 
   }
 
   -- Pairs on both sides.
-  module _ (pattern-tag : getD p (4 * i) 0 ≡ pairTag) (same : getD p (4 * i) 0 ≡ getD e (4 * h) 0) where
+  module _ (pattern-tag : getD p (4 * i) 0 ≡ pairTag) (same : childrenOf (getD p (4 * i) 0) ≡ childrenOf (getD e (4 * h) 0)) where
     pattern-pair : PairAt p i
     pattern-pair = pair-at p i (l .pattern) pattern-tag
 
     term-pair : PairAt e h
-    term-pair = pair-at e h (l .term) (sym same ∙ pattern-tag)
+    term-pair = pair-at e h (l .term) (two-tag (getD e (4 * h) 0) (sym same ∙ sym (two-children pattern-tag)))
 
     pub left-around : LayingAround p y last (i + 1) e z (h + 1)
     left-around = next (pattern-pair .left-begins) (term-pair .left-begins) (pattern-pair .left-inside) (term-pair .left-inside)
@@ -500,23 +509,23 @@ module _ {p y e z : List ℕ} {last i h : ℕ} (l : LayingAround p y last i e z 
               rw right-is (pair-around {h = h} {k = k} (subAt p (i + 1)) (subAt p (i + 1 + m)) (subAt e (h + 1)) (subAt e (h + 1 + size (subAt e (h + 1))))) in
               rw (pattern-whole, term-whole) (w .1, w .0)
 
-  -- Encryptions on both sides.
-  module _ (pattern-tag : getD p (4 * i) 0 ≡ encryptionTag) (same : getD p (4 * i) 0 ≡ getD e (4 * h) 0) where
-    pattern-encryption : EncryptionAt p i
-    pattern-encryption = encryption-at p i (l .pattern) pattern-tag
+  -- Something around a term on both sides, on each its own.
+  module _ (pattern-tag : WrapperTag (getD p (4 * i) 0)) (same : childrenOf (getD p (4 * i) 0) ≡ childrenOf (getD e (4 * h) 0)) where
+    pattern-wrapped : WrappedAt p i
+    pattern-wrapped = wrapped-at p i (l .pattern) pattern-tag
 
-    term-encryption : EncryptionAt e h
-    term-encryption = encryption-at e h (l .term) (sym same ∙ pattern-tag)
+    term-wrapped : WrappedAt e h
+    term-wrapped = wrapped-at e h (l .term) (one-tag (getD e (4 * h) 0) (sym same ∙ sym (one-child pattern-tag)))
 
     pub content-around : LayingAround p y last (i + 1) e z (h + 1)
-    content-around = next (pattern-encryption .content-begins) (term-encryption .content-begins) (pattern-encryption .content-inside) (term-encryption .content-inside)
+    content-around = next (pattern-wrapped .content-begins) (term-wrapped .content-begins) (pattern-wrapped .content-inside) (term-wrapped .content-inside)
 
-    pub encryption-marked : (b : Bool) → Says b (Marked (subAt p (i + 1))) → Says b (Marked (subAt p i))
-    encryption-marked b says =
-        rw (pattern-encryption .term) (says-same b (λ w. marked-encrypted .1 w) (λ w. marked-encrypted .0 w) says)
+    pub wrapped-marked : (b : Bool) → Says b (Marked (subAt p (i + 1))) → Says b (Marked (subAt p i))
+    wrapped-marked b says =
+        rw (pattern-wrapped .term) (says-same b (λ w. marked-wrapped .1 w) (λ w. marked-wrapped .0 w) says)
 
-    pub encryption-laid-around : {a b : List ℕ} {v : ℕ} → Raised a b (MarkAround (subAt p (i + 1)) (subAt e (h + 1)) (h + 1)) → (r : Bool)
+    pub wrapped-laid-around : {a b : List ℕ} {v : ℕ} → Raised a b (MarkAround (subAt p (i + 1)) (subAt e (h + 1)) (h + 1)) → (r : Bool)
         → Says r (Marked (subAt p i)) → v ≡ putOn (getD b h 0) r → Raised a (set b h v) (MarkAround (subAt p i) (subAt e h) h)
-    encryption-laid-around r t says is = raised-as (raised-twice r (put-on-raised (r .long) flag-inside t says is)) (λ k. (
-        let w = encryption-around {h = h} {k = k} (pattern-encryption .key) (term-encryption .key) (subAt p (i + 1)) (subAt e (h + 1)) in
-        rw (pattern-encryption .term, term-encryption .term) (w .1, w .0)))
+    wrapped-laid-around r t says is = raised-as (raised-twice r (put-on-raised (r .long) flag-inside t says is)) (λ k. (
+        let w = wrapped-around {h = h} {k = k} (pattern-wrapped .wrapping) (term-wrapped .wrapping) (pattern-wrapped .key) (term-wrapped .key) (subAt p (i + 1)) (subAt e (h + 1)) in
+        rw (pattern-wrapped .term, term-wrapped .term) (w .1, w .0)))

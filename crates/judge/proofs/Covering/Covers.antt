@@ -10,14 +10,15 @@ use native.Mathlib.Omega.{arith}
 use native.Mathlib.Decide.{ℕ-discrete}
 use borrow.Rule.Slice.PartAt.{part-to-end}
 use borrow.Author.Tests.{eq-eqb, ne-eqb}
-use lib.ListN.{length, getD, drop, replicate}
+use lib.ListN.{length, getD, set, drop, replicate}
 use Rattle.blocks.specs.Kinds.{secretKind}
 use Rattle.blocks.specs.Block.{firstCount, secondCount, firstEntries, secondEntries}
 use Rattle.terms.specs.declared.valid.Found.{Found}
 use Rattle.terms.specs.declared.valid.Found.the-variants.{Nothing}
 use Rattle.terms.specs.Term.{Term, Variable, variable, named, asTerm}
-use Rattle.terms.specs.Tag.{VariableTag, SymbolTag, sort-tag}
-use Rattle.terms.specs.Place.{Place}
+use Rattle.terms.specs.Tag.{VariableTag, SymbolTag, wrapping-symbol, sort-tag}
+use Rattle.terms.specs.Place.{Place, IsPlace}
+use Rattle.terms.specs.PlaceEntries.{PlaceEntry}
 use Rattle.terms.specs.Entry.{size, termOf, tagAt, valueAt, Reads, Begins, from, entryAt, Placed}
 use Rattle.terms.specs.Reading.{First, first-atom, first-pair, first-wrapped, first-variable, first}
 use Rattle.terms.proofs.EntryLaws.{termOf-reads, suffix, reads-variable, term-reads}
@@ -25,15 +26,16 @@ use Rattle.terms.specs.Decisions.{Says, says-same}
 use Rattle.terms.specs.First.{FirstNot, fails, holds}
 use Rattle.terms.proofs.FirstLaws.{first-only, first-along}
 use Rattle.terms.proofs.PlacedLaws.{placed, within, spotted, subterm-at, spot-placed}
+use Rattle.terms.proofs.PlaceEntryLaws.{place-entry}
 use Rattle.judge.specs.Certificate.{Certificate, Rule}
 use Rattle.judge.specs.File.{certificateOf, ruleOf}
 use Rattle.judge.specs.Laid.{Laid, RuleBlock}
 use Rattle.judge.specs.Cover.{SecretOpenAt, Risky, Covered, sureHat, inPremise, AtOpenPlace}
 use Rattle.judge.specs.Verdict.{spotAt, no-secret?, openSecret, FineSpot, fine?, uncovered}
 use Rattle.judge.specs.Listed.{SharesListed, IsSecret}
-use Rattle.judge.specs.CoverEntries.{subAt, On, Cleared, Flags, Standing, HatBelow, Entries, OpenEntry, OpenFlags, OpenHolds, Flagged, FlaggedWith, SomeFlagged}
+use Rattle.judge.specs.CoverEntries.{subAt, On, flagOf, Cleared, Flags, Standing, HatBelow, Entries, OpenEntry, OpenFlags, OpenHolds, Flagged, FlaggedWith, SomeFlagged}
 use Rattle.judge.specs.CoverEntries.{EntryWith, RiskyEntry, AskedEntry, Wanted, isSecret, isRisky, WantedEntry, FineEntry, Concluded}
-use Rattle.judge.proofs.Covering.Flags.{RaisedBelow, zero-off, zero-bits}
+use Rattle.judge.proofs.Covering.Flags.{RaisedBelow, raised-more, raised-over, zero-off, zero-bits}
 use Rattle.judge.proofs.Stages.ListedLaws.{secret-term, risky-is}
 use Rattle.judge.proofs.Files.Spots.{spot-stands}
 use Rattle.judge.proofs.Covering.Hats.{hat-place}
@@ -81,13 +83,13 @@ module _ (c : Certificate) {t : List ℕ} (b : Begins t) where
       go (first-variable g v n q k) = risky-is c (termOf t) .1 (inl (_, termOf-reads (rw q at (b .reads))))
       go (first-atom g q k) = absurd (omega arith)
       go (first-pair g n q k) = absurd (omega arith)
-      go (first-wrapped i g q k) = absurd (omega arith)
+      go (first-wrapped {w = w} i g q k) = absurd (omega (arith, wrapping-symbol w i))
 
   no-variable : SymbolTag (tagAt t) → (x : Variable) → ¬ (termOf t ≡ variable x)
   no-variable tag x is = go x (term-reads b is)
     where
       go : (x : Variable) → Reads t (variable x ∷ b .others) → ⊥
-      go (named s n) r = let g = sort-tag s (reads-variable r .0) in omega arith
+      go (named s n) r = let high = sort-tag s (reads-variable r .0) in omega arith
 
   pub risky-secret : SymbolTag (tagAt t) → (r : Bool) → Says r (SharesListed c secretKind (termOf t)) → Says r (Risky c (termOf t))
   risky-secret tag r says = says-same r (λ h. risky-is c (termOf t) .1 (inr h)) (λ h. go (risky-is c (termOf t) .0 h)) says
@@ -99,19 +101,26 @@ module _ (c : Certificate) {t : List ℕ} (b : Begins t) where
 pub concluded-entries : {file e : List ℕ} → Concluded file e → Entries e
 concluded-entries w = record { some-term = λ n. w .term; whole = λ n. w .whole; short = w .short }
 
--- The entries with P, as they are flagged.
-pub entries-flags : {e flags : List ℕ} {P : ℕ → Type 0} {n : ℕ} → Entries e → RaisedBelow flags P n → length e / 4 ≡ n → Flags flags (EntryWith e P)
+-- The entries with P that stand at places, as they are flagged.
+pub entries-flags : {e flags : List ℕ} {P : ℕ → Type 0} {n : ℕ} → Entries e → RaisedBelow flags (λ k. PlaceEntry e k × P k) n → length e / 4 ≡ n
+    → Flags flags (EntryWith e P)
 entries-flags {e} {n = n} entries w all = record {
   long = w .long;
   bits = w .bits;
   on = λ k. (
-    λ o. (let v = w .on k .0 o in record { inside = let l = v .0 in omega arith; holds = v .1 }),
-    λ r. w .on k .1 (below k (r .inside), r .holds),
+    λ o. (let v = w .on k .0 o in record { inside = let l = v .0 in omega arith; place = v .1 .0; holds = v .1 .1 }),
+    λ r. w .on k .1 (below k (r .inside), (r .place, r .holds)),
   );
 }
   where
     below : (k : ℕ) → 4 * k < length e → k < n
     below k l = let whole = entries .whole (λ z. omega arith) in omega arith
+
+-- One more place, and up to the next one no other.
+pub places-more : {e flags : List ℕ} {P : ℕ → Type 0} {k n v : ℕ} → RaisedBelow flags (λ j. PlaceEntry e j × P j) k → PlaceEntry e k → k < 64 → (b : Bool)
+    → v ≡ flagOf b → Says b (P k) → k < n → ((j : ℕ) → k < j → j < n → ¬ PlaceEntry e j) → RaisedBelow (set flags k v) (λ j. PlaceEntry e j × P j) n
+places-more w place small b is says further between =
+    raised-over (raised-more w small b is (says-same b (λ p. (place, p)) (λ h. h .1) says)) (omega arith) (λ j low high h. between j (omega arith) high (h .0))
 
 pub entries-flagged : {e flags : List ℕ} {P : ℕ → Type 0} → Entries e → Flags flags (EntryWith e P) → Flagged e flags
 entries-flagged entries f = record { entries = entries; long = f .long; within = λ k o. f .on k .0 o .inside }
@@ -123,8 +132,8 @@ module _ {asked : Bool} {c : Certificate} {e : List ℕ} where
     long = f .long;
     bits = f .bits;
     on = λ k. (
-      λ o. (let w = f .on k .0 o in record { inside = w .inside; holds = (on, w .holds) }),
-      λ w. f .on k .1 (record { inside = w .inside; holds = w .holds .1 }),
+      λ o. (let w = f .on k .0 o in record { inside = w .inside; place = w .place; holds = (on, w .holds) }),
+      λ w. f .on k .1 (record { inside = w .inside; place = w .place; holds = w .holds .1 }),
     );
   }
 
@@ -137,8 +146,8 @@ module _ {asked : Bool} {c : Certificate} {e : List ℕ} where
     long = f .long;
     bits = f .bits;
     on = λ k. (
-      λ o. (let w = f .on k .0 o in record { inside = w .inside; holds = w .holds .1 }),
-      λ w. f .on k .1 (record { inside = w .inside; holds = (on, w .holds) }),
+      λ o. (let w = f .on k .0 o in record { inside = w .inside; place = w .place; holds = w .holds .1 }),
+      λ w. f .on k .1 (record { inside = w .inside; place = w .place; holds = (on, w .holds) }),
     );
   }
 
@@ -165,10 +174,14 @@ pub record PremiseIs (e : List ℕ) (premise : Option (Term Variable)) : Type 0 
 
 -- Among the flags of open entries, those of a claim that makes an entry wanted are all that hold it.
 pub open-flags : {c : Certificate} {e wanted opened : List ℕ} → OpenFlags c e wanted opened → (P : Term Variable → Type 0)
-    → ((k : ℕ) → OpenEntry c e k → P (subAt e k) → On wanted k) → SomeFlagged e opened P ↔ OpenHolds c e P
-open-flags f P want = (
-  λ w. record { number = w .number; isOpen = f .on (w .number) .0 (w .is .on) .1; holds = w .is .holds },
-  λ w. record { number = w .number; is = record { on = f .on (w .number) .1 (want (w .number) (w .isOpen) (w .holds), w .isOpen); holds = w .holds } },
+    → ((k : ℕ) → On wanted k → PlaceEntry e k) → ((k : ℕ) → PlaceEntry e k → OpenEntry c e k → P (subAt e k) → On wanted k)
+    → SomeFlagged e opened P ↔ OpenHolds c e P
+open-flags f P place want = (
+  λ w. (let o = f .on (w .number) .0 (w .is .on) in record { number = w .number; place = place (w .number) (o .0); isOpen = o .1; holds = w .is .holds }),
+  λ w. record {
+    number = w .number;
+    is = record { on = f .on (w .number) .1 (want (w .number) (w .place) (w .isOpen) (w .holds), w .isOpen); holds = w .holds };
+  },
 )
 
 open-inside : {c : Certificate} {e : List ℕ} → Entries e → {k : ℕ} → OpenEntry c e k → 4 * k < length e
@@ -188,6 +201,7 @@ module _ {file : List ℕ} (laid : Laid file) (rule : Rule) {e : List ℕ} (is :
           let low = placed (w .place) (termOf e) (rw same at (w .stands)) in
           record {
             number = entryAt (w .place) (termOf e);
+            place = place-entry b (is .entries .whole some-entry) low .1 (rw same at (w .isPlace));
             isOpen = record { some-entry = some-entry; isOpen = open-place b low .1 (rw same at (w .isOpen)) };
             holds = subterm-at low (term-reads b refl);
           }
@@ -202,13 +216,14 @@ module _ {file : List ℕ} (laid : Laid file) (rule : Rule) {e : List ℕ} (is :
             premise = termOf e;
             given = is .term (o .some-entry);
             place = q .place;
+            isPlace = place-entry b (is .entries .whole (o .some-entry)) (q .is) .0 (w .place);
             stands = q .is .stands ∙ ap some term;
             isOpen = open-place b (q .is) .0 (o .isOpen);
           }
 
-  -- Number 15, by the flags of the open entries among those that are wanted, with all secrets among them.
-  module _ {wanted opened : List ℕ} (f : OpenFlags (certificateOf file) e wanted opened)
-      (want : (k : ℕ) → 4 * k < length e → IsSecret (certificateOf file) (subAt e k) → On wanted k) where
+  -- Number 15, by the flags of the open entries among those that are wanted, with all secrets at places among them.
+  module _ {conclusion risky wanted opened : List ℕ} (f : OpenFlags (certificateOf file) e wanted opened)
+      (want : Flags wanted (WantedEntry (certificateOf file) e conclusion risky)) where
     abbrev FlaggedSecret : ℕ → Type 0
     FlaggedSecret = FlaggedWith e opened (IsSecret (certificateOf file))
 
@@ -229,11 +244,13 @@ module _ {file : List ℕ} (laid : Laid file) (rule : Rule) {e : List ℕ} (is :
           to : FlaggedSecret k → SecretOpenAt (certificateOf file) (termOf e) (spotAt (termOf e) k .0)
           to w =
               let m = secret-term (certificateOf file) (subAt e k) .0 (w .holds) in
+              let o = f .on k .0 (w .on) in
               record {
                 secret = m .0;
                 listed = m .1;
+                isPlace = place-entry begins (is .entries .whole some-entry) spot .0 (want .on k .0 (o .0) .place);
                 stands = spot .stands ∙ ap some (sym subterm ∙ m .2);
-                isOpen = open-place begins spot .0 (f .on k .0 (w .on) .1 .isOpen);
+                isOpen = open-place begins spot .0 (o .1 .isOpen);
               }
 
           back : SecretOpenAt (certificateOf file) (termOf e) (spotAt (termOf e) k .0) → FlaggedSecret k
@@ -241,8 +258,9 @@ module _ {file : List ℕ} (laid : Laid file) (rule : Rule) {e : List ℕ} (is :
               let same : subAt e k ≡ asTerm (w .secret) = let x = spot .stands in let y = w .stands in cc (subterm) in
               let secret = secret-term (certificateOf file) (subAt e k) .1 (w .secret, w .listed, same) in
               let whole = is .entries .whole some-entry in
+              let place = place-entry begins whole spot .1 (w .isPlace) in
               record {
-                on = f .on k .1 (want k (omega arith) secret, record { some-entry = some-entry; isOpen = open-place begins spot .1 (w .isOpen) });
+                on = f .on k .1 (want .on k .1 (record { inside = omega arith; place = place; holds = isSecret secret }), record { some-entry = some-entry; isOpen = open-place begins spot .1 (w .isOpen) });
                 holds = secret;
               }
 
@@ -276,8 +294,15 @@ module _ {file : List ℕ} (laid : Laid file) (rule : Rule) {e : List ℕ} (is :
         subterm-is : subAt conclusion k ≡ s
         subterm-is = subterm-at here (term-reads (concluded .term) refl)
 
-        fine-entry : FineEntry (certificateOf file) e conclusion k ↔ (Risky (certificateOf file) s → Covered (certificateOf file) rule p s)
-        fine-entry = (λ w r. to (w .covered (rw subterm-is r)), λ h. record { covered = λ r. back (h (rw subterm-is at r)) })
+        place-here : PlaceEntry conclusion k ↔ IsPlace (rule .conclusion) p
+        place-here = let w = place-entry (concluded .term) (concluded .whole) here in rw term w
+
+        fine-entry : FineEntry (certificateOf file) e conclusion k
+            ↔ (IsPlace (rule .conclusion) p → Risky (certificateOf file) s → Covered (certificateOf file) rule p s)
+        fine-entry = (
+          λ w place r. to (w .covered (place-here .1 place) (rw subterm-is r)),
+          λ h. record { covered = λ place r. back (h (place-here .0 place) (rw subterm-is at r)) },
+        )
           where
             to : HatBelow (certificateOf file) conclusion (size (termOf conclusion)) k ⊎ OpenHolds (certificateOf file) e (λ t. t ≡ subAt conclusion k)
                 → Covered (certificateOf file) rule p s
@@ -297,15 +322,17 @@ module _ {file : List ℕ} (laid : Laid file) (rule : Rule) {e : List ℕ} (is :
       module _ {bare left : List ℕ} (b : Cleared risky bare (λ k. SomeFlagged e opened (λ s. s ≡ subAt conclusion k)))
           (l : Cleared bare left (HatBelow (certificateOf file) conclusion (size (termOf conclusion)))) where
         stands-open : (k : ℕ) → On risky k → SomeFlagged e opened (λ s. s ≡ subAt conclusion k) ↔ OpenHolds (certificateOf file) e (λ s. s ≡ subAt conclusion k)
-        stands-open k o = open-flags f (λ s. s ≡ subAt conclusion k) (λ j w same. want .on j .1 (record {
+        stands-open k o = open-flags f (λ s. s ≡ subAt conclusion k) (λ j on. want .on j .0 on .place) (λ j place w same. want .on j .1 (record {
           inside = open-inside (is .entries) w;
+          place = place;
           holds = isRisky (record { number = k; is = record { on = o; holds = sym same } });
         }))
 
         not-fine : (k : ℕ) → On left k → ¬ FineEntry (certificateOf file) e conclusion k
         not-fine k on w =
             let v = l .kept k on in let u = b .kept k (v .0) in
-            go v u (w .covered (g .on k .0 (u .0) .holds))
+            let r = g .on k .0 (u .0) in
+            go v u (w .covered (r .place) (r .holds))
           where
             go : On bare k × ¬ HatBelow (certificateOf file) conclusion (size (termOf conclusion)) k
                 → On risky k × ¬ SomeFlagged e opened (λ s. s ≡ subAt conclusion k)
@@ -315,8 +342,8 @@ module _ {file : List ℕ} (laid : Laid file) (rule : Rule) {e : List ℕ} (is :
 
         fine : (k : ℕ) → k < size (termOf conclusion) → ¬ On left k → FineEntry (certificateOf file) e conclusion k
         fine k inside off = record {
-          covered = λ r. (
-              let on : On risky k = g .on k .1 (record { inside = let w = concluded .whole in omega arith; holds = r }) in go on (ℕ-discrete (getD bare k 0) 1)
+          covered = λ place r. (
+              let on : On risky k = g .on k .1 (record { inside = let w = concluded .whole in omega arith; place = place; holds = r }) in go on (ℕ-discrete (getD bare k 0) 1)
               );
         }
           where

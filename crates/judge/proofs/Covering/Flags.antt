@@ -224,6 +224,18 @@ pub record RaisedBelow (flags : List ℕ) (P : ℕ → Type 0) (n : ℕ) : Type 
 pub raised-start : {P : ℕ → Type 0} → RaisedBelow (replicate 64 0) P 0
 raised-start = record { long = refl; bits = zero-bits; on = λ k. (λ o. absurd (zero-off k o), λ w. absurd (let l = w .0 in omega arith)) }
 
+-- Over entries of which P does not hold.
+pub raised-over : {flags : List ℕ} {P : ℕ → Type 0} {m n : ℕ} → RaisedBelow flags P m → m ≤ n → ((k : ℕ) → m ≤ k → k < n → ¬ P k) → RaisedBelow flags P n
+raised-over {P = P} {m = m} {n = n} w far none = record {
+  long = w .long;
+  bits = w .bits;
+  on = λ k. (λ o. (let v = w .on k .0 o in let l = v .0 in (omega arith, v .1)), λ h. w .on k .1 (below k (h .0) (h .1) (decLt k m), h .1));
+}
+  where
+    below : (k : ℕ) → k < n → P k → Dec (k < m) → k < m
+    below k l p (yes low) = low
+    below k l p (no high) = absurd (none k (omega arith) l p)
+
 pub raised-more : {flags : List ℕ} {P : ℕ → Type 0} {n v : ℕ} → RaisedBelow flags P n → n < 64 → (b : Bool) → v ≡ flagOf b → Says b (P n)
     → RaisedBelow (set flags n v) P (n + 1)
 unfolding flagOf

@@ -13,12 +13,12 @@ use Rattle.blocks.specs.Block.{blockAt, kindOf}
 use Rattle.blocks.proofs.KindLaws.{bad-lists}
 use Rattle.terms.specs.Term.{Term, Variable, replace, encryption}
 use Rattle.terms.specs.Place.{Place, StrictlyAbove, AtOrAbove}
-use Rattle.terms.specs.Tag.{MarkedTag}
+use Rattle.terms.specs.Tag.{MarkedTag, wrappingTag}
 use Rattle.terms.specs.Instance.{Matches, Share}
 use Rattle.terms.specs.Seek.{Becomes}
 use Rattle.terms.proofs.InstanceLaws.{becomes}
 use Rattle.terms.specs.Entry.{size, termOf, tagAt, Begins, from, entryAt, Placed}
-use Rattle.terms.proofs.EntryLaws.{reads-encrypted, termOf-reads, size-positive, fits, encryption-first, from-length, from-start, term-reads}
+use Rattle.terms.proofs.EntryLaws.{reads-encrypted, termOf-reads, size-positive, fits, wrapped-first, from-length, from-start, term-reads}
 use Rattle.terms.specs.TermGraph.{SizesOf}
 use Rattle.terms.specs.OneTerm.{IsEncryption, encryption?}
 use Rattle.terms.proofs.TermGraphLaws.{tag-in}
@@ -257,9 +257,10 @@ match-encryption is m = record { key = is .key; content = replace (m .by) (is .c
 
 -- Tag 3 stands where an encryption does.
 pub encryption-tag : (e : List ℕ) (h : ℕ) → Begins (from (4 * h) e) → IsEncryption (subAt e h) ↔ (getD e (4 * h) 0 ≡ 3)
+unfolding wrappingTag
 encryption-tag e h b = (
   λ w. tag-in e h ∙ reads-encrypted (rw part-to-end at (term-reads b (w .is))) .0,
-  λ tag. let w = encryption-first b (ap tagAt (part-to-end e (4 * h)) ∙ sym (tag-in e h) ∙ tag) in
+  λ tag. let w = wrapped-first b encryption (ap tagAt (part-to-end e (4 * h)) ∙ sym (tag-in e h) ∙ tag) in
       record { key = _; content = w .content; is = termOf-reads (w .whole) },
 )
 

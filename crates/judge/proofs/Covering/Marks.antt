@@ -8,14 +8,14 @@ use Prim.Native.Nat.{ℕ, _+_, _*_, _<_, _≤_}
 use native.Mathlib.Omega.{arith}
 use borrow.Rule.Slice.PartAt.{part-to-end}
 use lib.ListN.{length, drop, length-drop}
-use Rattle.terms.specs.Term.{Term, Variable, variable, atom, pair, encrypted, Range, sort, plain, named, replace}
-use Rattle.terms.specs.Tag.{pairTag, encryptionTag, MarkedTag}
+use Rattle.terms.specs.Term.{Term, Variable, variable, atom, pair, encrypted, wrapped, Wrapping, encryption, Range, sort, plain, named, replace}
+use Rattle.terms.specs.Tag.{pairTag, WrapperTag, MarkedTag, wrapping-symbol}
 use Rattle.terms.proofs.TagLaws.{marked-sort, plain-sort, marked-variable}
 use Rattle.terms.specs.Place.{Turn, Place, left, right, inside, subtermAt, AtOrAbove}
 use Rattle.terms.specs.Seek.{Becomes}
 use Rattle.terms.specs.Entry.{size, termOf, tagAt, valueAt, Reads, Begins, from, entryAt, Placed}
 use Rattle.terms.specs.Reading.{First, first-atom, first-pair, first-wrapped, first-variable, first}
-use Rattle.terms.proofs.EntryLaws.{termOf-reads, term-reads, begins, fits, PairFirst, pair-first, right-begins, EncryptionFirst, encryption-first, from-length}
+use Rattle.terms.proofs.EntryLaws.{termOf-reads, term-reads, begins, fits, PairFirst, pair-first, right-begins, WrappedFirst, wrapped-first, from-length}
 use Rattle.terms.specs.OneTerm.{IsEncryption}
 use Rattle.terms.specs.TermGraph.{rightIn}
 use Rattle.terms.proofs.TermGraphLaws.{pair-in, wrapped-in}
@@ -84,15 +84,15 @@ module _ {h k : ℕ} where
     high = omega (arith, m .high, number (m .place));
   }
 
-  pub mark-encrypted : (i j : ℕ) (a c : Term Variable) → MarkOver (encrypted i a) (encrypted j c) h k ↔ MarkOver a c (h + 1) k
+  pub mark-wrapped : (v w : Wrapping) (i j : ℕ) (a c : Term Variable) → MarkOver (wrapped v i a) (wrapped w j c) h k ↔ MarkOver a c (h + 1) k
   unfolding subtermAt entryAt
-  mark-encrypted i j a c = (
+  mark-wrapped v w i j a c = (
     λ m. to (m .place) (m .stands) (m .under) (m .low) (m .high),
     turned inside (λ p. refl) (λ p. refl) (λ p. omega arith),
   )
     where
-      to : (p : Place) {n : Range × ℕ} {s : Term Variable} → subtermAt p (encrypted i a) ≡ some (variable (markNamed n)) → subtermAt p (encrypted j c) ≡ some s
-          → h + entryAt p (encrypted j c) ≤ k → k < h + entryAt p (encrypted j c) + size s → MarkOver a c (h + 1) k
+      to : (p : Place) {n : Range × ℕ} {s : Term Variable} → subtermAt p (wrapped v i a) ≡ some (variable (markNamed n)) → subtermAt p (wrapped w j c) ≡ some s
+          → h + entryAt p (wrapped w j c) ≤ k → k < h + entryAt p (wrapped w j c) + size s → MarkOver a c (h + 1) k
       to [] e f l g = let z : _≡_ {A = ℕ} 0 1 = cc in absurd (omega arith)
       to (left ∷ p) e f l g = absurd (Option·none-ne-some _ e)
       to (right ∷ p) e f l g = absurd (Option·none-ne-some _ e)
@@ -196,7 +196,7 @@ unfolding replace size
 mark-inside {good} {u} {h} {k} is match m =
     let content = replace (match .by) (is .content) in
     let term : u ≡ encrypted (is .key) content = sym (match .same) ∙ ap (replace (match .by)) (is .is) in
-    let inner = mark-encrypted {h = h} {k = k} (is .key) (is .key) (is .content) content .0 (rw (is .is, term) at m) in
+    let inner = mark-wrapped {h = h} {k = k} encryption encryption (is .key) (is .key) (is .content) content .0 (rw (is .is, term) at m) in
     let room = within (placed (inner .place) content (inner .under)) in
     let l = inner .low in let g = inner .high in let whole : size u ≡ 1 + size content = ap size term in
     (omega arith, omega arith)
@@ -306,23 +306,25 @@ module _ {p e : List ℕ} {h : ℕ} (l : Laying p e h) where
               let m = mark-pair {h = h} {k = k} (w .first .left) (w .first .right) (w .c) (w .d) in
               rw (parts .0, parts .1, parts .2, left-is, right-is, w .term, far) (m .1, m .0)
 
-  -- An encryption on both sides.
-  pub record EncryptionLaid : Type 0 where
-    pub first : EncryptionFirst p
+  -- Something around a term on both sides.
+  pub record WrappedLaid : Type 0 where
+    pub wrapping : Wrapping
+    pub first : WrappedFirst p wrapping
     pub key : ℕ
     pub c : Term Variable
     pub more : List (Term Variable)
-    pub term : subAt e h ≡ encrypted key c
+    pub term : subAt e h ≡ wrapped wrapping key c
     pub content-term : Reads (drop (4 * (h + 1)) e) (c ∷ more)
     pub content-match : Becomes (first .content) c
 
-  pub encryption-laid : tagAt p ≡ encryptionTag → EncryptionLaid
+  pub wrapped-laid : WrapperTag (tagAt p) → WrappedLaid
   unfolding replace
-  encryption-laid tag =
-      let f = encryption-first (l .pattern) tag in
+  wrapped-laid one =
+      let f = wrapped-first (l .pattern) (one .wrapping) (one .is) in
       let by = l .match .by in
       let term = sym (l .match .same) ∙ ap (replace by) (termOf-reads (f .whole)) in
       record {
+        wrapping = one .wrapping;
         first = f;
         key = _;
         c = replace by (f .content);
@@ -332,20 +334,20 @@ module _ {p e : List ℕ} {h : ℕ} (l : Laying p e h) where
         content-match = record { by = by; same = refl };
       }
 
-  module _ (w : EncryptionLaid) where
+  module _ (w : WrappedLaid) where
     pub content-laying : Laying (from 4 p) e (h + 1)
     content-laying = next (w .first .below) (w .content-term) (w .content-match)
 
-    pub encryption-raised : {a b : List ℕ} → Raised a b (MarkOver (termOf (from 4 p)) (subAt e (h + 1)) (h + 1))
+    pub wrapped-raised : {a b : List ℕ} → Raised a b (MarkOver (termOf (from 4 p)) (subAt e (h + 1)) (h + 1))
         → Raised a b (MarkOver (termOf p) (subAt e h) h)
-    encryption-raised r = raised-as r same
+    wrapped-raised r = raised-as r same
       where
         content-is : subAt e (h + 1) ≡ w .c
         content-is = termOf-reads (from-reads e (4 * (h + 1)) (w .content-term))
 
         same : (k : ℕ) → MarkOver (termOf (from 4 p)) (subAt e (h + 1)) (h + 1) k ↔ MarkOver (termOf p) (subAt e h) h k
         same k =
-            let m = mark-encrypted {h = h} {k = k} _ (w .key) (w .first .content) (w .c) in
+            let m = mark-wrapped {h = h} {k = k} (w .wrapping) (w .wrapping) _ (w .key) (w .first .content) (w .c) in
             rw (termOf-reads (w .first .below), termOf-reads (w .first .whole), content-is, w .term) (m .1, m .0)
 
   -- A mark: every entry of the term is at or below it.
@@ -360,15 +362,15 @@ module _ {p e : List ℕ} {h : ℕ} (l : Laying p e h) where
           rw (termOf-reads (rw q at (l .pattern .reads)), sorted .1, is) (w .1, w .0)
       go k (first-atom g q m) = absurd (omega (arith, marked-variable tag))
       go k (first-pair g n q m) = absurd (omega (arith, marked-variable tag))
-      go k (first-wrapped i g q m) = absurd (omega (arith, marked-variable tag))
+      go k (first-wrapped {w = w} i g q m) = absurd (omega (arith, wrapping-symbol w i, marked-variable tag))
 
   -- Any other symbol has no mark.
-  pub no-mark : ¬ (tagAt p ≡ pairTag) → ¬ (tagAt p ≡ encryptionTag) → ¬ MarkedTag (tagAt p) → {a : List ℕ} → length a ≡ 64 → Raised a a (MarkOver (termOf p) (subAt e h) h)
-  no-mark no-pair no-encryption no-marked {a} long = raised-none long (λ k. go k (first (l .pattern .reads)))
+  pub no-mark : ¬ (tagAt p ≡ pairTag) → ¬ WrapperTag (tagAt p) → ¬ MarkedTag (tagAt p) → {a : List ℕ} → length a ≡ 64 → Raised a a (MarkOver (termOf p) (subAt e h) h)
+  no-mark no-pair no-wrapper no-marked {a} long = raised-none long (λ k. go k (first (l .pattern .reads)))
     where
       go : (k : ℕ) → First (tagAt p) (valueAt p) (drop 4 p) (l .pattern .term ∷ l .pattern .others) → ¬ MarkOver (termOf p) (subAt e h) h k
       go k (first-atom g q m) = rw (termOf-reads (rw q at (l .pattern .reads))) (mark-atom {h = h} {k = k} (valueAt p) (subAt e h))
       go k (first-pair g n q m) = absurd (no-pair g)
-      go k (first-wrapped i g q m) = absurd (no-encryption g)
+      go k (first-wrapped {w = w} i g q m) = absurd (no-wrapper (record { wrapping = w; is = i }))
       go k (first-variable {s = s} g v n q m) =
           let sorted = plain-sort s g no-marked in rw (termOf-reads (rw q at (l .pattern .reads)), sorted .1) (mark-plain {h = h} {k = k} (sorted .0) (valueAt p) (subAt e h))

@@ -9,7 +9,7 @@ use Rattle.blocks.specs.Kinds.{secretKind, goodKind, ruleKind}
 use Rattle.terms.specs.Term.{Message, Variable, noVariable, atom, instance}
 use Rattle.terms.specs.Built.{Built}
 use Rattle.terms.specs.Instance.{PutsNonces}
-use Rattle.terms.specs.Place.{Place, subtermAt}
+use Rattle.terms.specs.Place.{Place, subtermAt, IsPlace}
 use Rattle.judge.specs.declared.verdict.Counts.{Counts}
 use Rattle.judge.specs.declared.verdict.Verdict.the-variants.{Accepted}
 use Rattle.judge.specs.Answer.{packedOf}
@@ -67,10 +67,12 @@ pub secrecy-of-accepted : (file : List ℕ) (counts : Counts) → verdictOf file
     → Derives (certificateOf file) (after (certificateOf file) steps) s → ⊥
 secrecy-of-accepted file counts e = secrecy (certificateOf file) (accepted-meets file counts e)
 
--- The hats hold in every run (02, No. 2): of every message that the intruder derives, each listed secret in it is protected.
+-- The hats hold in every run (02, No. 2): of every message that the intruder derives, each listed secret at a place
+-- of it is protected.
 pub protection-of-accepted : (file : List ℕ) (counts : Counts) → verdictOf file ≡ Accepted counts
     → (steps : List (Step (certificateOf file))) (m : Message) → Derives (certificateOf file) (after (certificateOf file) steps) m
-    → (p : Place) (s : Message) → Secret (certificateOf file) s → subtermAt p m ≡ some s → Protected (certificateOf file) m p
+    → (p : Place) (s : Message) → Secret (certificateOf file) s → subtermAt p m ≡ some s → IsPlace m p
+    → Protected (certificateOf file) m p
 protection-of-accepted file counts e = protection (certificateOf file) (accepted-meets file counts e)
 
 -- A rule that number 15 would refuse adds nothing to an accepted file (02, No. 4): after no list of steps is an instance of its

@@ -6,7 +6,7 @@ use mathlib.Core.List.{List, [], _∷_, _++_, List·Memᴰ, List·Memᴰ·not-ni
 use Prim.Native.Nat.{ℕ, zero, suc, _+_}
 use Prim.Native.String.{String}
 use Rattle.blocks.specs.Check.{sealed}
-use Rattle.terms.specs.Term.{Term, Variable, variable, atom, pair, encrypted, sort, plain, marked, anyMessage, oneNonce, named}
+use Rattle.terms.specs.Term.{Term, Variable, variable, atom, pair, encrypted, hashed, signed, sort, plain, marked, anyMessage, oneNonce, named}
 use Rattle.terms.specs.Entry.{termEntries, size}
 use Rattle.terms.specs.Instance.{Share}
 use Rattle.terms.specs.Decide.{share?}
@@ -113,6 +113,19 @@ r = variable (named (sort marked oneNonce) 0)
 usual : List (List ℕ) → List ℕ
 unfolding joined atoms secret good
 usual rest = joined (atoms ∷ secret N ∷ secret K ∷ good (encrypted 2 s) ∷ rest)
+
+-- Besides N and 3 also this secret (02, No. 7), and this good pattern instead.
+besides : Term Variable → List (List ℕ) → List ℕ
+unfolding joined atoms secret good
+besides t rest = joined (atoms ∷ secret N ∷ secret K ∷ secret t ∷ good (encrypted 2 s) ∷ rest)
+
+instead : Term Variable → List (List ℕ) → List ℕ
+unfolding joined atoms secret good
+instead pattern rest = joined (atoms ∷ secret N ∷ secret K ∷ good pattern ∷ rest)
+
+-- The hash of a term.
+abbrev h : Term Variable → Term Variable
+h t = hashed 0 t
 
 -- ---- two atom blocks (02, No. 1)
 
@@ -242,7 +255,7 @@ unfolding usual from
 k = usual (from N K ∷ [])
 
 pub table : List Case
-unfolding a b k tally usual joined atoms secret good bad from start accepted refused full more firstAtoms block zeros handshake largest
+unfolding a b k tally usual besides instead joined atoms secret good bad from start accepted refused full more firstAtoms block zeros handshake largest eight
 table =
     judged a (accepted 5 2 1 0 1)
     ∷ printed (verdictOf a) "accepted blocks=5 secrets=2 good=1 bad=0 rules=1\n"
@@ -384,6 +397,59 @@ table =
     ∷ judged (largest (19 ∷ 250 ∷ 115 ∷ 42 ∷ [])) (refused 3 0 0)
     ∷ judged (largest (19 ∷ 250 ∷ 81 ∷ 48 ∷ [])) (refused 2 0 0)
     ∷ judged (largest (19 ∷ 250 ∷ 149 ∷ 36 ∷ [])) (refused 2 0 0)
+    -- conclusion h(N), (h(N), N): what stands below a hash is at no place, and a place has the number of its entry
+    ∷ judged (usual (start (h N) ∷ [])) (accepted 5 2 1 0 1)
+    ∷ judged (usual (start (pair (h N) N) ∷ [])) (refused 12 4 3)
+    -- conclusion sig(N)5, sig(T)3: a signature shows its message, and its key is at no place
+    ∷ judged (usual (start (signed 5 N) ∷ [])) (refused 12 4 1)
+    ∷ judged (usual (start (signed 3 T) ∷ [])) (accepted 5 2 1 0 1)
+    -- conclusion {sig(N)3}2, sig({N}2)3: a hat above a signature, and below one
+    ∷ judged (usual (start (encrypted 2 (signed 3 N)) ∷ [])) (accepted 5 2 1 0 1)
+    ∷ judged (usual (start (signed 3 (encrypted 2 N)) ∷ [])) (accepted 5 2 1 0 1)
+    -- conclusion h(x), sig(x)3
+    ∷ judged (usual (start (h x) ∷ [])) (accepted 5 2 1 0 1)
+    ∷ judged (usual (start (signed 3 x) ∷ [])) (refused 12 4 1)
+    -- {h(x)}4 to x: nothing is got out of a hash; {sig(x)3}4 to x: the message is read under any signature
+    ∷ judged (usual (from (encrypted 4 (h x)) x ∷ [])) (refused 12 4 3)
+    ∷ judged (usual (from (encrypted 4 (signed 3 x)) x ∷ [])) (accepted 5 2 1 0 1)
+    -- {sig(x)3}2 to {x}4, sig({x}2)3 to {x}4: encryptions alone close
+    ∷ judged (usual (from (encrypted 2 (signed 3 x)) (encrypted 4 x) ∷ [])) (refused 12 4 4)
+    ∷ judged (usual (from (signed 3 (encrypted 2 x)) (encrypted 4 x) ∷ [])) (refused 12 4 4)
+    -- h(N) to T, sig(N)3 to T, (h(N), N) to T: 15 at places only
+    ∷ judged (usual (from (h N) T ∷ [])) (accepted 5 2 1 0 1)
+    ∷ judged (usual (from (signed 3 N) T ∷ [])) (refused 15 4 1)
+    ∷ judged (usual (from (pair (h N) N) T ∷ [])) (refused 15 4 3)
+    -- secret h(N), h(T): a hash needs its message
+    ∷ judged (besides (h N) (start (encrypted 2 N) ∷ [])) (accepted 6 3 1 0 1)
+    ∷ judged (besides (h T) (start (encrypted 2 N) ∷ [])) (refused 10 3 0)
+    -- secret sig(T)3, sig(N)5, sig(T)5: a signature needs its message or its key, the signing key
+    ∷ judged (besides (signed 3 T) (start (encrypted 2 N) ∷ [])) (accepted 6 3 1 0 1)
+    ∷ judged (besides (signed 5 N) (start (encrypted 2 N) ∷ [])) (accepted 6 3 1 0 1)
+    ∷ judged (besides (signed 5 T) (start (encrypted 2 N) ∷ [])) (refused 10 3 0)
+    -- secret h(N): conclusion h(N), {h(N)}2, h(x), and h(x) to h(x)
+    ∷ judged (besides (h N) (start (h N) ∷ [])) (refused 12 5 0)
+    ∷ judged (besides (h N) (start (encrypted 2 (h N)) ∷ [])) (accepted 6 3 1 0 1)
+    ∷ judged (besides (h N) (start (h x) ∷ [])) (refused 12 5 0)
+    ∷ judged (besides (h N) (from (h x) (h x) ∷ [])) (accepted 6 3 1 0 1)
+    -- a hash with a value of 1; a signature by a public key, by a nonce, by a symmetric key
+    ∷ judged (usual (start (hashed 1 T) ∷ [])) (refused 7 4 0)
+    ∷ judged (usual (start (signed 2 T) ∷ [])) (refused 7 4 0)
+    ∷ judged (usual (start (signed 6 T) ∷ [])) (refused 7 4 0)
+    ∷ judged (joined (block 1 9 0 (eight ++ (5 ∷ 0 ∷ 8 ∷ 0 ∷ [])) ∷ secret (signed 8 T) ∷ [])) (refused 7 1 0)
+    -- a pattern that is a hash, or a signature
+    ∷ judged (usual (good (h s) ∷ [])) (refused 8 4 0)
+    ∷ judged (usual (good (signed 3 s) ∷ [])) (refused 8 4 0)
+    -- secret h(N), good {h(*s)}2: the mark is above no place of {h(N)}2
+    ∷ judged (joined (atoms ∷ secret N ∷ secret K ∷ secret (h N) ∷ good (encrypted 2 (h s)) ∷ start (encrypted 2 (h N)) ∷ [])) (refused 12 5 1)
+    -- bad {h(*s)}2, {x}2 to {x}2: the mark is below the place; bad {(x, h(*s))}2, conclusion {(N, h(T))}2: it is beside it
+    ∷ judged (usual (bad (encrypted 2 (h s)) ∷ from (encrypted 2 x) (encrypted 2 x) ∷ [])) (refused 12 5 3)
+    ∷ judged (usual (bad (encrypted 2 (pair x (h s))) ∷ start (encrypted 2 (pair N (h T))) ∷ [])) (accepted 6 2 1 1 1)
+    -- good {sig(*s)3}2 instead: {sig(N)3}2, {sig(N)5}2; {sig(x)5}2 to {x}4, which shares no instance with it
+    ∷ judged (instead (encrypted 2 (signed 3 s)) (start (encrypted 2 (signed 3 N)) ∷ [])) (accepted 5 2 1 0 1)
+    ∷ judged (instead (encrypted 2 (signed 3 s)) (start (encrypted 2 (signed 5 N)) ∷ [])) (refused 12 4 2)
+    ∷ judged (instead (encrypted 2 (signed 3 s)) (from (encrypted 2 (signed 5 x)) (encrypted 4 x) ∷ [])) (accepted 5 2 1 0 1)
+    -- good {*r}2 of a nonce instead, {sig(x)3}2 to {x}4: a signature is no nonce
+    ∷ judged (instead (encrypted 2 r) (from (encrypted 2 (signed 3 x)) (encrypted 4 x) ∷ [])) (accepted 5 2 1 0 1)
     ∷ []
 
 -- ---- the theorem
@@ -417,6 +483,10 @@ rows =
     also refl also refl also refl also refl
     also refl also refl also refl also refl also refl also refl also refl also refl also refl also refl also refl
     also refl also refl also refl
+    also refl also refl also refl also refl also refl also refl also refl also refl also refl also refl
+    also refl also refl also refl also refl also refl also refl also refl also refl also refl also refl
+    also refl also refl also refl also refl also refl also refl also refl also refl also refl also refl
+    also refl also refl also refl also refl also refl also refl also refl
     also none
 
 -- "The starred ones, gathered in one table under one theorem", with those of the requests: every row of the table holds.

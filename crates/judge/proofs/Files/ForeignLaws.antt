@@ -11,17 +11,17 @@ use lib.ListN.{length}
 use Rattle.blocks.specs.Kinds.{secretKind, goodKind, badKind, ruleKind}
 use Rattle.blocks.specs.Limits.{mostAtoms}
 use Rattle.blocks.proofs.KindLaws.{secret-lists, good-lists, bad-lists}
-use Rattle.terms.specs.Term.{Term, variable, atom, pair, Message, Variable, instance, replace, asTerm, wrapped}
+use Rattle.terms.specs.Term.{Term, variable, atom, pair, Message, Variable, instance, replace, asTerm, wrapped, Wrapping, encryption, hash, signature}
 use Rattle.terms.specs.declared.atom.Atom.{Atom}
-use Rattle.terms.specs.Atom.{IsKey, isKey?}
-use Rattle.terms.proofs.AtomLaws.{key-listed}
+use Rattle.terms.specs.TermEntry.{NumberRight, numberRight?}
+use Rattle.terms.proofs.AtomLaws.{kind-listed, key-listed}
 use Rattle.terms.specs.Place.{Place, subtermAt}
 use Rattle.terms.specs.Turns.{by-turns}
 use Rattle.terms.specs.Instance.{Matches, Share}
 use Rattle.terms.specs.Decisions.{dec-or}
 use Rattle.terms.specs.Built.{Built, MessageAtom}
 use Rattle.terms.proofs.BuiltLaws.{built-match, built-share, nonce-atom}
-use Rattle.terms.proofs.OneTermLaws.{TermRight, secret-bare, atomRight, pairRight, encryptedRight, variableRight}
+use Rattle.terms.proofs.OneTermLaws.{TermRight, secret-bare, atomRight, pairRight, wrappedRight, variableRight}
 use Rattle.judge.specs.Certificate.{Certificate, Rule, Listed}
 use Rattle.judge.specs.File.{patternOf, secretOf, ruleOf, certificateOf, fileAtoms}
 use Rattle.judge.specs.Meaning.{Formed}
@@ -35,29 +35,29 @@ use Rattle.judge.proofs.Files.Members.{listed}
 -- ---- the atoms and keys of a term
 
 -- A right term's are listed; so are a secret's.
-right-built : {atoms : List Atom} {kind : ℕ} {t : Term Variable} → TermRight atoms kind t → Built (λ a. a < length atoms) (IsKey atoms) t
+right-built : {atoms : List Atom} {kind : ℕ} {t : Term Variable} → TermRight atoms kind t → Built (λ a. a < length atoms) (NumberRight atoms) t
 unfolding Built
 right-built (atomRight l) = l
 right-built (pairRight w v) = (right-built w, right-built v)
-right-built (encryptedRight i w) = (i, right-built w)
+right-built (wrappedRight i w) = (i, right-built w)
 right-built (variableRight l k) = tt
 
 secret-built : {atoms : List Atom} {kind : ℕ} {t : Term Variable} → kind ≡ secretKind → TermRight atoms kind t
-    → Built (λ a. a < length atoms) (IsKey atoms) (instance (λ x. atom 0) t)
+    → Built (λ a. a < length atoms) (NumberRight atoms) (instance (λ x. atom 0) t)
 unfolding Built replace
 secret-built k (atomRight l) = l
 secret-built k (pairRight w v) = (secret-built k w, secret-built k v)
-secret-built k (encryptedRight i w) = (i, secret-built k w)
+secret-built k (wrappedRight i w) = (i, secret-built k w)
 secret-built k (variableRight {s = s} l n) = absurd (secret-bare s k n)
 
 -- Of other atoms and keys.
-module _ {A B K L : ℕ → Type 0} (atoms : (a : ℕ) → A a → B a) (keys : (k : ℕ) → K k → L k) where
+module _ {A B : ℕ → Type 0} {K L : Wrapping → ℕ → Type 0} (atoms : (a : ℕ) → A a → B a) (keys : (w : Wrapping) (k : ℕ) → K w k → L w k) where
   built-more : {X : Type 0} (t : Term X) → Built A K t → Built B L t
   unfolding Built
   built-more (variable x) b = tt
   built-more (atom a) b = atoms a b
   built-more (pair t u) b = (built-more t (b .0), built-more u (b .1))
-  built-more (wrapped w k t) b = (keys k (b .0), built-more t (b .1))
+  built-more (wrapped w k t) b = (keys w k (b .0), built-more t (b .1))
 
   holding-more : {certificate : Certificate} → Holding A K certificate → Holding B L certificate
   holding-more w = record {
@@ -69,7 +69,7 @@ module _ {A B K L : ℕ → Type 0} (atoms : (a : ℕ) → A a → B a) (keys : 
   }
 
 -- A subterm's are the term's.
-built-subterm : (A K : ℕ → Type 0) {X : Type 0} (p : Place) (t : Term X) {s : Term X} → subtermAt p t ≡ some s → Built A K t → Built A K s
+built-subterm : (A : ℕ → Type 0) (K : Wrapping → ℕ → Type 0) {X : Type 0} (p : Place) (t : Term X) {s : Term X} → subtermAt p t ≡ some s → Built A K t → Built A K s
 unfolding Built
 built-subterm A K {X} =
     by-turns (λ (p : Place) (t s : Term X). Built A K t → Built A K s)
@@ -79,7 +79,7 @@ built-subterm A K {X} =
 
 module _ (file : List ℕ) (w : Formed file) where
   -- The atoms and keys of listed terms are listed.
-  holding : Holding (λ a. a < length (fileAtoms file)) (IsKey (fileAtoms file)) (certificateOf file)
+  holding : Holding (λ a. a < length (fileAtoms file)) (NumberRight (fileAtoms file)) (certificateOf file)
   unfolding certificateOf secretOf
   holding = record {
     secrets = listed file secretKind secretOf _ (λ i h k. secret-built k (pattern-right file i (w .blocks i h) (secret-lists k)));
@@ -93,24 +93,31 @@ module _ (file : List ℕ) (w : Formed file) where
   few : length (fileAtoms file) ≤ mostAtoms
   few = few-atoms file (laid file (w .long) (w .blocks) .atoms)
 
+  -- The number that goes with something around a term is below their count, or 0.
+  number-low : (w : Wrapping) {k : ℕ} → NumberRight (fileAtoms file) w k → k < 1000
+  unfolding NumberRight
+  number-low encryption is = omega (arith, few, key-listed is)
+  number-low hash is = omega arith
+  number-low signature {k} is = omega (arith, few, kind-listed (fileAtoms file) k (omega arith))
+
   pub no-foreign : NoForeign (certificateOf file)
   unfolding certificateOf fileAtoms
   no-foreign = record {
-    terms = let f = few in holding-more (λ a l. omega arith) (λ k i. omega (arith, key-listed i)) holding;
+    terms = let f = few in holding-more (λ a l. omega arith) (λ w k i. number-low w i) holding;
     keys = λ k f i. omega (arith, few, key-listed i);
   }
 
 -- ---- the same cover
 
-module _ (c : Certificate) (all : Holding (MessageAtom (c .atoms)) (IsKey (c .atoms)) c) where
+module _ (c : Certificate) (all : Holding (MessageAtom (c .atoms)) (NumberRight (c .atoms)) c) where
   abbrev Proper : {X : Type 0} → Term X → Type 0
-  Proper t = Built (MessageAtom (c .atoms)) (IsKey (c .atoms)) t
+  Proper t = Built (MessageAtom (c .atoms)) (NumberRight (c .atoms)) t
 
   atom? : (a : ℕ) → Dec (MessageAtom (c .atoms) a)
   atom? a = dec-or (decLt a (length (c .atoms))) (λ n. decLe 1000 a)
 
   subterm : (p : Place) (t : Term Variable) {s : Term Variable} → subtermAt p t ≡ some s → Proper t → Proper s
-  subterm = built-subterm (MessageAtom (c .atoms)) (IsKey (c .atoms))
+  subterm = built-subterm (MessageAtom (c .atoms)) (NumberRight (c .atoms))
 
   -- A message, read as a term.
   built-term : (m : Message) → Proper m → Proper {X = Variable} (asTerm m)
@@ -121,10 +128,10 @@ module _ (c : Certificate) (all : Holding (MessageAtom (c .atoms)) (IsKey (c .at
   built-term (wrapped w k m) b = (b .0, built-term m (b .1))
 
   shared : {s t : Term Variable} → Proper s → Proper t → Share (c .atoms) s t → ProperShare c s t
-  shared = built-share atom? (isKey? (c .atoms)) 1000 (inr (omega arith)) (c .atoms) nonce-atom
+  shared = built-share atom? (numberRight? (c .atoms)) 1000 (inr (omega arith)) (c .atoms) nonce-atom
 
   matched : {p t : Term Variable} → Proper p → Proper t → Matches (c .atoms) p t → ProperMatch c p t
-  matched = built-match atom? (isKey? (c .atoms)) 1000 (inr (omega arith)) (c .atoms) nonce-atom
+  matched = built-match atom? (numberRight? (c .atoms)) 1000 (inr (omega arith)) (c .atoms) nonce-atom
 
   risky-same : {t : Term Variable} → Proper t → Risky c t ↔ ProperRisky c t
   risky-same {t} b = (to, back)
@@ -187,7 +194,7 @@ module _ (c : Certificate) (all : Holding (MessageAtom (c .atoms)) (IsKey (c .at
 pub same-cover : (file : List ℕ) → Formed file → (rule : Rule) → Listed (certificateOf file) rule → SameCover (certificateOf file) rule
 unfolding certificateOf fileAtoms
 same-cover file w rule l =
-    let all = holding-more (λ a h. inl h) (λ k i. i) (holding file w) in
+    let all = holding-more (λ a h. inl h) (λ w k i. i) (holding file w) in
     record {
       risky = λ p t e. risky-same (certificateOf file) all (subterm (certificateOf file) all p (rule .conclusion) e (all .conclusions rule l));
       sureHats = λ p. hat-same (certificateOf file) all (all .conclusions rule l) p;

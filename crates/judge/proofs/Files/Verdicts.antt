@@ -14,6 +14,7 @@ use Rattle.terms.specs.declared.valid.Found.{Found}
 use Rattle.terms.specs.declared.valid.Found.the-variants.{At, Nothing}
 use Rattle.terms.specs.Term.{Term, Message, Variable}
 use Rattle.terms.specs.Place.{Place}
+use Rattle.terms.specs.Search.{is-place?}
 use Rattle.terms.specs.Entry.{size, entryAt}
 use Rattle.terms.proofs.PlacedLaws.{placed, placed-within, one-place}
 use Rattle.terms.specs.First.{firstNot}
@@ -177,8 +178,9 @@ module _ (certificate : Certificate) (rule : Rule) where
           place = spotAt (rule .conclusion) n .0;
           subterm = spotAt (rule .conclusion) n .1;
           stands = spot-stands (rule .conclusion) n l;
-          risky = elim (risky? certificate (spotAt (rule .conclusion) n .1)) [ yes r ↦ r | no m ↦ absurd (off (λ r. absurd (m r))) ];
-          bare = λ c. off (λ r. c);
+          isPlace = elim (is-place? (rule .conclusion) (spotAt (rule .conclusion) n .0)) [ yes p ↦ p | no m ↦ absurd (off (λ p. absurd (m p))) ];
+          risky = elim (risky? certificate (spotAt (rule .conclusion) n .1)) [ yes r ↦ r | no m ↦ absurd (off (λ p r. absurd (m r))) ];
+          bare = λ c. off (λ p r. c);
           before = λ m h. fine-spot certificate rule m (omega arith) .0 (all m h);
         },
       )
@@ -186,7 +188,7 @@ module _ (certificate : Certificate) (rule : Rule) where
       wrong-back : (g : Fault) → RuleOpen F g → FirstPlace (FineSpot certificate rule) (size (rule .conclusion)) F g
       wrong-back g (k, e, u) =
           let inside = placed-within (u .stands) in
-          at e inside (λ fine. u .bare (fine-spot certificate rule k inside .0 fine _ _ (u .stands) (u .risky)))
+          at e inside (λ fine. u .bare (fine-spot certificate rule k inside .0 fine _ _ (u .stands) (u .isPlace) (u .risky)))
           (λ m h. fine-spot certificate rule m (omega arith) .1 (u .before m h))
 
 -- ---- numbers 9 to 12, and 15

@@ -1,17 +1,18 @@
--- Safe messages: every secret in them is protected.
+-- Safe messages: every secret at a place of them is protected.
 use mathlib.Core.Path.{_≡_, refl, sym, _∙_}
 use mathlib.Core.Logic.{_⊎_, inl, inr}
 use mathlib.Core.List.{[], _∷_, _++_, append-assoc}
 use mathlib.Core.Option.{some}
 use Rattle.terms.specs.Term.{Term, Message, Variable}
-use Rattle.terms.specs.Place.{Place, subtermAt, StrictlyAbove, AtOrAbove}
+use Rattle.terms.specs.Place.{Place, subtermAt, StrictlyAbove, AtOrAbove, IsPlace}
 use Rattle.terms.specs.Turns.{nothing-above-root}
 use Rattle.terms.proofs.PlaceLaws.{subtermAt-append, beginnings, strictly-above-under, at-or-above-under, strictly-above-from, at-or-above-from}
+use Rattle.terms.proofs.PlaceEntryLaws.{place-root, place-append}
 use Rattle.judge.specs.Certificate.{Certificate, Secret}
 use Rattle.judge.specs.Hat.{Mark, Cancels, everywhere, atMark, Hat, Protected}
 
 pub record Safe (certificate : Certificate) (m : Message) : Type 0 where
-  pub safe : (p : Place) (s : Message) → Secret certificate s → subtermAt p m ≡ some s → Protected certificate m p
+  pub safe : (p : Place) (s : Message) → Secret certificate s → subtermAt p m ≡ some s → IsPlace m p → Protected certificate m p
 
 -- A hat for some place at or below p stands strictly above p.
 pub record HatAbove (certificate : Certificate) (m : Message) (p : Place) : Type 0 where
@@ -52,7 +53,7 @@ module _ {certificate : Certificate} where
   -- A safe message is no secret itself: nothing stands above its root.
   pub safe-no-secret : {m : Message} → Safe certificate m → Secret certificate m → ⊥
   unfolding subtermAt
-  safe-no-secret {m} x secret = nothing-above-root (x .safe [] m secret refl .above)
+  safe-no-secret {m} x secret = nothing-above-root (x .safe [] m secret refl place-root .above)
 
   -- What is protected in a part is protected in the whole.
   pub protected-under : {m n : Message} (q : Place) {p : Place} → subtermAt q n ≡ some m →
@@ -94,9 +95,9 @@ module _ {certificate : Certificate} where
       }
 
   -- So a part of a safe message is safe, if no hat stands above it.
-  pub safe-part : {m n : Message} (q : Place) → subtermAt q n ≡ some m → (HatAbove certificate n q → ⊥) →
+  pub safe-part : {m n : Message} (q : Place) → subtermAt q n ≡ some m → IsPlace n q → (HatAbove certificate n q → ⊥) →
       Safe certificate n → Safe certificate m
-  safe-part {m} {n} q stands noHat x = record {
-    safe = λ p s secret e.
-        protected-from q p stands noHat (x .safe (q ++ p) s secret (subtermAt-append q p n stands ∙ e));
+  safe-part {m} {n} q stands place noHat x = record {
+    safe = λ p s secret e is.
+        protected-from q p stands noHat (x .safe (q ++ p) s secret (subtermAt-append q p n stands ∙ e) (place-append q stands place is));
   }

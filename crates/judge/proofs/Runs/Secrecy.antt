@@ -4,7 +4,7 @@ use mathlib.Core.List.{List, [], _∷_}
 use mathlib.Core.Option.{some, Option·none-ne-some}
 use Prim.Native.Nat.{ℕ}
 use Rattle.terms.specs.Term.{Term, atom, Message, Variable, noVariable, instance}
-use Rattle.terms.specs.Place.{left, right, inside, Place, subtermAt}
+use Rattle.terms.specs.Place.{left, right, inside, Place, subtermAt, IsPlace}
 use Rattle.terms.specs.Instance.{PutsNonces}
 use Rattle.judge.specs.Certificate.{Rule, Certificate, Secret}
 use Rattle.judge.specs.Run.{Derives, Start, known, foreign, Step, Enabled, noPremise, derivable, AfterStep, kept, added, afterFrom, after}
@@ -20,12 +20,12 @@ safe-atom : {certificate : Certificate} (a : ℕ) → (Secret certificate (atom 
 unfolding subtermAt
 safe-atom {certificate} a noSecret = record { safe = go }
   where
-    go : (p : Place) (s : Message) → Secret certificate s → subtermAt p (atom a) ≡ some s →
+    go : (p : Place) (s : Message) → Secret certificate s → subtermAt p (atom a) ≡ some s → IsPlace {X = ⊥} (atom a) p →
         Protected certificate (atom a) p
-    go [] s secret e = let same : s ≡ atom a = cc in absurd (noSecret (rw same at secret))
-    go (left ∷ p) s secret e = absurd (Option·none-ne-some s e)
-    go (right ∷ p) s secret e = absurd (Option·none-ne-some s e)
-    go (inside ∷ p) s secret e = absurd (Option·none-ne-some s e)
+    go [] s secret e is = let same : s ≡ atom a = cc in absurd (noSecret (rw same at secret))
+    go (left ∷ p) s secret e is = absurd (Option·none-ne-some s e)
+    go (right ∷ p) s secret e is = absurd (Option·none-ne-some s e)
+    go (inside ∷ p) s secret e is = absurd (Option·none-ne-some s e)
 
 module _ {certificate : Certificate} (meets : MeetsAll certificate) where
   safe-start : (m : Message) → Start certificate m → Safe certificate m
@@ -52,11 +52,11 @@ module _ {certificate : Certificate} (meets : MeetsAll certificate) where
   safe-after [] base = base
   safe-after (step ∷ steps) base = safe-after steps (safe-step step base)
 
--- For every certificate that meets the conditions and every list of steps, every listed secret in what the intruder derives
--- is protected.
+-- For every certificate that meets the conditions and every list of steps, every listed secret at a place of what the intruder
+-- derives is protected.
 pub protection : (certificate : Certificate) → MeetsAll certificate → (steps : List (Step certificate)) (m : Message) →
     Derives certificate (after certificate steps) m → (p : Place) (s : Message) → Secret certificate s →
-    subtermAt p m ≡ some s → Protected certificate m p
+    subtermAt p m ≡ some s → IsPlace m p → Protected certificate m p
 protection certificate meets steps m derived = safe-derived meets (safe-after meets steps (safe-start meets)) derived .safe
 
 -- And the intruder derives none.

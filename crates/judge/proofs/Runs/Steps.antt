@@ -1,16 +1,17 @@
 -- A step whose premise is safe adds a safe message.
-use mathlib.Core.Path.{_≡_, refl, ap, _∙_}
+use mathlib.Core.Path.{_≡_, refl, sym, ap, _∙_}
 use mathlib.Core.List.{[], _∷_, _++_}
 use mathlib.Core.Logic.{_⊎_, inl, inr}
 use mathlib.Core.Option.{some}
 use Prim.Native.Nat.{ℕ}
 use native.Mathlib.Omega.{arith}
-use Rattle.terms.specs.Term.{Term, Message, Variable, noVariable, replace, instance, encryption}
-use Rattle.terms.specs.Place.{Place, subtermAt, StrictlyAbove, AtOrAbove}
+use Rattle.terms.specs.Term.{Term, encrypted, Message, Variable, noVariable, replace, instance, encryption, hash, signature}
+use Rattle.terms.specs.Place.{Place, subtermAt, StrictlyAbove, AtOrAbove, IsPlace}
 use Rattle.terms.specs.Instance.{PutsNonces, Instance, Share}
 use Rattle.terms.proofs.InstanceLaws.{replace-asTerm, matches-replace, ground, ground-nonces}
 use Rattle.terms.proofs.PlaceLaws.{subtermAt-replace, beginnings, strictly-above-below, at-or-above-below, OnTheWay, on-the-way, Composite, composite, isPair, isWrapped}
 use Rattle.terms.proofs.PlaceLaws.{Edge, exact, below, Origin, origin}
+use Rattle.terms.proofs.PlaceEntryLaws.{place-below, place-replace, place-instance}
 use Rattle.judge.specs.Certificate.{Rule, Certificate, Secret}
 use Rattle.judge.specs.Hat.{Cancels, everywhere, atMark, Hat, Protected}
 use Rattle.judge.specs.Cover.{MayCancel, cancels, belowPlace, SureHat, NoHat, sharesNoGood, isBad, Open, Risky, isVariable}
@@ -64,22 +65,27 @@ module _ {certificate : Certificate} (meets : MeetsAll certificate) (by : Variab
       root : HatRoot certificate (x .message)
       root = hat-root meets (x .hat)
 
+      -- What is no encryption becomes none, and a hat is one.
+      no-root : {u : Term Variable} → way .subterm ≡ u → (instance by u ≡ encrypted (root .key) (root .inner) → ⊥) → ⊥
+      no-root e off = off (sym (ap (instance by) e) ∙ sym same ∙ root .same)
+
       go : Composite (way .subterm) → ⊥
-      go (isPair e) =
-          let f = root .same in let g = same in let h = ap (instance by) e in
-          let z : _≡_ {A = ℕ} 0 1 = cc in omega arith
+      go (isPair e) = no-root e (λ f. let z : _≡_ {A = ℕ} 0 1 = cc in omega arith)
       go (isWrapped {w = encryption} {k = k} {u = u} e) =
           no-hat (x .rest) (isOpen .every (x .place) (x .above) k u (way .stands ∙ ap some e)) (rw (same, e) at (x .hat))
+      go (isWrapped {w = hash} e) = no-root e (λ f. let z : _≡_ {A = ℕ} 0 1 = cc in omega arith)
+      go (isWrapped {w = signature} e) = no-root e (λ f. let z : _≡_ {A = ℕ} 0 1 = cc in omega arith)
 
   -- What stands at an open place of a safe premise is safe itself.
-  open-safe : {premise t : Term Variable} {p : Place} → Open certificate premise p → subtermAt p premise ≡ some t →
+  open-safe : {premise t : Term Variable} {p : Place} → Open certificate premise p → IsPlace premise p → subtermAt p premise ≡ some t →
       Safe certificate (instance by premise) → Safe certificate (instance by t)
-  open-safe {premise} {p = p} isOpen stands = safe-part p (subtermAt-replace by p premise stands) (open-no-hat isOpen stands)
+  open-safe {premise} {p = p} isOpen place stands =
+      safe-part p (subtermAt-replace by p premise stands) (place-replace by stands place) (open-no-hat isOpen stands)
 
   -- So a premise with a listed secret at an open place is not safe.
   pub secret-unsafe : {premise : Term Variable} {p : Place} → SecretOpenAt certificate premise p → Safe certificate (instance by premise) → ⊥
   secret-unsafe x safe =
-      safe-no-secret (rw (replace-asTerm by (x .secret)) at (open-safe (x .isOpen) (x .stands) safe)) (x .listed)
+      safe-no-secret (rw (replace-asTerm by (x .secret)) at (open-safe (x .isOpen) (x .isPlace) (x .stands) safe)) (x .listed)
 
   -- The instance of a sure hat is a hat, and protects what lies at or below the place.
   sure-protected : {t : Term Variable} {p : Place} (r : Place) → SureHat certificate t p →
@@ -126,15 +132,23 @@ module _ {certificate : Certificate} (meets : MeetsAll certificate) (by : Variab
   safe-conclusion rule passes safe = record { safe = go }
     where
       go : (p : Place) (s : Message) → Secret certificate s → subtermAt p (instance by (rule .conclusion)) ≡ some s →
-          Protected certificate (instance by (rule .conclusion)) p
-      go p s secret e = rw (o .split) (shelter (passes .covered (o .place) (o .subterm) (o .stands) (origin-risky secret o)))
+          IsPlace (instance by (rule .conclusion)) p → Protected certificate (instance by (rule .conclusion)) p
+      go p s secret e is =
+          rw (o .split) (shelter (passes .covered (o .place) (o .subterm) (o .stands) (place-instance by (o .rest) there) (origin-risky secret o)))
         where
           o : Origin by (rule .conclusion) p s
           o = origin by (rule .conclusion) p e
+
+          there : IsPlace (instance by (rule .conclusion)) (o .place ++ o .rest)
+          there = rw (o .split) at is
+
+          stands : subtermAt (o .place) (instance by (rule .conclusion)) ≡ some (instance by (o .subterm))
+          stands = subtermAt-replace by (o .place) (rule .conclusion) (o .stands)
 
           shelter : Covered certificate rule (o .place) (o .subterm) →
               Protected certificate (instance by (rule .conclusion)) (o .place ++ o .rest)
           shelter (sureHat x) = sure-protected (o .rest) x
           shelter (inPremise x) =
-              protected-under (o .place) (subtermAt-replace by (o .place) (rule .conclusion) (o .stands))
-              (open-safe (x .isOpen) (x .stands) (safe (x .premise) (x .given)) .safe (o .rest) s secret (o .found))
+              protected-under (o .place) stands
+              (open-safe (x .isOpen) (x .isPlace) (x .stands) (safe (x .premise) (x .given)) .safe (o .rest) s secret (o .found)
+              (place-below (o .place) stands there))

@@ -58,11 +58,11 @@ module _ {c d : Certificate} (out : Sublists c d) (back : Sublists d c) where
   stays-open o = record { every = λ q a k t s. no-hat (o .every q a k t s) }
 
   at-open : {rule : Rule} {t : Term Variable} → AtOpenPlace c rule t → AtOpenPlace d rule t
-  at-open o = record { premise = o .premise; given = o .given; place = o .place; stands = o .stands; isOpen = stays-open (o .isOpen) }
+  at-open o = record { premise = o .premise; given = o .given; place = o .place; isPlace = o .isPlace; stands = o .stands; isOpen = stays-open (o .isOpen) }
 
   secret-open : {premise : Term Variable} {p : Place} → SecretOpenAt c premise p → SecretOpenAt d premise p
   secret-open o =
-      record { secret = o .secret; listed = out .secret (o .secret) (o .listed); stands = o .stands; isOpen = stays-open (o .isOpen) }
+      record { secret = o .secret; listed = out .secret (o .secret) (o .listed); isPlace = o .isPlace; stands = o .stands; isOpen = stays-open (o .isOpen) }
 
   risky : {t : Term Variable} → Risky c t → Risky d t
   risky (isVariable e) = isVariable e
@@ -86,7 +86,7 @@ module _ {c d : Certificate} (out : Sublists c d) (back : Sublists d c) where
   covered (inPremise o) = inPremise (at-open o)
 
 fine : {c d : Certificate} → Sublists c d → Sublists d c → (rule : Rule) (k : ℕ) → FineSpot c rule k → FineSpot d rule k
-fine out back rule k f r = covered out back (f (risky back out r))
+fine out back rule k f place r = covered out back (f place (risky back out r))
 
 same-places : {c d : Certificate} → Sublists c d → Sublists d c → (rule : Rule) → uncovered c rule ≡ uncovered d rule
 unfolding uncovered

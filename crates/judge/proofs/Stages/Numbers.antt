@@ -10,11 +10,11 @@ use lib.Dec.{eqb}
 use lib.ListN.{drop}
 use borrow.Author.Tests.{eq-eqb, ne-eqb}
 use Rattle.blocks.specs.Block.{blockAt, kindOf}
-use Rattle.terms.specs.Term.{Term, Message, Variable, variable, atom, pair, encrypted, replace, asTerm, wrapped, encryption}
-use Rattle.terms.specs.Tag.{atomTag, pairTag, encryptionTag}
+use Rattle.terms.specs.Term.{Term, Message, Variable, variable, atom, pair, replace, asTerm, wrapped, Wrapping, encryption, hash, signature}
+use Rattle.terms.specs.Tag.{atomTag, pairTag, hashTag, wrappingTag, WrapperTag}
 use Rattle.terms.specs.Entry.{Begins, Reads, termsOf, termOf, symbolOf, withZero, before, beforeAll, tagAt, valueAt, size, from}
 use Rattle.terms.specs.Reading.{First, first-atom, first-pair, first-wrapped, first-variable, first}
-use Rattle.terms.proofs.EntryLaws.{reads-atom, reads-pair, reads-encrypted, termOf-reads, pair-first, encryption-first, right-begins}
+use Rattle.terms.proofs.EntryLaws.{reads-atom, reads-pair, reads-wrapped, reads-encrypted, termOf-reads, pair-first, wrapped-first, right-begins}
 use Rattle.terms.specs.declared.atom.Atom.{Atom}
 use Rattle.terms.specs.Atom.{atomAt, knownOf}
 use Rattle.terms.proofs.AtomLaws.{known-listed}
@@ -52,13 +52,13 @@ pair-message (atom a) e = let z : _≡_ {A = ℕ} 0 1 = cc in absurd (omega arit
 pair-message (pair l r) e = (l, r, refl, (cc), (cc))
 pair-message (wrapped w k m) e = let z : _≡_ {A = ℕ} 0 1 = cc in absurd (omega arith)
 
-encrypted-message : (m : Message) {k : ℕ} {t : Term Variable} → encrypted k t ≡ asTerm m
-    → (n : Message) × (m ≡ encrypted k n) × (t ≡ asTerm n)
+pub wrapped-message : (m : Message) {w : Wrapping} {k : ℕ} {t : Term Variable} → wrapped w k t ≡ asTerm m
+    → (n : Message) × (m ≡ wrapped w k n) × (t ≡ asTerm n)
 unfolding asTerm replace
-encrypted-message (variable x) e = absurd x
-encrypted-message (atom a) e = let z : _≡_ {A = ℕ} 0 1 = cc in absurd (omega arith)
-encrypted-message (pair l r) e = let z : _≡_ {A = ℕ} 0 1 = cc in absurd (omega arith)
-encrypted-message (wrapped encryption j n) {k} e = let same : k ≡ j = cc in (n, rw same refl, (cc))
+wrapped-message (variable x) e = absurd x
+wrapped-message (atom a) e = let z : _≡_ {A = ℕ} 0 1 = cc in absurd (omega arith)
+wrapped-message (pair l r) e = let z : _≡_ {A = ℕ} 0 1 = cc in absurd (omega arith)
+wrapped-message (wrapped v j n) {w} {k} e = let same : k ≡ j = cc in let around : w ≡ v = cc in (n, rw (same, around) refl, (cc))
 
 -- A term of a known form stands first.
 read : {e : List ℕ} (b : Begins e) {t : Term Variable} → termOf e ≡ t → Reads e (t ∷ b .others)
@@ -95,13 +95,40 @@ module _ (c : Certificate) where
   closed-pair {m} {l} {r} is s = record {
     ofPair = λ l′ r′ e. let a : l ≡ l′ = cc in let b : r ≡ r′ = cc in rw (a, b) at s;
     ofEncrypted = λ n k e. let z : _≡_ {A = ℕ} 0 1 = cc in absurd (omega arith);
+    ofHashed = λ n k e. let z : _≡_ {A = ℕ} 0 1 = cc in absurd (omega arith);
+    ofSigned = λ n k e. let z : _≡_ {A = ℕ} 0 1 = cc in absurd (omega arith);
   }
 
-  closed-encrypted : {m n : Message} {k : ℕ} → m ≡ encrypted k n → Secret c n ⊎ Secret c (atom k) → WeaklyClosed c m
-  closed-encrypted {m} {n} {k} is s = record {
+  -- What closes a message with something around it: what it holds, or the key; with a hash only the first.
+  abbrev Closes : Wrapping → Message → ℕ → Type 0
+  Closes encryption n k = Secret c n ⊎ Secret c (atom k)
+  Closes hash n k = Secret c n
+  Closes signature n k = Secret c n ⊎ Secret c (atom k)
+
+  closed-wrapped : (w : Wrapping) {m n : Message} {k : ℕ} → m ≡ wrapped w k n → Closes w n k → WeaklyClosed c m
+  closed-wrapped encryption {m} {n} {k} is s = record {
     ofPair = λ l r e. let z : _≡_ {A = ℕ} 0 1 = cc in absurd (omega arith);
     ofEncrypted = λ n′ k′ e. let a : n ≡ n′ = cc in let b : k ≡ k′ = cc in rw (a, b) at s;
+    ofHashed = λ n′ k′ e. let z : _≡_ {A = ℕ} 0 1 = cc in absurd (omega arith);
+    ofSigned = λ n′ k′ e. let z : _≡_ {A = ℕ} 0 1 = cc in absurd (omega arith);
   }
+  closed-wrapped hash {m} {n} {k} is s = record {
+    ofPair = λ l r e. let z : _≡_ {A = ℕ} 0 1 = cc in absurd (omega arith);
+    ofEncrypted = λ n′ k′ e. let z : _≡_ {A = ℕ} 0 1 = cc in absurd (omega arith);
+    ofHashed = λ n′ k′ e. let a : n ≡ n′ = cc in rw a at s;
+    ofSigned = λ n′ k′ e. let z : _≡_ {A = ℕ} 0 1 = cc in absurd (omega arith);
+  }
+  closed-wrapped signature {m} {n} {k} is s = record {
+    ofPair = λ l r e. let z : _≡_ {A = ℕ} 0 1 = cc in absurd (omega arith);
+    ofEncrypted = λ n′ k′ e. let z : _≡_ {A = ℕ} 0 1 = cc in absurd (omega arith);
+    ofHashed = λ n′ k′ e. let z : _≡_ {A = ℕ} 0 1 = cc in absurd (omega arith);
+    ofSigned = λ n′ k′ e. let a : n ≡ n′ = cc in let b : k ≡ k′ = cc in rw (a, b) at s;
+  }
+
+  closes-content : (w : Wrapping) (n : Message) (k : ℕ) → Secret c n → Closes w n k
+  closes-content encryption n k s = inl s
+  closes-content hash n k s = s
+  closes-content signature n k s = inl s
 
   module _ {e : List ℕ} (b : Begins e) (m : Message) (message : termOf e ≡ asTerm m) where
     -- With a pair: the left half, and then the right one.
@@ -122,21 +149,36 @@ module _ (c : Certificate) where
           second u (λ w. w .ofPair (halves .0) (halves .1) (halves .2)) (closed-pair (halves .2))
           (says-no t left-says h) (secret-says (from (4 * (1 + r)) e) (halves .1) (there ∙ halves .4) u right)
 
-    -- With {m}k: the content, and then the key.
-    module _ (tag : tagAt e ≡ encryptionTag) {t : Bool} (content : t ≡ answer (is-secret? c (termOf (from 4 e)))) where
-      abbrev inner : (n : Message) × (m ≡ encrypted (valueAt e) n) × (encryption-first b tag .content ≡ asTerm n)
-      inner = encrypted-message m (sym (termOf-reads (encryption-first b tag .whole)) ∙ message)
+    -- With something around a message: that, and then the key, if there is one.
+    module _ (one : WrapperTag (tagAt e)) {t : Bool} (content : t ≡ answer (is-secret? c (termOf (from 4 e)))) where
+      abbrev inner : (n : Message) × (m ≡ wrapped (one .wrapping) (valueAt e) n) × (wrapped-first b (one .wrapping) (one .is) .content ≡ asTerm n)
+      inner = wrapped-message m (sym (termOf-reads (wrapped-first b (one .wrapping) (one .is) .whole)) ∙ message)
 
       content-says : Says t (Secret c (inner .0))
-      content-says = secret-says (from 4 e) (inner .0) (termOf-reads (encryption-first b tag .below) ∙ inner .2) t content
+      content-says = secret-says (from 4 e) (inner .0) (termOf-reads (wrapped-first b (one .wrapping) (one .is) .below) ∙ inner .2) t content
 
       pub closed-content : t ≡ true → WeaklyClosed c m
-      closed-content h = closed-encrypted (inner .1) (inl (says-yes t content-says h))
+      closed-content h = closed-wrapped (one .wrapping) (inner .1) (closes-content (one .wrapping) (inner .0) (valueAt e) (says-yes t content-says h))
 
-      pub closed-key : t ≡ false → {k : ℕ} → k ≡ valueAt e → (u : Bool) → Says u (Secret c (atom k)) → Says u (WeaklyClosed c m)
-      closed-key h {k} value u key =
-          let is : m ≡ encrypted k (inner .0) = rw value (inner .1) in
-          second u (λ w. w .ofEncrypted (inner .0) k is) (closed-encrypted is) (says-no t content-says h) key
+      pub closed-hash : t ≡ false → tagAt e ≡ hashTag → ¬ WeaklyClosed c m
+      unfolding wrappingTag
+      closed-hash h eight w = go (one .wrapping) (one .is) (inner .1)
+        where
+          go : (v : Wrapping) → tagAt e ≡ wrappingTag v → m ≡ wrapped v (valueAt e) (inner .0) → ⊥
+          go encryption is same = omega arith
+          go hash is same = says-no t content-says h (w .ofHashed (inner .0) (valueAt e) same)
+          go signature is same = omega arith
+
+      pub closed-key : t ≡ false → ¬ (tagAt e ≡ hashTag) → {k : ℕ} → k ≡ valueAt e → (u : Bool) → Says u (Secret c (atom k)) → Says u (WeaklyClosed c m)
+      unfolding wrappingTag
+      closed-key h off {k} value u key = go (one .wrapping) (one .is) (rw value (inner .1))
+        where
+          go : (v : Wrapping) → tagAt e ≡ wrappingTag v → m ≡ wrapped v k (inner .0) → Says u (WeaklyClosed c m)
+          go encryption tag is =
+              second u (λ w. w .ofEncrypted (inner .0) k is) (closed-wrapped encryption is) (says-no t content-says h) key
+          go hash tag is = absurd (off tag)
+          go signature tag is =
+              second u (λ w. w .ofSigned (inner .0) k is) (closed-wrapped signature is) (says-no t content-says h) key
 
     -- 9: no other tag is an atom's.
     pub known-other : ¬ (tagAt e ≡ atomTag) → ¬ KnownAtom c m
@@ -144,11 +186,13 @@ module _ (c : Certificate) where
     known-other off w = off (reads-atom (read b (message ∙ ap asTerm (w .same))) .0)
 
     -- 10: with an atom there is nothing to ask.
-    pub closed-atom : ¬ (tagAt e ≡ pairTag) → ¬ (tagAt e ≡ encryptionTag) → WeaklyClosed c m
+    pub closed-atom : ¬ (tagAt e ≡ pairTag) → ¬ WrapperTag (tagAt e) → WeaklyClosed c m
     unfolding asTerm replace
     closed-atom off off′ = record {
       ofPair = λ l r is. absurd (off (reads-pair (read b (message ∙ ap asTerm is)) .0));
-      ofEncrypted = λ n k is. absurd (off′ (reads-encrypted (read b (message ∙ ap asTerm is)) .0));
+      ofEncrypted = λ n k is. absurd (off′ (record { wrapping = encryption; is = reads-wrapped (read b (message ∙ ap asTerm is)) .0 }));
+      ofHashed = λ n k is. absurd (off′ (record { wrapping = hash; is = reads-wrapped (read b (message ∙ ap asTerm is)) .0 }));
+      ofSigned = λ n k is. absurd (off′ (record { wrapping = signature; is = reads-wrapped (read b (message ∙ ap asTerm is)) .0 }));
     }
 
 -- The atom of a number.

@@ -15,7 +15,7 @@ use Rattle.blocks.specs.Kinds.{secretKind}
 use Rattle.blocks.specs.Block.{blockAt, kindOf, firstEntries}
 use Rattle.blocks.proofs.KindLaws.{secret-lists}
 use Rattle.terms.specs.Term.{rangeOf, noVariable, Term, Message, Variable, variable, atom, pair, Sort, named, replace, asTerm, wrapped, Wrapping}
-use Rattle.terms.specs.Tag.{atomTag, pairTag, encryptionTag, sortTag, VariableTag, SymbolTag, sort-tag, sort-tagged, wrappingTag, wrapping-tag, wrapping-tagged}
+use Rattle.terms.specs.Tag.{atomTag, pairTag, signatureTag, sortTag, VariableTag, SymbolTag, sort-tag, sort-tagged, wrappingTag, wrapping-symbol, wrapping-tagged}
 use Rattle.terms.specs.Tag.{Tagged, anAtom, aPair, aWrapping, aVariable, noTag, tagged}
 use Rattle.terms.specs.Slot.{slotCount}
 use Rattle.terms.specs.declared.atom.Atom.{Atom}
@@ -26,7 +26,7 @@ use Rattle.terms.proofs.InstanceLaws.{replace-asTerm, nonce-replaced, matches-r
 use Rattle.terms.specs.Occurs.{replace-twice}
 use Rattle.terms.specs.Entry.{Begins, termOf, tagAt, valueAt, from}
 use Rattle.terms.specs.Reading.{First, first, first-atom, first-pair, first-wrapped, first-variable}
-use Rattle.terms.proofs.EntryLaws.{termOf-reads, begins, pair-first, from-length}
+use Rattle.terms.proofs.EntryLaws.{begins-tag, termOf-reads, begins, pair-first, from-length}
 use Rattle.terms.proofs.RootLaws.{tags-apart, values-apart}
 use Rattle.judge.specs.File.{blockCount, patternOf, certificateOf}
 use mathlib.Core.Logic.{_⊎_, inl, inr, ⊎-elim, _↔_}
@@ -34,7 +34,7 @@ use Rattle.judge.specs.Laid.{Laid, SecretBlock}
 use Rattle.terms.specs.Decisions.{Says, says-same}
 use Rattle.terms.specs.Decide.{answer}
 use Rattle.terms.proofs.AnswerLaws.{answer-says}
-use Rattle.judge.specs.Listed.{atomsIn, pairRoots, encryptionRoots, variableRoots}
+use Rattle.judge.specs.Listed.{atomsIn, pairRoots, wrapperRoots, variableRoots}
 use Rattle.judge.specs.Listed.{HoldsAt, TermPart, SharesListed, IsSecret, slotFor, slotBy, slotAt, FlaggedAt, FlaggedMore, SecretSlot, RootsOf, NoRoot}
 use Rattle.judge.proofs.Stages.Listing.{none-found}
 use Rattle.judge.proofs.Stages.Numbers.{pair-message}
@@ -51,36 +51,34 @@ slot-leaf tag n l m off = go (tagged tag)
     go (aPair e) = absurd (off e)
     go (aWrapping w e) = refl
     go (aVariable s e) = refl
-    go (noTag (inl low)) = refl
-    go (noTag (inr high)) = refl
+    go (noTag e) = refl
 
--- A root that is neither a pair's nor an encryption's: an atom's, or a variable's.
-slot-low : (tag n l : ℕ) → SymbolTag tag → (tag ≡ pairTag → ⊥) → (tag ≡ encryptionTag → ⊥) → n % pairRoots ≡ slotBy tag n l
+-- A root that is none of a variable's, a pair's or an atom's: that of something around a term.
+slot-low : (tag n l : ℕ) → ¬ VariableTag tag → (tag ≡ pairTag → ⊥) → (tag ≡ atomTag → ⊥) → wrapperRoots + n % pairRoots ≡ slotBy tag n l
 unfolding slotBy
-slot-low tag n l low no-pair no-key = go (tagged tag)
+slot-low tag n l low no-pair no-atom = go (tagged tag)
   where
-    go : (w : Tagged tag) → n % pairRoots ≡ slotFor w n l
-    go (anAtom e) = refl
+    go : (w : Tagged tag) → wrapperRoots + n % pairRoots ≡ slotFor w n l
+    go (anAtom e) = absurd (no-atom e)
     go (aPair e) = absurd (no-pair e)
-    go (aWrapping w e) = absurd (no-key (wrapping-tag w e))
-    go (aVariable s e) = let high = sort-tag s e in absurd (omega arith)
-    go (noTag (inl none)) = refl
-    go (noTag (inr high)) = absurd (omega arith)
+    go (aWrapping w e) = refl
+    go (aVariable s e) = absurd (low (sort-tag s e))
+    go (noTag e) = refl
 
-slot-high : (tag n l : ℕ) → VariableTag tag → variableRoots + n % slotCount ≡ slotBy tag n l
+slot-high : (tag n l : ℕ) → tag ≤ signatureTag → VariableTag tag → variableRoots + n % slotCount ≡ slotBy tag n l
 unfolding slotBy
-slot-high tag n l high = go (tagged tag)
+slot-high tag n l last high = go (tagged tag)
   where
     go : (w : Tagged tag) → variableRoots + n % slotCount ≡ slotFor w n l
     go (anAtom e) = absurd (omega arith)
     go (aPair e) = absurd (omega arith)
-    go (aWrapping w e) = let low = wrapping-tag w e in absurd (omega arith)
+    go (aWrapping w e) = let low = wrapping-symbol w e in absurd (omega arith)
     go (aVariable s e) = refl
-    go (noTag (inl low)) = absurd (omega arith)
-    go (noTag (inr high)) = refl
+    go (noTag (inl none)) = absurd (omega arith)
+    go (noTag (inr far)) = absurd (omega arith)
 
 -- Something around a term.
-slot-wrapping : (w : Wrapping) (n l : ℕ) → slotBy (wrappingTag w) n l ≡ encryptionRoots + n % pairRoots
+slot-wrapping : (w : Wrapping) (n l : ℕ) → slotBy (wrappingTag w) n l ≡ wrapperRoots + n % pairRoots
 unfolding slotBy
 slot-wrapping w n l = rw (wrapping-tagged w) refl
 
@@ -97,16 +95,17 @@ module _ (e : List ℕ) {n : ℕ} where
       let left : n ≡ valueAt (drop 4 e) = is ∙ ap valueAt (part-to-end e 4) in
       ap (λ (m : ℕ). pairRoots + m % pairRoots) left ∙ ap (λ (tag : ℕ). slotBy tag (valueAt e) (valueAt (drop 4 e))) (sym two)
 
-  pub slot-encryption : tagAt e ≡ encryptionTag → n ≡ valueAt e → encryptionRoots + n % pairRoots ≡ slotAt e
+  pub slot-atom : tagAt e ≡ atomTag → n ≡ valueAt e → n % pairRoots ≡ slotAt e
   unfolding slotBy
-  slot-encryption three is =
-      ap (λ (m : ℕ). encryptionRoots + m % pairRoots) is ∙ ap (λ (tag : ℕ). slotBy tag (valueAt e) (valueAt (drop 4 e))) (sym three)
+  slot-atom one is = ap (λ (m : ℕ). m % pairRoots) is ∙ ap (λ (tag : ℕ). slotBy tag (valueAt e) (valueAt (drop 4 e))) (sym one)
 
-  pub slot-atom : SymbolTag (tagAt e) → (tagAt e ≡ pairTag → ⊥) → (tagAt e ≡ encryptionTag → ⊥) → n ≡ valueAt e → n % pairRoots ≡ slotAt e
-  slot-atom low no-pair no-key is = ap (λ (m : ℕ). m % pairRoots) is ∙ slot-low (tagAt e) (valueAt e) (valueAt (drop 4 e)) low no-pair no-key
+  pub slot-wrapper : ¬ VariableTag (tagAt e) → (tagAt e ≡ pairTag → ⊥) → (tagAt e ≡ atomTag → ⊥) → n ≡ valueAt e → wrapperRoots + n % pairRoots ≡ slotAt e
+  slot-wrapper low no-pair no-atom is =
+      ap (λ (m : ℕ). wrapperRoots + m % pairRoots) is ∙ slot-low (tagAt e) (valueAt e) (valueAt (drop 4 e)) low no-pair no-atom
 
-  pub slot-variable : VariableTag (tagAt e) → n ≡ valueAt e → variableRoots + n % slotCount ≡ slotAt e
-  slot-variable high is = ap (λ (m : ℕ). variableRoots + m % slotCount) is ∙ slot-high (tagAt e) (valueAt e) (valueAt (drop 4 e)) high
+  pub slot-variable : Begins e → VariableTag (tagAt e) → n ≡ valueAt e → variableRoots + n % slotCount ≡ slotAt e
+  slot-variable b high is =
+      ap (λ (m : ℕ). variableRoots + m % slotCount) is ∙ slot-high (tagAt e) (valueAt e) (valueAt (drop 4 e)) (begins-tag b) high
 
 -- The value of a term's root, and its slot by the term alone: the same terms have the same slot.
 rootValue : Term Variable → ℕ
@@ -119,7 +118,7 @@ termSlot : Term Variable → ℕ
 termSlot (variable (named s x)) = variableRoots + x % slotCount
 termSlot (atom a) = a % pairRoots
 termSlot (pair t u) = pairRoots + rootValue t % pairRoots
-termSlot (wrapped w k t) = encryptionRoots + k % pairRoots
+termSlot (wrapped w k t) = wrapperRoots + k % pairRoots
 
 value-term : {e : List ℕ} → Begins e → valueAt e ≡ rootValue (termOf e)
 unfolding rootValue
@@ -217,7 +216,7 @@ message-symbol {e} b m same = go (first (b .reads)) (termOf-reads (b .reads))
     go : {tag n : ℕ} {rest : List ℕ} → First tag n rest (b .term ∷ b .others) → termOf e ≡ b .term → SymbolTag tag
     go (first-atom g q k) is = omega arith
     go (first-pair g n q k) is = omega arith
-    go (first-wrapped i g q k) is = omega arith
+    go (first-wrapped {w = w} i g q k) is = wrapping-symbol w i
     go {n = n} (first-variable {s = s} g v l q k) is =
         let t : b .term ≡ variable (named s n) = cc in absurd (no-variable (named s n) m (sym t ∙ sym is ∙ same))
 

@@ -5,7 +5,8 @@ use generate::certificate::{replace, replace_at, variables_of};
 use generate::random::Random;
 use generate::sketch::Sketch;
 use literal::numbers::{MOST_BLOCKS, MOST_ENTRIES};
-use literal::term::places;
+use literal::read::Atom;
+use literal::term::subterms;
 use literal::Term;
 
 /// One to three changes. The layout stays right; what is refused for another
@@ -73,12 +74,13 @@ fn fitting(list: List, term: Term) -> Option<Term> {
 }
 
 fn subterm(term: &Term, entry: usize) -> Term {
-    places(term)[entry].subterm.clone()
+    subterms(term)[entry].subterm.clone()
 }
 
 /// What a file has to put in.
 struct Palette {
     keys: Vec<u16>,
+    signers: Vec<u16>,
     atoms: usize,
     /// Any term of the file.
     donor: Term,
@@ -91,20 +93,27 @@ impl Palette {
             [] => sketch.secrets[0].clone(),
             some => (**random.pick(some)).clone(),
         };
-        let keys = (0..sketch.atoms.len()).filter(|i| sketch.atoms[*i].is_key());
+        let those = |wanted: fn(&Atom) -> bool| {
+            let all = (0..).zip(&sketch.atoms);
+            all.filter(|(_, atom)| wanted(atom))
+                .map(|(i, _)| i)
+                .collect()
+        };
         Palette {
-            keys: keys.map(|key| key as u16).collect(),
+            keys: those(Atom::is_key),
+            signers: those(Atom::is_private_key),
             atoms: sketch.atoms.len(),
             donor,
         }
     }
 
-    /// The first keys and the first atoms come often.
-    fn key(&self, random: &mut Random) -> Option<u16> {
-        let low = random.below(self.keys.len().max(1));
-        self.keys.get(random.below(low + 1)).copied()
+    /// One of these, if there are any; the first ones come often.
+    fn key(random: &mut Random, keys: &[u16]) -> Option<u16> {
+        let low = random.below(keys.len().max(1));
+        keys.get(random.below(low + 1)).copied()
     }
 
+    /// The first atoms come often too.
     fn atom(&self, random: &mut Random) -> Term {
         let low = random.below(self.atoms);
         Term::Atom(random.below(low + 1) as u16)
@@ -114,12 +123,17 @@ impl Palette {
 /// A term to put in: a leaf, something of the file, or what stands there with
 /// something around it.
 fn other(random: &mut Random, here: &Term, palette: &Palette) -> Term {
-    let Palette { donor, .. } = palette;
-    match random.below(10) {
+    let Palette {
+        donor,
+        keys,
+        signers,
+        ..
+    } = palette;
+    match random.below(12) {
         0 => plain(random.below(PLAIN)),
         1 => either(random.below(EITHER)),
         2 | 3 => palette.atom(random),
-        4 => match palette.key(random) {
+        4 => match Palette::key(random, keys) {
             Some(key) => under(key, here.clone()),
             None => Term::pair(here.clone(), here.clone()),
         },
@@ -128,8 +142,15 @@ fn other(random: &mut Random, here: &Term, palette: &Palette) -> Term {
         7 => either_nonce(random.below(EITHER)),
         8 => match here {
             Term::Pair(left, right) => Term::pair((**right).clone(), (**left).clone()),
-            Term::Encryption(message, _) => (**message).clone(),
-            _ => Term::pair(here.clone(), here.clone()),
+            _ => match here.parts().next() {
+                Some(message) => message.clone(),
+                None => Term::pair(here.clone(), here.clone()),
+            },
+        },
+        9 => Term::hash(here.clone()),
+        10 => match Palette::key(random, signers) {
+            Some(key) => Term::signature(here.clone(), key),
+            None => Term::hash(here.clone()),
         },
         _ => subterm(donor, random.below(donor.size())),
     }
@@ -245,7 +266,6 @@ fn change_order(random: &mut Random, sketch: &mut Sketch) {
 fn exchanged(term: &Term) -> Term {
     match term {
         Term::Pair(left, right) => Term::pair(exchanged(right), exchanged(left)),
-        Term::Encryption(message, key) => under(*key, exchanged(message)),
-        _ => term.clone(),
+        _ => term.with_parts(exchanged),
     }
 }

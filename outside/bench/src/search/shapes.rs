@@ -18,6 +18,9 @@ pub const KNOWN_KEY: u16 = 5;
 const NONCE: u16 = 6;
 const FIRST_KNOWN: u16 = 7;
 const KNOWN: u16 = 60;
+/// Private keys to sign with, where a family has them: neither is a secret.
+pub const SIGNER: u16 = FIRST_KNOWN + KNOWN;
+pub const OTHER_SIGNER: u16 = SIGNER + 2;
 
 pub fn atom(kind: u8, known: u8, partner: u16) -> Atom {
     Atom {
@@ -43,6 +46,17 @@ pub fn base() -> Sketch {
         secrets: vec![Term::Atom(KEY), nonce()],
         ..Sketch::default()
     }
+}
+
+/// The same with keys to sign with, each with its public key behind it.
+pub fn with_signers(mut sketch: Sketch) -> Sketch {
+    for signer in [SIGNER, OTHER_SIGNER] {
+        sketch.atoms.extend([
+            atom(atom_kind::PRIVATE, 0, signer + 1),
+            atom(atom_kind::PUBLIC, 1, signer),
+        ]);
+    }
+    sketch
 }
 
 pub fn nonce() -> Term {
@@ -88,9 +102,7 @@ pub fn moved(term: &Term, by: usize) -> Term {
         Term::Marked(number) => Term::Marked(on(number)),
         Term::PlainNonce(number) => Term::PlainNonce(on(number)),
         Term::MarkedNonce(number) => Term::MarkedNonce(on(number)),
-        Term::Pair(left, right) => Term::pair(moved(left, by), moved(right, by)),
-        Term::Encryption(message, key) => under(*key, moved(message, by)),
-        Term::Atom(_) => term.clone(),
+        _ => term.with_parts(|part| moved(part, by)),
     }
 }
 
@@ -101,6 +113,16 @@ pub fn under(key: u16, term: Term) -> Term {
 /// So many encryptions around the term.
 pub fn chain(length: usize, key: u16, inside: Term) -> Term {
     (0..length).fold(inside, |term, _| under(key, term))
+}
+
+/// So many hashes around the term.
+pub fn hashes(length: usize, inside: Term) -> Term {
+    (0..length).fold(inside, |term, _| Term::hash(term))
+}
+
+/// So many signatures around the term.
+pub fn signatures(length: usize, signer: u16, inside: Term) -> Term {
+    (0..length).fold(inside, |term, _| Term::signature(term, signer))
 }
 
 /// (i0, (i1, (.. , last))).

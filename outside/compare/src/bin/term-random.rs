@@ -38,9 +38,7 @@ fn with_marks(term: &Term) -> Term {
     match term {
         Term::Plain(number) if number % 2 == 1 => Term::Marked(*number),
         Term::PlainNonce(number) if number % 2 == 1 => Term::MarkedNonce(*number),
-        Term::Pair(left, right) => Term::pair(with_marks(left), with_marks(right)),
-        Term::Encryption(message, key) => Term::encryption(with_marks(message), *key),
-        _ => term.clone(),
+        _ => term.with_parts(with_marks),
     }
 }
 
@@ -68,7 +66,7 @@ fn damaged(bytes: &[u8], seed: u64) -> Vec<u8> {
     match random.below(8) {
         0 => bytes.truncate(at),
         1 => bytes[at] = random.byte(),
-        _ => bytes[at] = random.below(9) as u8,
+        _ => bytes[at] = random.below(11) as u8,
     }
     bytes
 }

@@ -2,7 +2,7 @@
 
 use super::{replace, replace_at, variables_of, Maker};
 use literal::numbers::MOST_ENTRIES;
-use literal::term::places;
+use literal::term::subterms;
 use literal::{matches, Term};
 
 type Rule = (Option<Term>, Term);
@@ -15,7 +15,7 @@ pub fn is_marked(pattern: &Term) -> bool {
 }
 
 pub fn subterm(term: &Term, entry: usize) -> Term {
-    places(term)[entry].subterm.clone()
+    subterms(term)[entry].subterm.clone()
 }
 
 impl Maker<'_> {
@@ -56,7 +56,7 @@ impl Maker<'_> {
         if self.random.chance(70) {
             return replace(bad, &[(variable, mark)]);
         }
-        let all = places(bad);
+        let all = subterms(bad);
         let entries: Vec<usize> = (1..all.len())
             .filter(|entry| *all[*entry].subterm == variable)
             .collect();
@@ -106,7 +106,7 @@ impl Maker<'_> {
             return Term::pair(self.plain(), self.mark());
         }
         let secret = self.random.pick(&nested).clone();
-        let all = places(&secret);
+        let all = subterms(&secret);
         let mut entries: Vec<usize> = (1..all.len()).collect();
         let is_secret = |entry: usize| self.sketch.secrets.contains(all[entry].subterm);
         if entries.iter().any(|entry| !is_secret(*entry)) {
@@ -121,7 +121,7 @@ impl Maker<'_> {
         let secrets = self.nested_secrets();
         let atoms = &self.sketch.atoms;
         let mut possible: Vec<(usize, Term)> = Vec::new();
-        for place in places(bad).iter().skip(1) {
+        for place in subterms(bad).iter().skip(1) {
             let part = place.subterm;
             if !part.is_variable() && is_marked(part) {
                 let fitting = secrets.iter().filter(|secret| matches(atoms, part, secret));
@@ -141,7 +141,7 @@ impl Maker<'_> {
                 return found;
             }
         }
-        let all = places(bad);
+        let all = subterms(bad);
         let is_mark = |entry: &usize| all[*entry].subterm.is_mark();
         let marks: Vec<usize> = (1..all.len()).filter(is_mark).collect();
         let entry = match self.random.chance(marks_percent) && !marks.is_empty() {
@@ -171,7 +171,7 @@ impl Maker<'_> {
         };
         let by: Vec<_> = variables_of(bad).into_iter().map(exchanged).collect();
         let other = replace(bad, &by);
-        let all = places(&other);
+        let all = subterms(&other);
         let is_atom = |entry: &usize| matches!(all[*entry].subterm, Term::Atom(_));
         let atoms: Vec<usize> = (1..all.len()).filter(is_atom).collect();
         if atoms.is_empty() || self.random.chance(40) {

@@ -4,7 +4,7 @@
 use super::exceptions::is_marked;
 use super::{replace, replace_at, variables_of, Maker};
 use literal::read::Atom;
-use literal::term::{is_one_nonce, places};
+use literal::term::{is_one_nonce, subterms};
 use literal::Term;
 
 type Rule = (Option<Term>, Term);
@@ -28,8 +28,8 @@ pub fn without_nonces(atoms: &[Atom]) -> Vec<Atom> {
 }
 
 /// A plain variable that stands at two places or more.
-fn repeated_plain(pattern: &Term) -> Option<Term> {
-    let all = places(pattern);
+pub fn repeated_plain(pattern: &Term) -> Option<Term> {
+    let all = subterms(pattern);
     let count = |variable: &Term| all.iter().filter(|p| p.subterm == variable).count();
     let mut variables = variables_of(pattern).into_iter();
     variables.find(|v| matches!(v, Term::Plain(_)) && count(v) > 1)
@@ -75,12 +75,15 @@ impl Maker<'_> {
     /// What may not stand at one.
     fn no_nonce(&mut self) -> Term {
         let inner = self.small(0);
-        match self.random.weighted(&[30, 25, 15, 15, 15]) {
+        let either = self.if_hashes(40);
+        match self.random.weighted(&[30, 25, 15, 15, 15, either, either]) {
             0 => Term::Plain(*self.random.pick(&self.variables)),
             1 => Term::Atom(self.any_key()),
             2 => self.principal(),
             3 => Term::pair(inner, self.harmless_atom()),
-            _ => Term::encryption(inner, self.any_key()),
+            4 => Term::encryption(inner, self.any_key()),
+            5 => Term::hash(inner),
+            _ => self.signed(inner),
         }
     }
 
@@ -213,14 +216,9 @@ impl Maker<'_> {
             part if other.is_some() && !is_marked(part) && self.random.chance(80) => {
                 other.expect("there is one").clone()
             }
-            Term::Pair(left, right) => {
-                let left = self.filled_apart(left, shown, other);
-                Term::pair(left, self.filled_apart(right, shown, other))
+            part if !part.is_variable() => {
+                part.with_parts(|part| self.filled_apart(part, shown, other))
             }
-            Term::Encryption(message, key) => {
-                Term::encryption(self.filled_apart(message, shown, other), *key)
-            }
-            Term::Atom(_) => pattern.clone(),
             mark if mark.is_mark() && self.random.chance(80) => shown.clone(),
             _ => match (other, self.random.chance(50)) {
                 (Some(other), _) => other.clone(),
@@ -249,7 +247,7 @@ impl Maker<'_> {
         self.random.shuffle(&mut tie[1..]);
         self.random.shuffle(&mut tie[..2]);
         // From the last to the first, so that the entries before stay.
-        for place in places(&good).iter().rev() {
+        for place in subterms(&good).iter().rev() {
             let body = match place.subterm {
                 mark if mark.is_mark() => shown.clone(),
                 variable if Some(variable) == repeated.as_ref() && !tie.is_empty() => tie.remove(0),

@@ -3,7 +3,7 @@
 
 use super::exceptions::subterm;
 use super::{replace_at, Maker};
-use literal::term::places;
+use literal::term::subterms;
 use literal::Term;
 
 type Rule = (Option<Term>, Term);
@@ -16,13 +16,7 @@ fn exchanged(term: &Term, from: &Term, to: &Term) -> Term {
     if term == from {
         return to.clone();
     }
-    match term {
-        Term::Pair(left, right) => {
-            Term::pair(exchanged(left, from, to), exchanged(right, from, to))
-        }
-        Term::Encryption(message, key) => Term::encryption(exchanged(message, from, to), *key),
-        _ => term.clone(),
-    }
+    term.with_parts(|part| exchanged(part, from, to))
 }
 
 impl Maker<'_> {
@@ -144,12 +138,12 @@ impl Maker<'_> {
     }
 
     /// In place of one variable of a pattern, marked or not.
-    fn in_a_pattern(&mut self, patterns: &[Term], secret: &Term) -> Term {
+    pub(super) fn in_a_pattern(&mut self, patterns: &[Term], secret: &Term) -> Term {
         if patterns.is_empty() {
             return Term::encryption(self.variable(), self.hat_key());
         }
         let pattern = self.random.pick(patterns).clone();
-        let all = places(&pattern);
+        let all = subterms(&pattern);
         let is_variable = |entry: &usize| all[*entry].subterm.is_variable();
         let variables: Vec<usize> = (1..all.len()).filter(is_variable).collect();
         if variables.is_empty() {
@@ -173,7 +167,7 @@ impl Maker<'_> {
     }
 
     /// What shares an instance with a secret and is none.
-    fn nearly(&mut self, secret: &Term) -> Term {
+    pub(super) fn nearly(&mut self, secret: &Term) -> Term {
         match secret.size() {
             1 => self.variable(),
             size => {

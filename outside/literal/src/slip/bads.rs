@@ -1,10 +1,10 @@
 //! Wrong readings of what the bad patterns take from a hat.
 
-use super::{is, nonces, Slip, CURRENT};
+use super::{hashes, is, nonces, Slip, CURRENT};
 use crate::hats::{marks_below, Exception, Meets};
 use crate::read::{Certificate, Listed};
 use crate::share::shares;
-use crate::term::{joined, matches, places, Path, Place};
+use crate::term::{joined, matches, subterms, Path, Place};
 
 /// Sure hats of conclusions, or open places of premises.
 #[derive(Clone, Copy)]
@@ -89,7 +89,7 @@ fn exception(side: Side, path: &Path, bad: &Listed) -> Exception {
         exception.marks = nonces::marks_but_nonces(path, &bad.term);
     }
     if side.slips(Slip::PlainAsMarkForHat, Slip::PlainAsMarkForOpen) {
-        let all = places(&bad.term).into_iter();
+        let all = subterms(&bad.term).into_iter();
         let variables = all.filter(|place| place.subterm.is_variable());
         exception.marks = variables.map(|v| joined(path, &v.path)).collect();
     }
@@ -99,12 +99,16 @@ fn exception(side: Side, path: &Path, bad: &Listed) -> Exception {
     ) {
         exception.marks.clear();
     }
+    match side {
+        Side::Hat => hashes::read_for_hat(&mut exception, path, &bad.term),
+        Side::Open => hashes::read_for_open(&mut exception, path, &bad.term),
+    }
     exception
 }
 
 /// Marks that stand below a variable of the conclusion forgotten.
 fn with_marks_that_are_there(place: &Place, found: Vec<Exception>) -> Vec<Exception> {
-    let there: Vec<Path> = places(place.subterm)
+    let there: Vec<Path> = subterms(place.subterm)
         .iter()
         .map(|inner| joined(&place.path, &inner.path))
         .collect();

@@ -6,8 +6,7 @@ use crate::block::Entry;
 use crate::hats::{shares_with_some, stands_at};
 use crate::numbers::{atom_kind, kind, tag, VARIABLES};
 use crate::read::Certificate;
-use crate::share::Symbol;
-use crate::term::{is_one_nonce, joined, places, Path, Place, Term};
+use crate::term::{is_one_nonce, joined, subterms, Path, Place, Symbol, Term};
 
 /// What is put for a nonce variable, or meets one.
 enum Met {
@@ -16,8 +15,22 @@ enum Met {
     Key,
     Pair,
     Encryption,
+    Hash,
+    Signature,
     Variable,
     NonceVariable,
+}
+
+fn met(atoms: &[Atom], symbol: Symbol) -> Met {
+    match symbol {
+        Symbol::Atom(number) => met_atom(atoms, number),
+        Symbol::Pair => Met::Pair,
+        Symbol::Encryption(_) => Met::Encryption,
+        Symbol::Hash => Met::Hash,
+        Symbol::Signature(_) => Met::Signature,
+        Symbol::Variable => Met::Variable,
+        Symbol::NonceVariable => Met::NonceVariable,
+    }
 }
 
 fn met_atom(atoms: &[Atom], number: u16) -> Met {
@@ -33,14 +46,7 @@ fn met_atom(atoms: &[Atom], number: u16) -> Met {
 /// Whether a nonce variable takes another term in matching; none if it is read
 /// as it should be.
 pub fn replaces_otherwise(atoms: &[Atom], variable: &Term, term: &Term) -> Option<bool> {
-    let met = match term {
-        Term::Atom(number) => met_atom(atoms, *number),
-        Term::Pair(..) => Met::Pair,
-        Term::Encryption(..) => Met::Encryption,
-        Term::Plain(_) | Term::Marked(_) => Met::Variable,
-        Term::PlainNonce(_) | Term::MarkedNonce(_) => Met::NonceVariable,
-    };
-    let slips = match met {
+    let slips = match met(atoms, term.symbol()) {
         Met::Nonce { is_known: true } => is(Slip::ListedNonceNotMatched),
         Met::Nonce { is_known: false } => {
             is(Slip::ListedNonceNotMatched) || is(Slip::KnownNonceOnlyMatched)
@@ -49,6 +55,8 @@ pub fn replaces_otherwise(atoms: &[Atom], variable: &Term, term: &Term) -> Optio
         Met::Key => is(Slip::NonceMatchesKey),
         Met::Pair => is(Slip::NonceMatchesPair),
         Met::Encryption => is(Slip::NonceMatchesEncryption),
+        Met::Hash => is(Slip::NonceMatchesHash),
+        Met::Signature => is(Slip::NonceMatchesSignature),
         Met::Variable => is(Slip::NonceMatchesVariable),
         Met::NonceVariable => is(Slip::NonceVariableNotMatched),
     };
@@ -67,14 +75,7 @@ pub(crate) fn follows_otherwise(atoms: &[Atom], variable: Symbol, other: Symbol)
 }
 
 fn shares_otherwise(atoms: &[Atom], other: Symbol) -> Option<bool> {
-    let met = match other {
-        Symbol::Atom(number) => met_atom(atoms, number),
-        Symbol::Pair => Met::Pair,
-        Symbol::Encryption(_) => Met::Encryption,
-        Symbol::Variable => Met::Variable,
-        Symbol::NonceVariable => Met::NonceVariable,
-    };
-    let slips = match met {
+    let slips = match met(atoms, other) {
         Met::Nonce { is_known: true } => is(Slip::ListedNonceNotShared),
         Met::Nonce { is_known: false } => {
             is(Slip::ListedNonceNotShared) || is(Slip::KnownNonceOnlyShared)
@@ -83,6 +84,8 @@ fn shares_otherwise(atoms: &[Atom], other: Symbol) -> Option<bool> {
         Met::Key => is(Slip::NonceSharesKey),
         Met::Pair => is(Slip::NonceSharesPair),
         Met::Encryption => is(Slip::NonceSharesEncryption),
+        Met::Hash => is(Slip::NonceSharesHash),
+        Met::Signature => is(Slip::NonceSharesSignature),
         Met::Variable => false,
         Met::NonceVariable => is(Slip::NonceVariablesNotShared),
     };
@@ -115,7 +118,7 @@ pub fn variable_read(variable: &Term) -> Term {
 
 /// The marks of a pattern with its root at `path`, without nonce variables.
 pub fn marks_but_nonces(path: &Path, pattern: &Term) -> Vec<Path> {
-    let all = places(pattern).into_iter();
+    let all = subterms(pattern).into_iter();
     all.filter(|place| matches!(place.subterm, Term::Marked(_)))
         .map(|place| joined(path, &place.path))
         .collect()

@@ -18,6 +18,28 @@ pub fn enc(message: Term, key: u16) -> Term {
     Term::encryption(message, key)
 }
 
+pub fn hash(message: Term) -> Term {
+    Term::hash(message)
+}
+
+pub fn sig(message: Term, key: u16) -> Term {
+    Term::signature(message, key)
+}
+
+/// With the usual secrets, these patterns and this rule.
+pub fn judged(
+    goods: &[Term],
+    bads: &[Term],
+    premise: Option<Term>,
+    conclusion: Term,
+) -> (u32, u32, u32) {
+    let mut parts = Parts::usual();
+    parts.goods = goods.to_vec();
+    parts.bads = bads.to_vec();
+    parts.rules = vec![(premise, conclusion)];
+    spot(&parts.bytes())
+}
+
 /// Kind, known, partner.
 pub const ATOMS: [[u8; 3]; 8] = [
     [1, 1, 0],

@@ -4,7 +4,7 @@
 use std::process::ExitCode;
 use verdicts::known::Known;
 use verdicts::seals::{self, sealing};
-use verdicts::{cases, loaders, marked_bad, more_atoms, nonce_variables, open_secrets};
+use verdicts::{cases, hashes, loaders, marked_bad, more_atoms, nonce_variables, open_secrets};
 use verdicts::{failed, known, proved, Checker, Difference};
 
 /// Blocks whose differences are shown; of the others only how many there are.
@@ -22,6 +22,7 @@ fn run() -> Result<usize, String> {
         ("document 02, No. 2", marked_bad::all()?),
         ("document 02, No. 3", nonce_variables::all()?),
         ("document 02, No. 4", open_secrets::all()?),
+        ("document 02, No. 7", hashes::all()?),
         ("corpus", known::corpus()?),
         ("examples", known::texts("../../examples")?),
         ("loader", known::texts("../../loader/certificates")?),

@@ -1,11 +1,15 @@
 -- `judge::cover::mark_cover` meets its contract; the measure is the length of the pattern. Assumes nothing.
+use mathlib.Core.Path.{sym, _∙_}
 use borrow.Author.Needs.{needs}
+use Rattle.terms.proofs.TagLaws.{one-tag, one-child}
+use Rattle.terms.proofs.EntryLaws.{begins-tag}
 use Rattle.terms.proofs.tag.is_marked.Reads as is-marked-reads
+use Rattle.terms.proofs.entry.children.Reads as children-reads
 use Rattle.terms.proofs.AnswerLaws.{says-yes, says-no}
 use native.Mathlib.Omega.{arith}
 use lib.ListN.{length}
 use Rattle.judge.proofs.Covering.Marks.{laid-end, pair-laid, left-pattern, left-begins, left-within, left-laying, right-laying, pair-raised}
-use Rattle.judge.proofs.Covering.Marks.{encryption-laid, content-laying, encryption-raised, mark-raised, no-mark}
+use Rattle.judge.proofs.Covering.Marks.{wrapped-laid, content-laying, wrapped-raised, mark-raised, no-mark}
 use Prim.Native.Nat.{ℕ, _<_}
 use borrow.Fn.Kinds.{In}
 use borrow.Fn.PlainCycle.{Measures, is, falls, and}
@@ -35,6 +39,8 @@ pub +mark-cover-spec : {M : Type 1} → statement M
       mark-cover.Post,
       term-size-reads.Asked,
       term-size-reads.Learnt,
+      children-reads.Asked,
+      children-reads.Learnt,
       is-marked-reads.Asked,
       is-marked-reads.Learnt,
       paint-reads.Asked,
@@ -77,32 +83,33 @@ pub +mark-cover-spec : {M : Type 1} → statement M
     let v = c .before .before .before .before .before .before .before .before .before in let l = v .before .before .before .before .pre .1 in
     let w = pair-laid (l .0) (v .if1 .taken) in
     (search needs, (right-laying (l .0) w (term-size .ensures .0) (c .before .before .term-size2 .ensures .0), the-mark-cover .ensures .long)))  -- mark-cover-mark-cover-requires-2
+    (λ c κs. begins-tag (c .before .before .before .before .pre .1 .0 .pattern))  -- mark-cover-children-requires
     (λ c. search needs)  -- mark-cover-sub-mark-cover-3
     (λ c. search needs)  -- mark-cover-part-mark-cover-start-3
     (λ c. search needs)  -- mark-cover-part-mark-cover-end-3
     (λ c. search needs)  -- mark-cover-add-mark-cover-2
-    (λ c κs. let v = c .before .before in let l = v .before .before .before .before .before .pre .1 in
-    let w = encryption-laid (l .0) (v .if2 .taken) in
+    (λ c κs. let v = c .before .before in let l = v .before .before .before .before .before .before .pre .1 in let told = v .before .children in
+    let w = wrapped-laid (l .0) (one-tag _ (sym (told .ensures .0) ∙ v .if2 .taken)) in
     (search needs, (content-laying (l .0) w, l .1)))  -- mark-cover-mark-cover-requires-3
     (λ c κs. search needs)  -- mark-cover-is-marked-requires
     (λ c. search needs)  -- mark-cover-mul-term-size-2
     (λ c. search needs)  -- mark-cover-sub-term-size-3
     (λ c. search needs)  -- mark-cover-part-term-size-start-3
     (λ c. search needs)  -- mark-cover-part-term-size-end-3
-    (λ c κs. let v = c .before .before in let l = v .before .before .before .before .before .before .before .pre .1 in l .0 .term)  -- mark-cover-term-size-requires-3
+    (λ c κs. let v = c .before .before in let l = v .before .before .before .before .before .before .before .before .pre .1 in l .0 .term)  -- mark-cover-term-size-requires-3
     (λ c. search needs)  -- mark-cover-add-paint
-    (λ c κs. let v = c .before .before .before in let l = v .before .before .before .before .before .before .before .pre .1 in
+    (λ c κs. let v = c .before .before .before in let l = v .before .before .before .before .before .before .before .before .pre .1 in
     (l .1, search needs, omega (arith, laid-end (l .0) (c .term-size3 .ensures .0), l .0 .short)))  -- mark-cover-paint-requires
     (λ c. let the-mark-cover = c .before .before .before .before .before .before .before .mark-cover in
     let term-size = c .before .before .before .before .before .term-size in let term-size2 = c .before .before .before .term-size2 in
     let v = c .before .before .before .before .before .before .before .before .before .before in let l = v .before .before .before .before .pre .1 in
     let w = pair-laid (l .0) (v .if1 .taken) in
     pair-raised (l .0) w (term-size .ensures .0) (term-size2 .ensures .0) (the-mark-cover .ensures) (c .mark-cover2 .ensures))  -- mark-cover-returns
-    (λ c. let v = c .before .before .before in let l = v .before .before .before .before .before .pre .1 in
-    let w = encryption-laid (l .0) (v .if2 .taken) in
-    encryption-raised (l .0) w (c .mark-cover3 .ensures))  -- mark-cover-returns-2
-    (λ c. let v = c .before .before .before .before in let l = v .before .before .before .before .before .before .before .pre .1 in
+    (λ c. let v = c .before .before .before in let l = v .before .before .before .before .before .before .pre .1 in let told = v .before .children in
+    let w = wrapped-laid (l .0) (one-tag _ (sym (told .ensures .0) ∙ v .if2 .taken)) in
+    wrapped-raised (l .0) w (c .mark-cover3 .ensures))  -- mark-cover-returns-2
+    (λ c. let v = c .before .before .before .before in let l = v .before .before .before .before .before .before .before .before .pre .1 in
     let told = v .before .is-marked in
     mark-raised (l .0) (says-yes (told .result) (told .ensures) (v .if3 .taken)) (c .before .term-size3 .ensures .0) (c .paint .ensures))  -- mark-cover-returns-3
-    (λ c. let l = c .before .before .before .before .before .before .before .pre .1 in let told = c .before .is-marked in
-    no-mark (l .0) (c .before .before .before .if1 .left) (c .before .before .if2 .left) (says-no (told .result) (told .ensures) (c .if3 .left)) (l .1))  -- mark-cover-returns-4
+    (λ c. let l = c .before .before .before .before .before .before .before .before .pre .1 in let told = c .before .is-marked in let wrapper = c .before .before .before .children in
+    no-mark (l .0) (c .before .before .before .before .if1 .left) (λ w. c .before .before .if2 .left (wrapper .ensures .0 ∙ sym (one-child w))) (says-no (told .result) (told .ensures) (c .if3 .left)) (l .1))  -- mark-cover-returns-4

@@ -3,7 +3,6 @@ use borrow.Author.Needs.{needs}
 use borrow.Author.Tests.{not-true, not-false}
 use mathlib.Core.Path.{sym}
 use Rattle.judge.specs.File.{ruleOf}
-use Rattle.judge.specs.CoverEntries.{isSecret}
 use Rattle.judge.proofs.Covering.Opens.{opened-within}
 use Rattle.judge.proofs.Covering.Repeats.{remembered-of}
 use Rattle.judge.proofs.Covering.Covers.{premise-is, conclusion-is, conclusion-concluded, concluded-entries, entries-flagged, flags-asked, secret-rule, uncovered-rule}
@@ -27,8 +26,7 @@ rule-found-spec = tie.close (tie.spec
       remembered-of (sym (first .0)) (opened .0),
       (
         pre .4,
-        found-premise _ _ _ (secret-rule (pre .0) (ruleOf (start .args .block .now)) (premise-is (pre .1) (first .0) (first .1 .0)) (opened .1)
-            (λ k inside s. wanted .on k .1 (record { inside = inside; holds = isSecret s })) (c .before .before .before .first-secret .ensures)) (c .before .k .given .1),
+        found-premise _ _ _ (secret-rule (pre .0) (ruleOf (start .args .block .now)) (premise-is (pre .1) (first .0) (first .1 .0)) (opened .1) wanted (c .before .before .before .first-secret .ensures)) (c .before .k .given .1),
       ),
     ))  -- returns
     (λ c. search needs)  -- enum-told
@@ -36,8 +34,7 @@ rule-found-spec = tie.close (tie.spec
       remembered-of (sym (first .0)) (opened .0),
       (
         pre .4,
-        found-unasked _ _ _ (secret-rule (pre .0) (ruleOf (start .args .block .now)) (premise-is (pre .1) (first .0) (first .1 .0)) (opened .1)
-            (λ k inside s. wanted .on k .1 (record { inside = inside; holds = isSecret s })) (c .before .before .before .first-secret .ensures)) (c .before .enum-told .given .1)
+        found-unasked _ _ _ (secret-rule (pre .0) (ruleOf (start .args .block .now)) (premise-is (pre .1) (first .0) (first .1 .0)) (opened .1) wanted (c .before .before .before .first-secret .ensures)) (c .before .enum-told .given .1)
             (not-true _ (c .if1 .taken)),
       ),
     ))  -- returns-2
@@ -57,7 +54,7 @@ rule-found-spec = tie.close (tie.spec
       remembered-of (sym (first .0)) (opened .0),
       (
         remembered-of (sym (second .0)) (hats .take-hats .ensures .0),
-        found-conclusion _ _ _ (secret-rule (pre .0) rule premise (opened .1) (λ k inside s. wanted .on k .1 (record { inside = inside; holds = isSecret s })) (hats .before .before .before .before .before .before .before .before .before .first-secret .ensures))
+        found-conclusion _ _ _ (secret-rule (pre .0) rule premise (opened .1) wanted (hats .before .before .before .before .before .before .before .before .before .first-secret .ensures))
             (hats .before .before .before .before .before .before .before .enum-told .given .1) on
             (uncovered-rule (pre .0) rule premise wanted (opened .1) concluded (conclusion-is (pre .1) (second .0)) (flags-asked on (asked .before .before .before .before .asked-places .ensures))
             (hats .before .before .before .bare-places .ensures) (hats .take-hats .ensures .1) (search needs) (c .before .before .before .first-on .ensures)) (c .before .k2 .given .1),
@@ -69,7 +66,7 @@ rule-found-spec = tie.close (tie.spec
       remembered-of (sym (first .0)) (opened .0),
       (
         remembered-of (sym (second .0)) (hats .take-hats .ensures .0),
-        found-nowhere _ _ _ (secret-rule (pre .0) rule premise (opened .1) (λ k inside s. wanted .on k .1 (record { inside = inside; holds = isSecret s })) (hats .before .before .before .before .before .before .before .before .before .first-secret .ensures))
+        found-nowhere _ _ _ (secret-rule (pre .0) rule premise (opened .1) wanted (hats .before .before .before .before .before .before .before .before .before .first-secret .ensures))
             (hats .before .before .before .before .before .before .before .enum-told .given .1) on
             (uncovered-rule (pre .0) rule premise wanted (opened .1) concluded (conclusion-is (pre .1) (second .0)) (flags-asked on (asked .before .before .before .before .asked-places .ensures))
             (hats .before .before .before .bare-places .ensures) (hats .take-hats .ensures .1) (search needs) (c .before .before .first-on .ensures)) (c .enum-told2 .given .1),

@@ -13,7 +13,7 @@ use Rattle.judge.proofs.listed.may_be_secret.Tie as tie
 
 pub may-be-secret-spec : {M : Type 1} → statement M
 may-be-secret-spec = tie.close (tie.spec
-    (λ c. let room = c .before .before .pre .1 .room in search needs)  -- shared-slice-read-tag
+    (λ c. let room = c .before .before .pre .1 .room in search needs)  -- shared-slice-read-root
     (λ c κs. search needs)  -- is-variable-requires
     (λ c. let told = c .before .is-variable in
     (λ e. absurd (true≢false e), λ w. absurd (omega (arith, w .symbol, says-yes (told .result) (told .ensures) (c .if1 .taken)))))  -- returns

@@ -137,7 +137,7 @@ pub +unite+unite-halves+unite-names-spec : {M : Type 1} → statement M
     (pre .1 .0, inr (m .2)))  -- unite-names-first-child-requires
     (λ c κs. let pre = c .before .before .before .before .before .before .before .before .before .pre in let args = c .before .before .before .before .before .before .before .before .before .args in
     let m = met-as (args .s .now) (args .t .now) (args .a) (args .b) (c .before .before .before .before .meeting .ensures) (c .before .before .enum-told4 .given .1) in
-    (pre .1 .0, inr (sym (m .1) ∙ m .2)))  -- unite-names-first-child-requires-2
+    (pre .1 .0, inr (rw (m .1) at (m .2))))  -- unite-names-first-child-requires-2
     (λ c κs. let pre = c .before .before .before .before .before .before .before .before .before .before .pre in let args = c .before .before .before .before .before .before .before .before .before .before .args in
     let w = two-names (pre .1 .3) (pre .1 .4) (pre .1 .5) (pre .1 .6) (pre .1 .7) (pre .1 .8) in (
       omega (arith, pre .0, names-fewer w),

@@ -2,10 +2,12 @@
 use mathlib.Core.Path.{sym, _∙_}
 use mathlib.Core.Logic.{inl, inr}
 use native.Mathlib.Omega.{arith}
+use borrow.Author.Needs.{needs}
 use Rattle.terms.specs.Meeting.{Symbols}
+use Rattle.terms.proofs.TagLaws.{one-tag, one-child}
 use Rattle.terms.proofs.ClassLaws.{both-symbols}
 use Rattle.terms.specs.TermGraph.{OwnEntry}
-use Rattle.terms.proofs.NodeLaws.{symbol-inside, home-symbol}
+use Rattle.terms.proofs.NodeLaws.{symbol-inside, home-symbol, own-tag}
 use Rattle.terms.proofs.classes.meeting.Statement.{statement}
 use Rattle.terms.proofs.classes.meeting.Tie as tie
 
@@ -38,19 +40,21 @@ meeting-spec = tie.close (tie.spec
         (λ e. c .if4 .taken (c .before .before .value-at .ensures ∙ e ∙ sym (c .before .value-at2 .ensures))),
       ),
     ))  -- returns-4
-    (λ c. let read = c .before .before in let other = read .before .before in let there = other .before .before in
+    (λ c κs. let there = c .before .before .before .before .before in
+    rw (there .before .tag-at .ensures) (own-tag (there .before .before .before .before .before .pre .0) (first (there .before .before))))  -- children-requires
+    (λ c. let told = c .before .children in let same = c .before .before in let read = same .before in let other = read .before .before in let there = other .before .before in
     let a-tag = there .before .tag-at .ensures in (
       both (there .before .before),
       sym a-tag ∙ other .before .if2 .left ∙ there .tag-at2 .ensures,
-      sym a-tag ∙ c .if5 .taken,
-      sym (read .before .value-at .ensures) ∙ c .before .if4 .left ∙ read .value-at2 .ensures,
+      rw (← a-tag) (one-tag _ (sym (told .ensures .0) ∙ c .if5 .taken)),
+      sym (read .before .value-at .ensures) ∙ same .if4 .left ∙ read .value-at2 .ensures,
     ))  -- returns-5
-    (λ c. let read = c .before .before in let other = read .before .before in let there = other .before .before in
+    (λ c. let told = c .before .children in let same = c .before .before in let read = same .before in let other = read .before .before in let there = other .before .before in
     let a-tag = there .before .tag-at .ensures in (
       both (there .before .before),
       sym a-tag ∙ other .before .if2 .left ∙ there .tag-at2 .ensures,
       (λ e. other .if3 .left (a-tag ∙ e)),
-      (λ e. c .if5 .left (a-tag ∙ e)),
-      sym (read .before .value-at .ensures) ∙ c .before .if4 .left ∙ read .value-at2 .ensures,
+      rw (← a-tag) (λ w. c .if5 .left (told .ensures .0 ∙ sym (one-child w))),
+      sym (read .before .value-at .ensures) ∙ same .if4 .left ∙ read .value-at2 .ensures,
     ))  -- returns-6
     )

@@ -1,9 +1,11 @@
 -- `terms::ending::ends` and `children_end` meet their contracts; the measure is twice the number of classes not marked,
 -- one more for the children. Assumes nothing.
-use mathlib.Core.Path.{_≡_, sym, _∙_}
+use mathlib.Core.Path.{_≡_, sym, ap, _∙_}
 use mathlib.Core.Logic.{inl, inr}
 use lib.ListN.{getD, length-set}
-use Rattle.terms.proofs.NodeLaws.{symbol-inside}
+use Rattle.terms.proofs.TagLaws.{one-tag, one-child}
+use Rattle.terms.proofs.NodeLaws.{symbol-inside, own-tag}
+use Rattle.terms.specs.Tag.{childrenOf}
 use Rattle.terms.specs.Ending.{zeros}
 use Rattle.terms.proofs.EndingLaws.{fewer-zeros, yes-at-once, no-way, answer-map, past-ends, class-ends, back-again, open-sound, open-below, closed}
 use Rattle.terms.proofs.EndingLaws.{below-kept, first-below, second-below, content-below, no-children-end, content-ends, halves-walked, symbol-there}
@@ -22,6 +24,7 @@ use Rattle.terms.proofs.classes.find.Reads as find-reads
 use Rattle.terms.proofs.node.first_child.Reads as first-child-reads
 use Rattle.terms.proofs.node.second_child.Reads as second-child-reads
 use Rattle.terms.proofs.node.tag_at.Reads as tag-at-reads
+use Rattle.terms.proofs.entry.children.Reads as children-reads
 use Rattle.terms.proofs.ending.+children_end+ends.{statement}
 use Rattle.terms.proofs.ending.+children_end+ends.Tie.{close}
 
@@ -61,6 +64,8 @@ pub +children-end+ends-spec : {M : Type 1} → statement M
       ends.Post,
       second-child-reads.Asked,
       second-child-reads.Learnt,
+      children-reads.Asked,
+      children-reads.Learnt,
     ) (children-end-at t) children-end.Post
     (λ c κs. let pre = c .before .before .before .before .pre in symbol-inside (pre .1 .0) (pre .1 .5))  -- children-end-tag-at-requires
     (λ c κs. let pre = c .before .before .before .before .before .before .before .pre in
@@ -96,10 +101,12 @@ pub +children-end+ends-spec : {M : Type 1} → statement M
         below-kept kept (second-below two (c .second-child .ensures .0) (pre .1 .7)),
       ),
     ))  -- children-end-ends-requires-2
-    (λ c κs. let pre = c .before .before .before .before .before .before .before .before .pre in
-    (pre .1 .0, inr (sym (c .before .before .before .tag-at .ensures) ∙ c .before .if3 .taken)))  -- children-end-first-child-requires-2
-    (λ c κs. let there = c .before .before .before .before in let pre = there .before .before .before .before .before .pre in
-    let three = sym (there .tag-at .ensures) ∙ c .before .before .if3 .taken in (
+    (λ c κs. let there = c .before in let pre = there .before .before .before .before .before .pre in
+    rw (there .tag-at .ensures) (own-tag (pre .1 .0) (symbol-inside (pre .1 .0) (pre .1 .5))))  -- children-end-children-requires
+    (λ c κs. let told = c .before .before .children in let there = c .before .before .before .before in let pre = there .before .before .before .before .before .pre in
+    (pre .1 .0, inr (rw (there .tag-at .ensures) at (one-tag _ (sym (told .ensures .0) ∙ c .before .if3 .taken)))))  -- children-end-first-child-requires-2
+    (λ c κs. let told = c .before .before .before .children in let there = c .before .before .before .before .before in let pre = there .before .before .before .before .before .pre in
+    let one = rw (there .tag-at .ensures) at (one-tag _ (sym (told .ensures .0) ∙ c .before .before .if3 .taken)) in (
       omega (arith, pre .0),
       (
         pre .1 .0,
@@ -109,7 +116,7 @@ pub +children-end+ends-spec : {M : Type 1} → statement M
         pre .1 .4,
         c .first-child2 .ensures .1,
         pre .1 .6,
-        content-below three (c .first-child2 .ensures .0) (pre .1 .7),
+        content-below one (c .first-child2 .ensures .0) (pre .1 .7),
       ),
     ))  -- children-end-ends-requires-3
     (λ c. let first = c .before .before .before .before in let there = first .before .before .before .before in
@@ -117,12 +124,13 @@ pub +children-end+ends-spec : {M : Type 1} → statement M
     halves-walked two (first .before .first-child .ensures .0) (c .before .second-child .ensures .0)
     (first .ends .ensures .ends (c .before .before .before .if2 .taken)) (c .ends2 .ensures))  -- children-end-returns
     (λ c. no-way (c .before .ends .ensures .long) (c .before .ends .ensures .never (c .if2 .left)))  -- children-end-returns-2
-    (λ c. let there = c .before .before .before .before .before in
-    let three = sym (there .tag-at .ensures) ∙ c .before .before .before .if3 .taken in
-    answer-map (content-ends three (c .before .first-child2 .ensures .0)) (c .ends3 .ensures))  -- children-end-returns-3
-    (λ c. let there = c .before .before in let pre = there .before .before .before .before .before .pre in
+    (λ c. let told = c .before .before .before .before .children in let there = c .before .before .before .before .before .before in
+    let one = rw (there .tag-at .ensures) at (one-tag _ (sym (told .ensures .0) ∙ c .before .before .before .if3 .taken)) in
+    answer-map (content-ends one (c .before .first-child2 .ensures .0)) (c .ends3 .ensures))  -- children-end-returns-3
+    (λ c. let told = c .before .children in let there = c .before .before .before in let pre = there .before .before .before .before .before .pre in
     let tag = there .tag-at .ensures in
-    yes-at-once (pre .1 .4) (pre .1 .6) (no-children-end (λ e. c .before .if1 .left (tag ∙ e)) (λ e. c .if3 .left (tag ∙ e))))  -- children-end-returns-4
+    yes-at-once (pre .1 .4) (pre .1 .6)
+    (no-children-end (λ e. c .before .before .if1 .left (tag ∙ e)) (λ w. c .if3 .left (told .ensures .0 ∙ ap childrenOf tag ∙ sym (one-child w)))))  -- children-end-returns-4
     ) λ t. ends-lts.spec (find-reads.Asked, find-reads.Learnt, children-end-below t, children-end.Post) (ends-at t) ends.Post
     (λ c κs. let pre = c .before .before .before .before .pre in (pre .1 .3 .long, pre .1 .5 .small))  -- ends-find-requires
     (λ c. let start = c .before .before .before .before .before .before in let pre = start .pre in

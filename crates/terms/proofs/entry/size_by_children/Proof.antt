@@ -5,7 +5,8 @@ use native.Mathlib.Omega.{arith}
 use borrow.Author.Needs.{needs}
 use lib.ListN.{getD}
 use Rattle.terms.specs.TermGraph.{sizeIn, rightIn}
-use Rattle.terms.proofs.SizeLaws.{leaf-size, PairSizes, ContentSize, pair-sizes, content-size}
+use Rattle.terms.proofs.TagLaws.{one-tag, one-child}
+use Rattle.terms.proofs.SizeLaws.{tag-there, leaf-size, PairSizes, ContentSize, pair-sizes, content-size}
 use Rattle.terms.proofs.entry.size_by_children.Statement.{statement}
 use Rattle.terms.proofs.entry.size_by_children.Tie as tie
 
@@ -24,11 +25,14 @@ right-read c =
     c .wide2 .ensures .0 ∙ ap (λ (n : ℕ). getD (start .args .z .now) (start .args .base + start .args .k + 1 + n) 0) (left-read (c .before .before))
     ∙ halves (c .before .before .before .before) .right-size
 
--- The entry is an encryption.
-content : (c : tie.Then2) → let start = c .before .before .before .before .before in ContentSize (start .args .e .now) (start .args .z .now) (start .args .base) (start .args .k)
-content c = let start = c .before .before .before .before .before in content-size (start .args .k) (start .pre .0) (start .pre .1) (start .pre .4) (c .if2 .taken)
+-- The entry is something around a term.
+content : (c : tie.Then2) → let start = c .before .before .before .before .before .before in ContentSize (start .args .e .now) (start .args .z .now) (start .args .base) (start .args .k)
+content c =
+    let start = c .before .before .before .before .before .before in
+    let told = c .before .children in
+    content-size (start .args .k) (start .pre .0) (start .pre .1) (start .pre .4) (one-tag _ (sym (told .ensures .0) ∙ c .if2 .taken))
 
-content-read : (c : tie.After-wide3) → let start = c .before .before .before .before .before .before .before in c .wide3 .result ≡ sizeIn (start .args .e .now) (start .args .k + 1)
+content-read : (c : tie.After-wide3) → let start = c .before .before .before .before .before .before .before .before in c .wide3 .result ≡ sizeIn (start .args .e .now) (start .args .k + 1)
 content-read c = c .wide3 .ensures .0 ∙ content (c .before .before) .content-size
 
 pub size-by-children-spec : {M : Type 1} → statement M
@@ -47,13 +51,15 @@ size-by-children-spec = tie.close (tie.spec
     (λ c κs. search needs)  -- wide-requires-2
     (λ c. omega (arith, c .before .before .wide .ensures .1, c .wide2 .ensures .1))  -- add-result-2
     (λ c. let p = halves (c .before .before .before .before) in omega (arith, p .small, p .whole, left-read (c .before .before), right-read c))  -- cast-result
-    (λ c. let small = c .before .before .before .before .before .pre .2 in let inside = c .before .before .before .before .before .pre .3 in let short = c .before .before .before .before .before .pre .1 in search needs)  -- add-wide-6
-    (λ c. let small = c .before .before .before .before .before .pre .2 in let inside = c .before .before .before .before .before .pre .3 in let short = c .before .before .before .before .before .pre .1 in search needs)  -- add-wide-7
+    (λ c κs. let start = c .before .before .before .before in tag-there (start .args .k) (start .pre .0) (start .pre .3))  -- children-requires
+    (λ c. let small = c .before .before .before .before .before .before .pre .2 in let inside = c .before .before .before .before .before .before .pre .3 in let short = c .before .before .before .before .before .before .pre .1 in search needs)  -- add-wide-6
+    (λ c. let small = c .before .before .before .before .before .before .pre .2 in let inside = c .before .before .before .before .before .before .pre .3 in let short = c .before .before .before .before .before .before .pre .1 in search needs)  -- add-wide-7
     (λ c. content (c .before) .inside)  -- shared-slice-read-wide-3
     (λ c κs. search needs)  -- wide-requires-3
     (λ c. omega (arith, c .wide3 .ensures .1))  -- add-result-3
     (λ c. let p = content (c .before .before) in omega (arith, p .small, p .whole, content-read c))  -- cast-result-2
     (λ c. let p = halves (c .before .before .before .before) in omega (arith, p .whole, left-read (c .before .before), right-read c))  -- returns
     (λ c. let p = content (c .before .before) in omega (arith, p .whole, content-read c))  -- returns-2
-    (λ c. let start = c .before .before .before .before .before in sym (leaf-size (start .args .k) (start .pre .0) (start .pre .3) (c .before .if1 .left) (c .if2 .left)))  -- returns-3
+    (λ c. let start = c .before .before .before .before .before .before in let told = c .before .children in
+    sym (leaf-size (start .args .k) (start .pre .0) (start .pre .3) (c .before .before .if1 .left) (λ w. c .if2 .left (told .ensures .0 ∙ sym (one-child w)))))  -- returns-3
     )

@@ -4,6 +4,7 @@ use borrow.Author.Tests.{not-true, not-false}
 use native.Mathlib.Omega.{arith}
 use Rattle.terms.proofs.AnswerLaws.{says-yes, says-no}
 use lib.ListN.{length}
+use Rattle.terms.proofs.EntryLaws.{begins-tag}
 use Rattle.terms.proofs.FrontLaws.{front-begins}
 use Rattle.terms.proofs.SameLaws.{said, denied}
 use Rattle.terms.proofs.MatchLaws.{made-none, pattern-begins, subject-begins, comparable, variable-ready, variable-step, variable-last, variable-clash}
@@ -93,7 +94,7 @@ pub +match-front-spec : {M : Type 1} → statement M
     (λ c. search needs)  -- match-front-add-match-front
     (λ c. search needs)  -- match-front-sub-match-front-4
     (λ c. search needs)  -- match-front-shared-slice-read-children
-    (λ c κs. search needs)  -- match-front-children-requires
+    (λ c κs. begins-tag (pattern-begins (c .before .before .before .before .before .before .before .before .before .before .before .pre .1) (c .before .before .before .before .before .before .before .if1 .left)))  -- match-front-children-requires
     (λ c. search needs)  -- match-front-add-match-front-2
     (λ c κs. (
       search needs,

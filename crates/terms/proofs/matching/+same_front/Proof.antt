@@ -1,6 +1,7 @@
 -- `terms::matching::same_front` meets its contract; the measure is the length. Assumes nothing.
 use borrow.Author.Needs.{needs}
 use lib.ListN.{length}
+use Rattle.terms.proofs.EntryLaws.{begins-tag}
 use Rattle.terms.proofs.FrontLaws.{front-begins, none-compared}
 use Rattle.terms.proofs.SameLaws.{same-below, same-step, same-clash, said, denied}
 use Prim.Native.Nat.{ℕ, _<_}
@@ -44,7 +45,7 @@ pub +same-front-spec : {M : Type 1} → statement M
     (λ c. search needs)  -- same-front-part-same-front-end-2
     (λ c. search needs)  -- same-front-sub-same-front-3
     (λ c. search needs)  -- same-front-shared-slice-read-children
-    (λ c κs. search needs)  -- same-front-children-requires
+    (λ c κs. begins-tag (front-begins (c .before .before .before .before .before .before .before .before .pre .1 .0) (c .before .before .before .before .before .if1 .left)))  -- same-front-children-requires
     (λ c. search needs)  -- same-front-add-same-front
     (λ c κs. let pre = c .before .before .before .before .before .before .before .before .before .pre in
     let if1 = c .before .before .before .before .before .before .if1 in let same-entry = c .before .before .before .before .before .same-entry in

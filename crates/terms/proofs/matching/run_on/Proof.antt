@@ -6,7 +6,7 @@ use lib.ListN.{length}
 use Rattle.terms.specs.Tag.{childrenOf}
 use Rattle.terms.proofs.AnswerLaws.{says-yes, says-no}
 use Rattle.terms.specs.Front.{Ran}
-use Rattle.terms.proofs.RunLaws.{ran-start, ran-more, front-room, ran-small}
+use Rattle.terms.proofs.RunLaws.{ran-start, ran-more, front-room, front-tag, ran-small}
 use Rattle.terms.proofs.TermGraphLaws.{tag-from}
 use Rattle.terms.proofs.matching.run_on.Statement.{statement}
 use Rattle.terms.proofs.matching.run_on.Tie as tie
@@ -25,7 +25,8 @@ run-on-spec = tie.close (tie.spec Inv-loop μ-loop
     (λ c. let inside = c .before .before .loop .inv .other-inside in search needs)  -- mul-children
     (λ c. let goes = says-yes (c .before .before .goes-on .result) (c .before .before .goes-on .ensures) (c .before .if1 .taken) in
     let room = front-room (c .before .before .before .before .before .before .args .p .now) (c .before .before .before .loop .k) (c .before .before .before .loop .inv .front) (goes .some-left) in search needs)  -- shared-slice-read-children
-    (λ c κs. search needs)  -- children-requires
+    (λ c κs. let goes = says-yes (c .before .before .goes-on .result) (c .before .before .goes-on .ensures) (c .before .if1 .taken) in
+    front-tag (c .before .before .before .before .before .before .args .p .now) (c .before .before .before .loop .k) (c .before .before .before .loop .inv .front) (goes .some-left))  -- children-requires
     (λ c. let small = ran-small (c .before .before .before .before .loop .inv) in search needs)  -- add-left
     (λ c. let inside = c .before .before .before .before .loop .inv .other-inside in search needs)  -- add-k
     (λ c. let goes = says-yes (c .before .before .before .goes-on .result) (c .before .before .before .goes-on .ensures) (c .before .before .if1 .taken) in

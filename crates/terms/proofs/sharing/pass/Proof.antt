@@ -5,6 +5,7 @@ use borrow.Author.Needs.{needs}
 use borrow.Author.Tests.{not-false}
 use Rattle.terms.proofs.EntryLaws.{from-length}
 use Rattle.terms.specs.Meetings.{Walking}
+use Rattle.terms.proofs.RunLaws.{front-tag}
 use Rattle.terms.proofs.MeetingLaws.{walking-run, run-stops, walking-room, walking-leaves}
 use Rattle.terms.proofs.sharing.pass.Statement.{statement}
 use Rattle.terms.proofs.sharing.pass.Tie as tie
@@ -40,7 +41,8 @@ pass-spec = tie.close (tie.spec Inv-loop μ-loop
     let short = c .before .before .before .before .before .before .before .before .before .pre .0 .left-short in let other-short = c .before .before .before .before .before .before .before .before .before .pre .0 .right-short in let passed = w .passed in let long = w .noted .long in search needs)  -- mul-leaves-meet-2
     (λ c. let w = walking-run (c .before .before .before .before .before .before .before .loop .inv .0) (c .before .before .before .run-on .ensures .0) in let room = walking-room w (c .before .before .if1 .left) in let left = room .0 in let right = room .1 in
     let short = c .before .before .before .before .before .before .before .before .before .before .pre .0 .left-short in let other-short = c .before .before .before .before .before .before .before .before .before .before .pre .0 .right-short in let passed = w .passed in let long = w .noted .long in search needs)  -- shared-slice-read-leaves-meet-2
-    (λ c κs. search needs)  -- leaves-meet-requires
+    (λ c κs. let w = walking-run (c .before .before .before .before .before .before .before .loop .inv .0) (c .before .before .before .run-on .ensures .0) in let args = c .before .before .before .before .before .before .before .before .before .before .args in
+    let some-left = c .before .before .if1 .left in (front-tag (args .s .now) _ (w .front) some-left, front-tag (args .t .now) _ (w .other-front) some-left))  -- leaves-meet-requires
     (λ c. let inv = c .before .before .before .before .before .before .before .before .before .loop .inv in let ran = c .before .before .before .before .before .run-on .ensures in let on = inv .1 in
     (walking-run (inv .0) (ran .0), omega arith, λ some-left. run-stops (inv .0) (ran .1) some-left))  -- returns-2
     (λ c. let w = walking-run (c .before .before .before .before .before .before .before .before .before .loop .inv .0) (c .before .before .before .before .before .run-on .ensures .0) in let room = walking-room w (c .before .before .before .before .if1 .left) in let left = room .0 in let right = room .1 in

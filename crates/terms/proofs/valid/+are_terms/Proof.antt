@@ -30,9 +30,9 @@ pub +are-terms-spec : {M : Type 1} → statement M
     (λ c. search needs)  -- are-terms-add-are-terms
     (λ c. search needs)  -- are-terms-sub-are-terms
     (λ c. search needs)  -- are-terms-element-copy-out-children
-    (λ c κs. search needs)  -- are-terms-children-requires
+    (λ c κs. let else1 = c .before .before in else1 .before .pre .1 .3 _ (else1 .if1 .left))  -- are-terms-children-requires
     (λ c. search needs)  -- are-terms-add-are-terms-2
-    (λ c κs. (search needs, (search needs, search needs, search needs)))  -- are-terms-are-terms-requires
+    (λ c κs. (search needs, (search needs, search needs, search needs, c .before .before .before .before .pre .1 .3)))  -- are-terms-are-terms-requires
     (λ c. let else2 = c .before .before .before in let a = else2 .before .before .args in
     next-terms (a .tags .now) (a .at) (a .count) (search needs) (else2 .before .if1 .left) (a .need) (else2 .if2 .left) (c .before .children .ensures .0)
     (c .are-terms .ensures))  -- are-terms-returns-3

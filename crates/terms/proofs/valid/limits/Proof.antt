@@ -13,5 +13,5 @@ limits-spec = tie.close (tie.spec
     (λ c κs. search needs)  -- plain-limit-requires
     (λ c κs. search needs)  -- marked-limit-requires
     (λ c. let count = c .before .before .args .count in
-    ap₂ (λ (p m : ℕ). 0 ∷ count ∷ 1 ∷ count ∷ p ∷ m ∷ p ∷ m ∷ []) (c .before .plain-limit .ensures) (c .marked-limit .ensures))  -- returns
+    ap₂ (λ (p m : ℕ). 0 ∷ count ∷ 1 ∷ count ∷ p ∷ m ∷ p ∷ m ∷ 1 ∷ count ∷ []) (c .before .plain-limit .ensures) (c .marked-limit .ensures))  -- returns
     )

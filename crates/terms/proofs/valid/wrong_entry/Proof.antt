@@ -16,10 +16,10 @@ use Rattle.terms.proofs.valid.wrong_entry.Statement.{statement}
 use Rattle.terms.proofs.valid.wrong_entry.Tie as tie
 
 abbrev Inv-loop : tie.InvT-loop
-Inv-loop atoms more kind e count limits least i₀ i = (i ≤ length e / 4) × ((k : ℕ) → k < i → EntryIs (EntryRight (joinedAtoms atoms more) kind) e k)
+Inv-loop atoms more kind e count limits i₀ i = (i ≤ length e / 4) × ((k : ℕ) → k < i → EntryIs (EntryRight (joinedAtoms atoms more) kind) e k)
 
 abbrev μ-loop : tie.MeasureT-loop
-μ-loop atoms more kind e count limits least i₀ i = length e / 4 - i
+μ-loop atoms more kind e count limits i₀ i = length e / 4 - i
 
 -- The limits are those for so many atoms.
 tables : (atoms more : List ℕ) (kind : ℕ) {limits : List ℕ} → limits ≡ limitsOf kind (length atoms / 4 + length more / 4)
@@ -38,12 +38,12 @@ wrong-entry-spec = tie.close (tie.spec Inv-loop μ-loop
     (λ c κs. search needs)  -- right-entry-requires
     (λ c. search needs)  -- add-i
     (λ c. search needs)  -- loop-less
-    (λ c. let at = c .before .before .before .before .before .before in let a = at .before .before .before .before .before .args in let one = c .before .right-entry in (
+    (λ c. let at = c .before .before .before .before .before in let a = at .before .before .before .before .before .args in let one = c .before .right-entry in (
       search needs,
       below-more _ _ (at .loop .inv .1) (entry-yes (joinedAtoms (a .atoms .now) (a .more .now)) (a .kind) (tables (a .atoms .now) (a .more .now) (a .kind) (at .before .limits .ensures)) (a .e .now)
           (at .loop .i) (one .result) (one .ensures) (c .if1 .taken)),
     ))  -- loop-again
-    (λ c. let at = c .before .before .before .before .before .before in let a = at .before .before .before .before .before .args in let one = c .before .right-entry in
+    (λ c. let at = c .before .before .before .before .before in let a = at .before .before .before .before .before .args in let one = c .before .right-entry in
     entry-wrong (joinedAtoms (a .atoms .now) (a .more .now)) (a .kind) (a .e .now) (at .loop .i) (search needs) (at .loop .inv .1)
     (entry-no (joinedAtoms (a .atoms .now) (a .more .now)) (a .kind) (tables (a .atoms .now) (a .more .now) (a .kind) (at .before .limits .ensures)) (a .e .now) (at .loop .i) (one .result) (one .ensures)
     (c .if1 .left)))  -- returns

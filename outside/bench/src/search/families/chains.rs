@@ -3,7 +3,7 @@
 use super::hats::bottom;
 use crate::search::shapes::*;
 use generate::certificate::replace;
-use generate::pairs::term_pair;
+use generate::pairs::{term_pair, SIGNING_KEYS};
 use generate::random::Random;
 use generate::sketch::Sketch;
 use literal::numbers::MOST_ENTRIES;
@@ -93,7 +93,7 @@ pub fn compared(random: &mut Random) -> Sketch {
 /// Chains of variables, each the pair of the next one with itself, that have
 /// no shared instance; what is sent on stands beside them.
 pub fn doubling(random: &mut Random) -> Sketch {
-    let mut sketch = base();
+    let mut sketch = with_signers(base());
     let no_secrets = [(nonce(), leaf(0)), (Term::Atom(KEY), leaf(1))];
     let term = replace(&long_pair(random).1, &no_secrets);
     let mut tried = 0;
@@ -114,6 +114,7 @@ pub fn doubling(random: &mut Random) -> Sketch {
 fn long_pair(random: &mut Random) -> (Term, Term) {
     loop {
         let (pattern, term) = term_pair(random.number());
+        let (pattern, term) = (with_own_signers(&pattern), with_own_signers(&term));
         let sizes = [pattern.size(), term.size()];
         if sizes
             .iter()
@@ -121,5 +122,17 @@ fn long_pair(random: &mut Random) -> (Term, Term) {
         {
             return (pattern, term);
         }
+    }
+}
+
+/// Its signatures are made with the keys of these files.
+fn with_own_signers(term: &Term) -> Term {
+    match term {
+        Term::Signature(message, key) => {
+            let is_first = *key == SIGNING_KEYS[0];
+            let signer = if is_first { SIGNER } else { OTHER_SIGNER };
+            Term::signature(with_own_signers(message), signer)
+        }
+        _ => term.with_parts(with_own_signers),
     }
 }

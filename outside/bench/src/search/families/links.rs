@@ -192,9 +192,7 @@ impl WithoutMarks for Term {
         match self {
             Term::Marked(number) => Term::Plain(*number),
             Term::MarkedNonce(number) => Term::PlainNonce(*number),
-            Term::Pair(left, right) => Term::pair(left.without_marks(), right.without_marks()),
-            Term::Encryption(message, key) => Term::encryption(message.without_marks(), *key),
-            _ => self.clone(),
+            _ => self.with_parts(Term::without_marks),
         }
     }
 }

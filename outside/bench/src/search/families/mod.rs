@@ -2,6 +2,7 @@
 
 mod chains;
 mod deep;
+mod hashes;
 mod hats;
 mod joined;
 mod links;
@@ -36,6 +37,7 @@ pub fn written() -> Vec<Family> {
     all.extend(with_marks_in_bads());
     all.extend(with_nonce_variables());
     all.extend(with_secrets_in_premises());
+    all.extend(with_hashes());
     all.push(family("generated", generated));
     all
 }
@@ -64,6 +66,19 @@ fn with_secrets_in_premises() -> [Family; 3] {
         family("open-secrets-closed", open_secrets::closed),
         family("open-secrets-behind", open_secrets::behind),
         family("open-secrets-last", open_secrets::last),
+    ]
+}
+
+fn with_hashes() -> [Family; 8] {
+    [
+        family("hashes-hidden", hashes::hidden),
+        family("hashes-beside", hashes::beside),
+        family("hashes-signers", hashes::signers),
+        family("hashes-compared", hashes::compared),
+        family("hashes-cyclic", hashes::cyclic),
+        family("hashes-fields", hashes::fields),
+        family("hashes-secrets", hashes::secrets),
+        family("hashes-marks", hashes::marks),
     ]
 }
 
