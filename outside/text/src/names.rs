@@ -1,8 +1,17 @@
-//! Which number a variable's name stands for.
+//! Which number a name stands for.
 
 use crate::sorts::{Sort, SORTS};
-use crate::tokens::Token;
+use crate::tokens::{Token, Word};
 use literal::numbers::VARIABLES;
+use literal::Term;
+
+/// The number of an atom.
+pub fn number_of(name: &str, names: &[String]) -> Result<u16, String> {
+    match names.iter().position(|n| n == name) {
+        Some(number) => Ok(number as u16),
+        None => Err(format!("there is no atom `{name}`")),
+    }
+}
 
 /// The names of the variables 0 to 7 of one sort in one block. A digit stands
 /// for its own number; any other name takes the lowest free number when it is
@@ -56,9 +65,9 @@ pub struct BlockVariables {
 }
 
 impl BlockVariables {
-    pub fn of(tokens: &[Token]) -> BlockVariables {
+    pub fn of(words: &[Word]) -> BlockVariables {
         let of_sort = |wanted: Sort| {
-            let names = tokens.iter().filter_map(move |token| match token {
+            let names = words.iter().filter_map(move |word| match &word.token {
                 Token::Variable(sort, name) if *sort == wanted => Some(name),
                 _ => None,
             });
@@ -72,5 +81,17 @@ impl BlockVariables {
     /// The number that the name stands for among those of its sort.
     pub fn number(&mut self, sort: Sort, name: &str) -> Result<u8, String> {
         self.by_sort[sort as usize].number(name)
+    }
+
+    /// The variables named so far and their names, sign included.
+    pub fn named(&self) -> Vec<(Term, String)> {
+        let of_sort = |sort: Sort| {
+            let numbered = (0..).zip(&self.by_sort[sort as usize].names);
+            numbered.filter_map(move |(number, name)| {
+                let name = name.as_ref()?;
+                Some((sort.variable(number), format!("{}{name}", sort.sign())))
+            })
+        };
+        SORTS.into_iter().flat_map(of_sort).collect()
     }
 }

@@ -1,5 +1,6 @@
 //! The words of one line.
 
+use crate::origin::Span;
 use crate::sorts::Sort;
 
 #[derive(Clone, Debug, PartialEq, Eq)]
@@ -13,6 +14,13 @@ pub enum Token {
     /// `h(` and `sig(`.
     Hash,
     Signature,
+}
+
+/// A token and where it stands.
+#[derive(Clone, Debug)]
+pub struct Word {
+    pub token: Token,
+    pub at: Span,
 }
 
 impl Token {
@@ -29,17 +37,49 @@ impl Token {
     }
 }
 
-/// The tokens of a line; a comment runs from `#` to the end of the line.
-pub fn tokens(line: &str) -> Result<Vec<Token>, String> {
-    let text = line.split('#').next().unwrap_or("");
-    let mut rest = text.trim_start();
+/// The words of a line; a comment runs from `#` to the end of the line.
+pub fn words(number: usize, line: &str) -> Result<Vec<Word>, String> {
+    let mut left = Left {
+        text: line.split('#').next().unwrap_or(""),
+        column: 1,
+    };
+    left.skip_spaces();
     let mut found = Vec::new();
-    while let Some(sign) = rest.chars().next() {
-        let (token, length) = first_token(sign, rest)?;
-        found.push(token);
-        rest = rest[length..].trim_start();
+    while let Some(sign) = left.text.chars().next() {
+        let (token, length) = first_token(sign, left.text)?;
+        let column = left.column;
+        let width = left.skip(length);
+        let line = number;
+        let at = Span {
+            line,
+            column,
+            width,
+        };
+        found.push(Word { token, at });
+        left.skip_spaces();
     }
     Ok(found)
+}
+
+/// What is left of a line, and the column where it begins.
+struct Left<'a> {
+    text: &'a str,
+    column: usize,
+}
+
+impl Left<'_> {
+    /// Goes on by so many bytes, and answers how many characters these are.
+    fn skip(&mut self, length: usize) -> usize {
+        let (skipped, rest) = self.text.split_at(length);
+        let width = skipped.chars().count();
+        self.text = rest;
+        self.column += width;
+        width
+    }
+
+    fn skip_spaces(&mut self) {
+        self.skip(self.text.len() - self.text.trim_start().len());
+    }
 }
 
 /// The token at the front and how many bytes it takes.
