@@ -3,22 +3,48 @@
 
 pub mod files;
 
+use std::io::{self, Read, Write};
 use std::process::ExitCode;
 use std::str::FromStr;
 
 /// Runs a program on the words of its command line. It ends well if it answers
 /// true; a message goes to standard error.
 pub fn run(program: impl FnOnce(&[&str]) -> Result<bool, String>) -> ExitCode {
-    let words: Vec<String> = std::env::args().skip(1).collect();
+    run_or_status(1, program)
+}
+
+/// The same, but after a message it ends with this status.
+pub fn run_or_status(
+    trouble: u8,
+    program: impl FnOnce(&[&str]) -> Result<bool, String>,
+) -> ExitCode {
+    let words = std::env::args_os().skip(1);
+    let words: Vec<String> = words.map(|word| word.to_string_lossy().into()).collect();
     let words: Vec<&str> = words.iter().map(String::as_str).collect();
     match program(&words) {
         Ok(true) => ExitCode::SUCCESS,
         Ok(false) => ExitCode::FAILURE,
         Err(message) => {
-            eprintln!("{message}");
-            ExitCode::FAILURE
+            // Where even this cannot be written, the status is left to tell.
+            let _ = writeln!(io::stderr(), "{message}");
+            ExitCode::from(trouble)
         }
     }
+}
+
+/// All of standard input.
+pub fn input() -> Result<Vec<u8>, String> {
+    let mut bytes = Vec::new();
+    let read = io::stdin().read_to_end(&mut bytes);
+    read.map_err(|error| format!("standard input: {error}"))?;
+    Ok(bytes)
+}
+
+/// Writes all of this to standard output, or tells why not.
+pub fn output(bytes: &[u8]) -> Result<(), String> {
+    let mut out = io::stdout();
+    let written = out.write_all(bytes).and_then(|()| out.flush());
+    written.map_err(|error| format!("standard output: {error}"))
 }
 
 pub fn number<T: FromStr>(word: &str) -> Result<T, String> {

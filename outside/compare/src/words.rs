@@ -20,7 +20,7 @@ pub fn entries(term: &str) -> Result<Vec<u8>, String> {
         .map(|n| format!("atom {} symmetric known\n", name(n)))
         .collect();
     let file = text::assemble(&format!("{atoms}good {term}"))
-        .map_err(|error| format!("{term}: {}", error.message))?;
+        .map_err(|error| format!("{term}: expected {}, found {}", error.expected, error.found))?;
     let block = &file[file.len() - BLOCK..];
     Ok(block[HEADER..entry_at(first_count(block))].to_vec())
 }

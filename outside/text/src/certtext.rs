@@ -1,30 +1,27 @@
-//! `certtext assemble < in.txt > out.cert` and `certtext print < in.cert`.
+//! `certtext assemble [NAME] < in.txt > out.cert` and `certtext print < in.cert`.
+//! Any trouble ends it with status 2.
 
-use std::io::{self, Read, Write};
+use command::{input, output, run_or_status};
 use std::process::ExitCode;
 
+const USAGE: &str = "certtext assemble [NAME] < in.txt > out.cert, or print < in.cert";
+
 fn main() -> ExitCode {
-    command::run(|words| run(words).map(|()| true))
+    run_or_status(2, |words| run(words).map(|()| true))
 }
 
 fn run(words: &[&str]) -> Result<(), String> {
     let out = match words {
-        ["assemble"] => assembled(&input()?)?,
+        ["assemble"] => assembled("standard input", &input()?)?,
+        ["assemble", name] => assembled(name, &input()?)?,
         ["print"] => text::print(&input()?).into_bytes(),
-        _ => return Err("certtext assemble < in.txt > out.cert, or print < in.cert".to_string()),
+        _ => return Err(USAGE.to_string()),
     };
-    io::stdout().write_all(&out).map_err(|e| e.to_string())
+    output(&out)
 }
 
-fn input() -> Result<Vec<u8>, String> {
-    let mut bytes = Vec::new();
-    io::stdin()
-        .read_to_end(&mut bytes)
-        .map_err(|e| e.to_string())?;
-    Ok(bytes)
-}
-
-fn assembled(bytes: &[u8]) -> Result<Vec<u8>, String> {
-    let text = std::str::from_utf8(bytes).map_err(|_| "the text is not UTF-8".to_string())?;
-    text::assemble(text).map_err(|error| error.to_string())
+/// The blocks of a text; errors call it by this name.
+fn assembled(name: &str, bytes: &[u8]) -> Result<Vec<u8>, String> {
+    let assembled = text::text_of(bytes).and_then(text::assemble);
+    assembled.map_err(|error| error.told(name, &String::from_utf8_lossy(bytes)))
 }

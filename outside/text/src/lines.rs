@@ -1,21 +1,32 @@
 //! The lines of a text that are not empty.
 
-use crate::assemble::Error;
+use crate::encoding::lone_return;
+use crate::error::Error;
+use crate::hints;
 use crate::origin::Span;
-use crate::tokens::{words, Token, Word};
+use crate::reader::Reader;
+use crate::tokens::{words, Word};
+use literal::numbers::kind;
+
+/// The first words of lines, and the kinds of block that these are for.
+pub const KEYWORDS: [(&str, u8); 5] = [
+    ("atom", kind::ATOMS),
+    ("secret", kind::SECRET),
+    ("good", kind::GOOD),
+    ("bad", kind::BAD),
+    ("rule", kind::RULE),
+];
 
 pub struct Line {
-    pub number: usize,
+    pub kind: u8,
     /// At least one.
     pub words: Vec<Word>,
 }
 
 impl Line {
-    pub fn error(&self, message: &str) -> Error {
-        Error {
-            line: self.number,
-            message: message.to_string(),
-        }
+    fn of(words: Vec<Word>) -> Result<Line, Error> {
+        let kind = Reader::of(&words).one_of(&KEYWORDS)?;
+        Ok(Line { kind, words })
     }
 
     /// The line without its comment and outer spaces.
@@ -24,33 +35,35 @@ impl Line {
         self.words[0].at.up_to(last)
     }
 
-    fn is_atom(&self) -> bool {
-        self.words[0].token == Token::Name("atom".to_string())
+    /// Its words behind the first.
+    pub fn reader(&self) -> Reader<'_> {
+        let mut reader = Reader::of(&self.words);
+        reader.skip();
+        reader
     }
 }
 
 pub fn lines(text: &str) -> Result<Vec<Line>, Error> {
-    let mut lines = Vec::new();
-    for (i, line) in text.lines().enumerate() {
-        let number = i + 1;
-        let words = words(number, line).map_err(|message| Error {
-            line: number,
-            message,
-        })?;
-        if !words.is_empty() {
-            lines.push(Line { number, words });
-        }
+    if let Some(error) = lone_return(text) {
+        return Err(error);
     }
-    Ok(lines)
+    let numbered = (1..).zip(text.lines());
+    let words = numbered.map(|(number, line)| words(number, line));
+    let not_empty = words.filter(|words| !words.is_empty());
+    not_empty.map(Line::of).collect()
 }
 
 /// The atom lines, and the lines after them.
-pub fn split(lines: &[Line]) -> Result<(Vec<&Line>, Vec<&Line>), Error> {
-    let (atoms, others): (Vec<&Line>, Vec<&Line>) = lines.iter().partition(|l| l.is_atom());
-    if let (Some(last), Some(first)) = (atoms.last(), others.first()) {
-        if last.number > first.number {
-            return Err(last.error("atoms come before all other lines"));
+pub fn split(lines: &[Line]) -> Result<(&[Line], &[Line]), Error> {
+    let is_atom = |line: &Line| line.kind == kind::ATOMS;
+    let end = lines.iter().position(|line| !is_atom(line));
+    let (atoms, others) = lines.split_at(end.unwrap_or(lines.len()));
+    match others.iter().find(|line| is_atom(line)) {
+        Some(late) => {
+            let expected = "`secret`, `good`, `bad` or `rule`";
+            let error = Error::new(late.words[0].at, expected, "`atom`");
+            Err(error.or_hint(hints::ATOMS_FIRST))
         }
+        None => Ok((atoms, others)),
     }
-    Ok((atoms, others))
 }

@@ -18,6 +18,15 @@ impl Span {
             ..self
         }
     }
+
+    /// The one character behind this piece.
+    pub fn behind(self) -> Span {
+        Span {
+            column: self.column + self.width,
+            width: 1,
+            ..self
+        }
+    }
 }
 
 /// Where a block of an assembled text comes from.

@@ -28,6 +28,21 @@ impl Sort {
         }
     }
 
+    /// The sort in words.
+    pub fn words(self) -> &'static str {
+        match self {
+            Sort::Plain => "plain",
+            Sort::Marked => "marked",
+            Sort::PlainNonce => "plain nonce",
+            Sort::MarkedNonce => "marked nonce",
+        }
+    }
+
+    /// The variable of this name, as the text writes it.
+    pub fn named(self, name: &str) -> String {
+        format!("{}{name}", self.sign())
+    }
+
     pub fn variable(self, number: u8) -> Term {
         match self {
             Sort::Plain => Term::Plain(number),
@@ -47,5 +62,5 @@ pub fn shown(term: &Term) -> Option<String> {
         Term::MarkedNonce(number) => (Sort::MarkedNonce, number),
         _ => return None,
     };
-    Some(format!("{}{number}", sort.sign()))
+    Some(sort.named(&number.to_string()))
 }

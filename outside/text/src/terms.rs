@@ -1,26 +1,29 @@
 //! Secrets, patterns and rules: the terms of a line.
 
+use crate::error::Error;
+use crate::hints;
 use crate::lines::Line;
-use crate::names::{number_of, BlockVariables};
+use crate::names::{near_atom, no_atom, number_of, BlockVariables};
 use crate::origin::{BlockOrigin, Span};
+use crate::reader::Reader;
+use crate::sorts::Sort;
 use crate::tokens::{Token, Word};
 use literal::block::sealed;
 use literal::numbers::{kind, MOST_ENTRIES};
 use literal::{encode, Term};
 
 /// The sealed block of a line of terms, and where its parts come from.
-pub fn term_block(line: &Line, names: &[String]) -> Result<(Vec<u8>, BlockOrigin), String> {
-    let Token::Name(word) = &line.words[0].token else {
-        let found = line.words[0].token.shown();
-        return Err(format!("a line cannot begin with {found}"));
+pub fn term_block(line: &Line, names: &[String]) -> Result<(Vec<u8>, BlockOrigin), Error> {
+    let mut terms = Terms {
+        words: &line.words,
+        reader: line.reader(),
+        names,
+        variables: BlockVariables::of(&line.words),
+        entries: Vec::new(),
     };
-    let mut terms = Terms::of(line, names);
-    let block = match word.as_str() {
-        "secret" => terms.one(kind::SECRET)?,
-        "good" => terms.one(kind::GOOD)?,
-        "bad" => terms.one(kind::BAD)?,
-        "rule" => terms.rule()?,
-        _ => return Err(format!("a line cannot begin with `{word}`")),
+    let block = match line.kind {
+        kind::RULE => terms.rule()?,
+        kind => terms.one(kind)?,
     };
     let origin = BlockOrigin {
         line: line.span(),
@@ -30,135 +33,173 @@ pub fn term_block(line: &Line, names: &[String]) -> Result<(Vec<u8>, BlockOrigin
     Ok((block, origin))
 }
 
-/// The words left of a line, from which terms are read.
+/// Reads the terms of one line.
 struct Terms<'a> {
-    left: &'a [Word],
+    words: &'a [Word],
+    reader: Reader<'a>,
     names: &'a [String],
     variables: BlockVariables,
     /// Where the entries read so far stand.
     entries: Vec<Span>,
-    /// Where the last word read stands.
-    last: Span,
 }
 
-impl<'a> Terms<'a> {
-    fn of(line: &'a Line, names: &'a [String]) -> Terms<'a> {
-        Terms {
-            left: &line.words[1..],
-            names,
-            variables: BlockVariables::of(&line.words),
-            entries: Vec::new(),
-            last: line.words[0].at,
-        }
-    }
-
+impl Terms<'_> {
     /// The block of a line with one term.
-    fn one(&mut self, kind: u8) -> Result<Vec<u8>, String> {
+    fn one(&mut self, kind: u8) -> Result<Vec<u8>, Error> {
         let term = self.whole_term()?;
         self.end()?;
         Ok(sealed(kind, &term, &[]))
     }
 
-    fn rule(&mut self) -> Result<Vec<u8>, String> {
-        let has_premise = self.left.first().map(|word| &word.token) != Some(&Token::Arrow);
-        let premise = match has_premise {
-            true => self.whole_term()?,
-            false => Vec::new(),
+    fn rule(&mut self) -> Result<Vec<u8>, Error> {
+        let premise = match self.reader.peek() {
+            Some(Token::Arrow) => Vec::new(),
+            _ => self.whole_term()?,
         };
-        self.expect(Token::Arrow)?;
+        let hint = match self.reader.peek() {
+            Some(Token::Sign(',')) => hints::PREMISE,
+            _ => hints::RULE,
+        };
+        self.expect(Token::Arrow, Some(hint))?;
         let conclusion = self.whole_term()?;
         self.end()?;
         Ok(sealed(kind::RULE, &premise, &conclusion))
     }
 
     /// The entries of the next term.
-    fn whole_term(&mut self) -> Result<Vec<u8>, String> {
+    fn whole_term(&mut self) -> Result<Vec<u8>, Error> {
+        let root = self.entries.len();
         let term = self.term(1)?;
         let size = term.size();
         if size > MOST_ENTRIES {
-            return Err(format!(
-                "a term of {size} entries; {MOST_ENTRIES} is the most"
-            ));
+            return Err(too_long(self.entries[root], &format!("one of {size}")));
         }
         Ok(encode(&term))
     }
 
     /// The next term, which is so deep in the whole one. Its entry stands
     /// before those of its parts, and its piece ends where they have ended.
-    fn term(&mut self, depth: usize) -> Result<Term, String> {
+    fn term(&mut self, depth: usize) -> Result<Term, Error> {
+        let first = self.reader.at();
         if depth > MOST_ENTRIES {
-            return Err(format!("a term nested more than {MOST_ENTRIES} deep"));
+            return Err(too_long(first, "one that is nested deeper"));
         }
-        let first = self.next("a term")?;
         let entry = self.entries.len();
-        self.entries.push(first.at);
-        let term = self.term_from(first, depth)?;
-        self.entries[entry] = first.at.up_to(self.last);
+        self.entries.push(first);
+        let term = self.by_first_word(depth)?;
+        self.entries[entry] = first.up_to(self.reader.last());
         Ok(term)
     }
 
-    /// The term that begins with this word.
-    fn term_from(&mut self, first: &Word, depth: usize) -> Result<Term, String> {
-        match &first.token {
-            Token::Name(name) => Ok(Term::Atom(number_of(name, self.names)?)),
-            Token::Variable(sort, name) => Ok(sort.variable(self.variables.number(*sort, name)?)),
-            Token::Sign('(') => {
-                let left = self.message(depth, ',')?;
-                let right = self.message(depth, ')')?;
+    fn by_first_word(&mut self, depth: usize) -> Result<Term, Error> {
+        match self.reader.peek() {
+            Some(Token::Name(_)) => Ok(Term::Atom(self.atom("an atom's name")?)),
+            Some(Token::Variable(sort, name)) => self.variable(*sort, name),
+            Some(Token::Sign('(')) => {
+                self.reader.skip();
+                let left = self.part(depth, ',', hints::PAIR)?;
+                let right = self.part(depth, ')', hints::TUPLE)?;
                 Ok(Term::pair(left, right))
             }
-            Token::Sign('{') => {
+            Some(Token::Sign('{')) => {
                 let message = self.message(depth, '}')?;
-                Ok(Term::encryption(message, self.key()?))
+                Ok(Term::encryption(message, self.key(hints::ENCRYPTION)?))
             }
-            Token::Hash => Ok(Term::hash(self.message(depth, ')')?)),
-            Token::Signature => {
+            Some(Token::Hash) => Ok(Term::hash(self.message(depth, ')')?)),
+            Some(Token::Signature) => {
                 let message = self.message(depth, ')')?;
-                Ok(Term::signature(message, self.key()?))
+                Ok(Term::signature(message, self.key(hints::SIGNATURE)?))
             }
-            other => Err(format!("a term cannot begin with {}", other.shown())),
+            _ => Err(self.reader.error("a term")),
         }
     }
 
-    /// One term up to this sign.
-    fn message(&mut self, depth: usize, end: char) -> Result<Term, String> {
-        let message = self.term(depth + 1)?;
-        self.expect(Token::Sign(end))?;
-        Ok(message)
+    /// Behind the next word, which opens it, one term up to this sign.
+    fn message(&mut self, depth: usize, end: char) -> Result<Term, Error> {
+        self.reader.skip();
+        self.part(depth, end, hints::MESSAGE)
     }
 
-    fn key(&mut self) -> Result<u16, String> {
-        match &self.next("a key's name")?.token {
-            Token::Name(name) => number_of(name, self.names),
-            other => Err(format!("a key's name must stand for {}", other.shown())),
-        }
+    /// One term up to this sign. The hint is for another number of terms.
+    fn part(&mut self, depth: usize, end: char, hint: &str) -> Result<Term, Error> {
+        let part = self.term(depth + 1)?;
+        let is_other_number = matches!(self.reader.peek(), Some(Token::Sign(',' | ')')));
+        self.expect(Token::Sign(end), is_other_number.then_some(hint))?;
+        Ok(part)
     }
 
-    fn next(&mut self, wanted: &str) -> Result<&'a Word, String> {
-        let Some((first, rest)) = self.left.split_first() else {
-            return Err(format!("the line ends where {wanted} must stand"));
+    fn variable(&mut self, sort: Sort, name: &str) -> Result<Term, Error> {
+        let number = self.variables.number(sort, name, self.reader.at())?;
+        self.reader.skip();
+        Ok(sort.variable(number))
+    }
+
+    fn key(&mut self, hint: &str) -> Result<u16, Error> {
+        let hint = match self.reader.peek() {
+            Some(Token::Variable(..)) => hints::VARIABLE_KEY,
+            _ => hint,
         };
-        self.left = rest;
-        self.last = first.at;
-        Ok(first)
+        match self.reader.peek() {
+            Some(Token::Name(_)) => self.atom("a key's name"),
+            _ => Err(self.reader.error("a key's name").or_hint(hint)),
+        }
     }
 
-    fn expect(&mut self, wanted: Token) -> Result<(), String> {
-        let found = &self.next(&wanted.shown())?.token;
-        if *found == wanted {
+    /// The number of the atom that is named next.
+    fn atom(&mut self, expected: &str) -> Result<u16, Error> {
+        let (name, at) = self.reader.name(expected)?;
+        let Some(number) = number_of(name, self.names) else {
+            let hint = self.call_hint().or_else(|| hints::on_form(name));
+            let hint = hint.or_else(|| self.variable_hint(name));
+            let error = no_atom(at, expected, name).or_maybe(hint);
+            return Err(error.or_maybe(near_atom(name, self.names)));
+        };
+        Ok(number)
+    }
+
+    /// If a name is read and `(` stands behind it.
+    fn call_hint(&self) -> Option<String> {
+        match (self.reader.before(), self.reader.peek()) {
+            (Some(Token::Name(name)), Some(Token::Sign('('))) => Some(hints::on_call(name)),
+            _ => None,
+        }
+    }
+
+    /// If the line has a variable of this name.
+    fn variable_hint(&self, name: &str) -> Option<String> {
+        let sort = self.words.iter().find_map(|word| match &word.token {
+            Token::Variable(sort, other) if other == name => Some(sort),
+            _ => None,
+        })?;
+        Some(format!("a variable is written `{}`", sort.named(name)))
+    }
+
+    /// Reads this token. The hint is for others than `(` behind a name.
+    fn expect(&mut self, wanted: Token, hint: Option<&str>) -> Result<(), Error> {
+        if self.reader.peek() == Some(&wanted) {
+            self.reader.skip();
             return Ok(());
         }
-        Err(format!(
-            "{} must stand for {}",
-            wanted.shown(),
-            found.shown()
-        ))
+        let error = self
+            .reader
+            .error(&wanted.shown())
+            .or_maybe(self.call_hint());
+        Err(error.or_maybe(hint.map(str::to_string)))
     }
 
-    fn end(&self) -> Result<(), String> {
-        match self.left.first() {
-            None => Ok(()),
-            Some(word) => Err(format!("the line must end before {}", word.token.shown())),
-        }
+    fn end(&self) -> Result<(), Error> {
+        let hint = match self.reader.peek() {
+            Some(Token::Arrow) => hints::ONE_ARROW,
+            Some(Token::Sign(')' | '}')) => hints::NOTHING_OPEN,
+            _ => hints::TUPLE,
+        };
+        let end = self.reader.end();
+        end.map_err(|error| error.or_maybe(self.call_hint()).or_hint(hint))
     }
+}
+
+/// That the term, or what stands there of it, has too many entries.
+fn too_long(at: Span, found: &str) -> Error {
+    let expected = format!("a term of at most {MOST_ENTRIES} entries");
+    Error::new(at, &expected, found).or_hint(hints::ENTRIES)
 }

@@ -1,5 +1,6 @@
 //! The words of one line.
 
+use crate::letters::{quoted, told_sign};
 use crate::origin::Span;
 use crate::sorts::Sort;
 
@@ -14,6 +15,8 @@ pub enum Token {
     /// `h(` and `sig(`.
     Hash,
     Signature,
+    /// What means nothing in the text form.
+    Strange(String),
 }
 
 /// A token and where it stands.
@@ -29,16 +32,17 @@ impl Token {
         match self {
             Token::Sign(sign) => format!("`{sign}`"),
             Token::Arrow => "`->`".to_string(),
-            Token::Name(name) => format!("`{name}`"),
-            Token::Variable(sort, name) => format!("`{}{name}`", sort.sign()),
+            Token::Name(name) => quoted(name),
+            Token::Variable(sort, name) => quoted(&sort.named(name)),
             Token::Hash => "`h(`".to_string(),
             Token::Signature => "`sig(`".to_string(),
+            Token::Strange(sign) => told_sign(sign),
         }
     }
 }
 
 /// The words of a line; a comment runs from `#` to the end of the line.
-pub fn words(number: usize, line: &str) -> Result<Vec<Word>, String> {
+pub fn words(number: usize, line: &str) -> Vec<Word> {
     let mut left = Left {
         text: line.split('#').next().unwrap_or(""),
         column: 1,
@@ -46,7 +50,7 @@ pub fn words(number: usize, line: &str) -> Result<Vec<Word>, String> {
     left.skip_spaces();
     let mut found = Vec::new();
     while let Some(sign) = left.text.chars().next() {
-        let (token, length) = first_token(sign, left.text)?;
+        let (token, length) = first_token(sign, left.text);
         let column = left.column;
         let width = left.skip(length);
         let line = number;
@@ -58,7 +62,7 @@ pub fn words(number: usize, line: &str) -> Result<Vec<Word>, String> {
         found.push(Word { token, at });
         left.skip_spaces();
     }
-    Ok(found)
+    found
 }
 
 /// What is left of a line, and the column where it begins.
@@ -83,19 +87,29 @@ impl Left<'_> {
 }
 
 /// The token at the front and how many bytes it takes.
-fn first_token(sign: char, rest: &str) -> Result<(Token, usize), String> {
+fn first_token(sign: char, rest: &str) -> (Token, usize) {
     match sign {
-        '(' | ')' | '{' | '}' | ',' => Ok((Token::Sign(sign), 1)),
-        '-' if rest.starts_with("->") => Ok((Token::Arrow, 2)),
+        '(' | ')' | '{' | '}' | ',' => (Token::Sign(sign), 1),
+        '-' | '=' => arrow(rest),
         '?' | '*' => variable(sign, rest),
-        '<' | '>' => Err("flat tuples (`<` and `>`) are not in the base".to_string()),
-        _ => {
-            let name = name_at(rest);
-            if name.is_empty() {
-                return Err(format!("`{sign}` has no meaning here"));
-            }
-            Ok(word(name, &rest[name.len()..]))
-        }
+        _ => match name_at(rest) {
+            "" if rest.starts_with("//") => strange("//"),
+            "" => strange(&rest[..sign.len_utf8()]),
+            name => word(name, &rest[name.len()..]),
+        },
+    }
+}
+
+fn strange(sign: &str) -> (Token, usize) {
+    (Token::Strange(sign.to_string()), sign.len())
+}
+
+/// The arrow, or what only resembles it, such as `=>`.
+fn arrow(rest: &str) -> (Token, usize) {
+    let end = rest.find(|c: char| !['-', '=', '>'].contains(&c));
+    match &rest[..end.unwrap_or(rest.len())] {
+        "->" => (Token::Arrow, 2),
+        other => strange(other),
     }
 }
 
@@ -110,7 +124,7 @@ fn word(name: &str, after: &str) -> (Token, usize) {
 }
 
 /// The variable at the front and how many bytes it takes.
-fn variable(sign: char, rest: &str) -> Result<(Token, usize), String> {
+fn variable(sign: char, rest: &str) -> (Token, usize) {
     let is_nonce = name_at(&rest[1..]) == "n" && rest[2..].starts_with('!');
     let sort = match (sign, is_nonce) {
         ('?', false) => Sort::Plain,
@@ -119,15 +133,13 @@ fn variable(sign: char, rest: &str) -> Result<(Token, usize), String> {
         (_, true) => Sort::MarkedNonce,
     };
     let sign = sort.sign();
-    let name = name_at(&rest[sign.len()..]);
-    if name.is_empty() {
-        return Err(format!("`{sign}` needs a variable's name"));
+    match name_at(&rest[sign.len()..]) {
+        "" => strange(sign),
+        name => {
+            let token = Token::Variable(sort, name.to_string());
+            (token, sign.len() + name.len())
+        }
     }
-    let length = sign.len() + name.len();
-    if rest[length..].starts_with('!') {
-        return Err(format!("`!` cannot stand after `{sign}{name}`"));
-    }
-    Ok((Token::Variable(sort, name.to_string()), length))
 }
 
 /// Letters, digits, `_` and `'` at the front.

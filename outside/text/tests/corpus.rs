@@ -48,10 +48,9 @@ fn lines_from_texts() {
         let assembled = text::assemble(&text);
         if needs_later_tags(&text) {
             let error = assembled.expect_err(&name);
-            assert!(
-                error.message.ends_with("not in the base"),
-                "{name}: {error}"
-            );
+            assert_eq!(error.found, "`<`", "{name}: {error}");
+            let hint = error.hint.expect(&name);
+            assert!(hint.contains("not in force"), "{name}: {hint}");
             continue;
         }
         let assembled = assembled.unwrap_or_else(|error| panic!("{name}: {error}"));

@@ -1,6 +1,21 @@
 //! What several of these tests use.
 
-use text::Span;
+#![allow(dead_code)] // Each test program uses some of it.
+
+use text::document::{ATOMS, GOOD, SECRETS};
+use text::{assemble, Span};
+
+/// The checker's line on these lines after the document's atoms.
+pub fn line_of(rest: &str) -> String {
+    let bytes = assemble(&format!("{ATOMS}{rest}")).unwrap();
+    let line = literal::line(&literal::verdict(&bytes));
+    String::from_utf8(line).unwrap().trim_end().to_string()
+}
+
+/// The usual secrets and good pattern, and these lines.
+pub fn usual(rest: &str) -> String {
+    line_of(&format!("{SECRETS}{GOOD}{rest}"))
+}
 
 /// The piece of the text that a span names; it must be there.
 pub fn cut(text: &str, at: Span) -> String {
