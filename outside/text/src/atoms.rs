@@ -12,14 +12,16 @@ use crate::tokens::Token;
 use literal::block::sealed;
 use literal::numbers::{atom_kind, kind, ENTRIES, ENTRY, MOST_ATOMS};
 
-const KINDS: [(&str, u8); 5] = [
+/// The kinds of atoms.
+pub const KINDS: [(&str, u8); 5] = [
     ("principal", atom_kind::PRINCIPAL),
     ("nonce", atom_kind::NONCE),
     ("public", atom_kind::PUBLIC),
     ("private", atom_kind::PRIVATE),
     ("symmetric", atom_kind::SYMMETRIC),
 ];
-const KNOWN: [(&str, u8); 2] = [("known", 1), ("unknown", 0)];
+/// Whether an atom is known.
+pub const KNOWN: [(&str, u8); 2] = [("known", 1), ("unknown", 0)];
 
 pub fn atom_names(atoms: &[Line]) -> Result<Vec<String>, Error> {
     let mut names: Vec<String> = Vec::new();

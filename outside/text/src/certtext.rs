@@ -1,10 +1,10 @@
-//! `certtext assemble [NAME] < in.txt > out.cert` and `certtext print < in.cert`.
-//! Any trouble ends it with status 2.
+//! `certtext assemble [NAME] < in.txt > out.cert` and
+//! `certtext print [--entries] < in.cert`. Any trouble ends it with status 2.
 
 use command::{input, output, run_or_status};
 use std::process::ExitCode;
 
-const USAGE: &str = "certtext assemble [NAME] < in.txt > out.cert, or print < in.cert";
+const USAGE: &str = "certtext assemble [NAME] < in.txt > out.cert, or print [--entries] < in.cert";
 
 fn main() -> ExitCode {
     run_or_status(2, |words| run(words).map(|()| true))
@@ -15,6 +15,7 @@ fn run(words: &[&str]) -> Result<(), String> {
         ["assemble"] => assembled("standard input", &input()?)?,
         ["assemble", name] => assembled(name, &input()?)?,
         ["print"] => text::print(&input()?).into_bytes(),
+        ["print", "--entries"] => text::print_entries(&input()?).into_bytes(),
         _ => return Err(USAGE.to_string()),
     };
     output(&out)

@@ -24,4 +24,4 @@ pub use encoding::text_of;
 pub use error::Error;
 pub use origin::{Assembled, BlockOrigin, Span};
 pub use pointed::pointed;
-pub use print::print;
+pub use print::{print, print_entries};

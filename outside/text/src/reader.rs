@@ -100,6 +100,12 @@ impl<'a> Reader<'a> {
     }
 }
 
+/// The word that stands for this, if one does.
+pub fn word_for(meaning: u8, choices: &[(&'static str, u8)]) -> Option<&'static str> {
+    let (word, _) = choices.iter().find(|(_, other)| *other == meaning)?;
+    Some(word)
+}
+
 /// The words as a choice: `a`, `b` or `c`.
 fn listed(words: &[&str]) -> String {
     let quoted: Vec<String> = words.iter().map(|word| format!("`{word}`")).collect();

@@ -2,7 +2,7 @@
 
 mod common;
 
-use common::{line_of, usual};
+use common::{line_of, notes, usual, NONE};
 use text::document::{nonces, ATOMS, GOOD, SECRETS};
 use text::{assemble, print};
 
@@ -59,8 +59,8 @@ fn marks_in_bad_patterns() {
     ];
     assert_eq!(entries.take(8).collect::<Vec<_>>(), expected);
     let printed = print(&file);
-    assert!(printed.contains("\nbad {(?0, (*0, (*1, *0)))}k2\n"));
-    assert!(!printed.contains('#'));
+    assert!(printed.contains("\nbad {(?0, (*0, (*1, *0)))}k2  # block 4\n"));
+    assert_eq!(notes(&printed), NONE);
     assert_eq!(assemble(&printed), Ok(file));
     let accepted = "accepted blocks=6 secrets=2 good=1 bad=1 rules=1";
     assert_eq!(
@@ -89,10 +89,10 @@ fn nonce_variables() {
     assert_eq!(good, expected);
     assert_eq!(tags_and_numbers(4, 0, 4), [(6, 0), (2, 0), (4, 0), (6, 0)]);
     let printed = print(&file);
-    let good = "\ngood {(?0, (*0, (?n!0, (*n!0, (?n!1, (?n!7, *n!1))))))}k2\n";
+    let good = "\ngood {(?0, (*0, (?n!0, (*n!0, (?n!1, (?n!7, *n!1))))))}k2  # block 3\n";
     assert!(printed.contains(good), "{printed}");
-    assert!(printed.ends_with("\nrule ?n!0 -> (?0, ?n!0)\n"));
-    assert!(!printed.contains('#'));
+    assert!(printed.ends_with("\nrule ?n!0 -> (?0, ?n!0)  # block 4\n"));
+    assert_eq!(notes(&printed), NONE);
     assert_eq!(assemble(&printed), Ok(file));
 }
 
@@ -102,7 +102,7 @@ fn variables_named_n() {
     let file = assemble(&format!("{ATOMS}rule ?n -> (?n, (?n!n, ?m))")).unwrap();
     let printed = print(&file);
     assert!(
-        printed.ends_with("\nrule ?0 -> (?0, (?n!0, ?1))\n"),
+        printed.ends_with("\nrule ?0 -> (?0, (?n!0, ?1))  # block 1\n"),
         "{printed}"
     );
 }
@@ -150,11 +150,11 @@ fn hashes_and_signatures() {
         "rule sig(?0)k5 -> (?0, (h((n6, ?1)), {sig((h(n7), n6))k3}k2))",
     ] {
         assert!(
-            printed.contains(&format!("\n{line}\n")),
+            printed.contains(&format!("\n{line}  # block")),
             "{line}\n{printed}"
         );
     }
-    assert!(!printed.contains('#'));
+    assert_eq!(notes(&printed), NONE);
     assert_eq!(assemble(&printed), Ok(file));
     assert_eq!(
         line_of(lines),
@@ -172,7 +172,7 @@ fn atoms_named_h_and_sig() {
         secret sig\nsecret sig(h)sig\nrule (h, ?h) -> (sig(h)sig, (h(h), (h(sig), {h}H)))\n";
     let file = assemble(&format!("{atoms}{lines}")).unwrap();
     let printed = print(&file);
-    let rule = "\nrule (n0, ?0) -> (sig(n0)k1, (h(n0), (h(k1), {n0}k2)))\n";
+    let rule = "\nrule (n0, ?0) -> (sig(n0)k1, (h(n0), (h(k1), {n0}k2)))  # block 3\n";
     assert!(printed.ends_with(rule), "{printed}");
 }
 
@@ -202,7 +202,7 @@ fn a_second_block_of_atoms() {
     assert_eq!(literal::line(&literal::verdict(&file)), accepted.as_bytes());
     let printed = print(&file);
     assert!(printed.contains("\natom k125 public known partner k127\n"));
-    assert!(printed.ends_with("\nrule {n0}k126 -> {k126}k125\n"));
-    assert!(!printed.contains('#'));
+    assert!(printed.ends_with("\nrule {n0}k126 -> {k126}k125  # block 5\n"));
+    assert_eq!(notes(&printed), NONE);
     assert_eq!(assemble(&printed), Ok(file));
 }

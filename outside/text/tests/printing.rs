@@ -2,10 +2,10 @@
 
 mod common;
 
-use common::usual;
+use common::{notes, usual, NONE};
 use literal::{Refusal, Verdict};
 use text::document::{nonces, ATOMS};
-use text::{assemble, print};
+use text::{assemble, print, print_entries};
 
 #[test]
 fn notes_on_nonce_variables() {
@@ -30,7 +30,7 @@ fn notes_on_hashes_and_signatures() {
         let words = "# block 1: entry 0: is no private key\n";
         assert!(printed.contains(words), "{printed}");
     }
-    assert!(!signed("KIi").contains('#'));
+    assert_eq!(notes(&signed("KIi")), NONE);
     assert_eq!(
         usual("rule -> sig(T)KA"),
         "refused 7 block=4 place=0",
@@ -68,7 +68,7 @@ fn notes_on_atom_blocks() {
     let not_full = printed(127, |file| file[1] = 125);
     assert!(not_full.contains("# block 1: atoms after a block of atoms that is not full\n"));
     assert!(not_full.contains("# block 1: entry 0: atom of kind 2, known 1, partner 0\n"));
-    assert!(not_full.ends_with("\nsecret n0\n"));
+    assert!(not_full.ends_with("\nsecret n0  # block 2\n"));
     let third = printed(127, |file| file[1024] = 1);
     assert!(third.contains("# block 2: more than 2 blocks of atoms\n"));
     assert!(third.contains("\natom n126 nonce known\n"));
@@ -114,11 +114,11 @@ fn round_trips_of_generated_files() {
         };
         if whole {
             assert_eq!(assemble(&printed), Ok(file), "seed {seed}");
-            assert!(!printed.contains('#'), "seed {seed}");
+            assert_eq!(notes(&printed), NONE, "seed {seed}");
             same += 1;
         } else {
             assert!(
-                printed.contains('#') || is_partner_fault(&file),
+                notes(&printed) != NONE || is_partner_fault(&file),
                 "seed {seed}\n{printed}"
             );
         }
@@ -168,4 +168,97 @@ fn notes_in_words() {
     ] {
         assert!(printed.contains(words), "{words}\n{printed}");
     }
+}
+
+#[test]
+fn numbers_of_blocks() {
+    let lines = "atom M nonce known\nsecret N\nrule -> {N}KA\nrule ?x -> ?x";
+    let printed = print(&assemble(&format!("{ATOMS}{lines}")).unwrap());
+    assert!(printed.starts_with("# block 0: atoms 0 to 8\natom a0 principal known\n"));
+    let rest = "\
+atom n8 nonce known
+secret n6  # block 1
+rule -> {n6}k2  # block 2
+rule ?0 -> ?0  # block 3
+";
+    assert!(printed.ends_with(rest), "{printed}");
+    assert_eq!(notes(&printed), NONE);
+    let two = print(&assemble(&(nonces(131) + "secret x130")).unwrap());
+    assert!(two.starts_with("# block 0: atoms 0 to 125\natom n0 nonce known\n"));
+    assert!(two.contains("\n# block 1: atoms 126 to 130\natom n126 nonce known\n"));
+    assert!(two.ends_with("\nsecret n130  # block 2\n"));
+}
+
+#[test]
+fn numbers_of_entries() {
+    let lines = "\
+        good {(*s, ?n!x)}KA\nrule {?x}KA -> {?x}KI\nrule -> h((T, sig(T)KIi))\n";
+    let file = assemble(&format!("atom B nonce known\n{ATOMS}{lines}")).unwrap();
+    let printed = print_entries(&file);
+    assert!(printed.starts_with(
+        "\
+# block 0: atoms 0 to 8
+atom n0 nonce known  # block 0, entry 0
+atom a1 principal known  # block 0, entry 1
+"
+    ));
+    let rest = "\
+atom n8 nonce known  # block 0, entry 8
+good {(*0, ?n!0)}k3  # block 1
+#     0 {(*0, ?n!0)}k3
+#     1   (*0, ?n!0)
+#     2     *0
+#     3     ?n!0
+rule {?0}k3 -> {?0}k5  # block 2
+#   premise
+#     0 {?0}k3
+#     1   ?0
+#   conclusion
+#     2 {?0}k5
+#     3   ?0
+rule -> h((n8, sig(n8)k6))  # block 3
+#   conclusion
+#     0 h((n8, sig(n8)k6))
+#     1   (n8, sig(n8)k6)
+#     2     n8
+#     3     sig(n8)k6
+#     4       n8
+";
+    assert!(printed.ends_with(rest), "{printed}");
+    assert_eq!(notes(&printed), NONE);
+    assert_eq!(assemble(&printed), Ok(file));
+}
+
+/// Atoms of a second block have their entries' numbers from 0.
+#[test]
+fn entries_of_a_second_block_of_atoms() {
+    let printed = print_entries(&assemble(&nonces(127)).unwrap());
+    let last = "# block 1: atoms 126 to 126\natom n126 nonce known  # block 1, entry 0\n";
+    assert!(printed.ends_with(last), "{printed}");
+}
+
+/// The numbers of entries are as many as the counts say, and all else is as
+/// without them.
+#[test]
+fn entries_of_generated_files() {
+    let mut numbered = 0;
+    for seed in 0..600 {
+        let file = generate::file(seed);
+        let (printed, plain) = (print_entries(&file), print(&file));
+        assert_eq!(notes(&printed), notes(&plain), "seed {seed}");
+        assert_eq!(
+            assemble(&printed).ok(),
+            assemble(&plain).ok(),
+            "seed {seed}"
+        );
+        if notes(&printed) == NONE {
+            let blocks = file.chunks(512).filter(|block| block[0] > 1);
+            let counts: usize = blocks.map(|block| (block[1] + block[2]) as usize).sum();
+            let words = printed.lines().filter(|line| line.starts_with("#  "));
+            let entries = words.filter(|line| !["#   premise", "#   conclusion"].contains(line));
+            assert_eq!(entries.count(), counts, "seed {seed}\n{printed}");
+            numbered += counts;
+        }
+    }
+    assert!(numbered > 10_000, "{numbered}");
 }

@@ -34,6 +34,10 @@ fn assembling_and_printing() {
     let printed = run(&["print"], &assembled.stdout);
     assert_eq!(printed.status.code(), Some(0));
     assert_eq!(printed.stdout, text::print(&assembled.stdout).into_bytes());
+    let entries = run(&["print", "--entries"], &assembled.stdout);
+    assert_eq!(entries.status.code(), Some(0));
+    let numbered = text::print_entries(&assembled.stdout);
+    assert_eq!(entries.stdout, numbered.into_bytes());
 }
 
 #[test]

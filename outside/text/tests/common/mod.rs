@@ -28,3 +28,24 @@ pub fn cut(text: &str, at: Span) -> String {
 pub fn cut_all(text: &str, spans: &[Span]) -> Vec<String> {
     spans.iter().map(|span| cut(text, *span)).collect()
 }
+
+/// No notes.
+pub const NONE: [&str; 0] = [];
+
+/// The notes of a printed text: its comments without those that number blocks
+/// and entries.
+pub fn notes(printed: &str) -> Vec<&str> {
+    let comments = printed.lines().filter(|line| line.starts_with('#'));
+    let others = comments.filter(|line| !line.starts_with("#  "));
+    others.filter(|line| !numbers_atoms(line)).collect()
+}
+
+/// Whether this is `# block N: atoms N to N`.
+fn numbers_atoms(comment: &str) -> bool {
+    let is_number = |word: &&str| word.parse::<usize>().is_ok();
+    let without: Vec<&str> = comment
+        .split([' ', ':'])
+        .filter(|word| !word.is_empty() && !is_number(word))
+        .collect();
+    without == ["#", "block", "atoms", "to"]
+}
