@@ -33,7 +33,7 @@ pub struct Exception {
 
 impl Exception {
     /// Of the pattern with its root at `path`.
-    pub(crate) fn of(path: &Path, bad: &Listed) -> Exception {
+    pub fn of(path: &Path, bad: &Listed) -> Exception {
         Exception {
             marks: marks_below(path, &bad.term),
         }

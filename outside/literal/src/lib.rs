@@ -17,6 +17,6 @@ pub mod verdict;
 pub use block::seal;
 pub use judge::verdict;
 pub use loaders::{check, LoaderCounts, Tally};
-pub use share::shares;
+pub use share::{common_instance, shares, Filling};
 pub use term::{decode, encode, matches, Term};
 pub use verdict::{line, packed, print_line, refused_part, Counts, Refusal, Verdict};

@@ -9,6 +9,17 @@ use crate::term::{Symbol, Term};
 /// Whether some finite message is an instance of both terms. The variables of
 /// the two are different variables, and so are those of two tags.
 pub fn shares(atoms: &[Atom], left: &Term, right: &Term) -> bool {
+    let united = united(atoms, left, right);
+    #[cfg(test)]
+    if slip::nonces::lacks_a_nonce(atoms) {
+        return united.is_some_and(|(graph, _)| !graph.has_free_nonce());
+    }
+    united.is_some()
+}
+
+/// The two made one in a graph, and the node that both are then; none if they
+/// share no instance.
+fn united<'a>(atoms: &'a [Atom], left: &Term, right: &Term) -> Option<(Graph<'a>, usize)> {
     let mut graph = Graph {
         atoms,
         nodes: Vec::new(),
@@ -16,11 +27,31 @@ pub fn shares(atoms: &[Atom], left: &Term, right: &Term) -> bool {
     };
     let l = graph.add(Side::Left, left);
     let r = graph.add(Side::Right, right);
-    #[cfg(test)]
-    if slip::nonces::lacks_a_nonce(atoms) {
-        return graph.unite(l, r) && graph.is_finite(l) && !graph.has_free_nonce();
-    }
-    graph.unite(l, r) && graph.is_finite(l)
+    (graph.unite(l, r) && graph.is_finite(l)).then_some((graph, l))
+}
+
+/// What stands in an example where the two terms leave it open.
+#[derive(Clone, Copy, Debug)]
+pub struct Filling<'a> {
+    /// For variables that may be any message.
+    pub message: &'a Term,
+    /// For those that must be one nonce.
+    pub nonce: &'a Term,
+}
+
+/// A message that is an instance of both terms, with the filling for what they
+/// leave open; none if they share no instance, or if it has more than `most`
+/// symbols.
+pub fn common_instance(
+    atoms: &[Atom],
+    left: &Term,
+    right: &Term,
+    filling: Filling,
+    most: usize,
+) -> Option<Term> {
+    let (graph, root) = united(atoms, left, right)?;
+    let mut left_over = most;
+    graph.message(root, filling, &mut left_over)
 }
 
 #[derive(Clone, Copy, PartialEq, Eq)]
@@ -31,10 +62,13 @@ enum Side {
 
 struct Node {
     symbol: Symbol,
-    children: Vec<usize>,
+    /// As many as the symbol has parts, at most two.
+    children: Children,
     /// The node itself, or another one that it was united with.
     leader: usize,
 }
+
+type Children = [Option<usize>; 2];
 
 #[derive(Clone, Copy, PartialEq, Eq)]
 enum Seen {
@@ -55,7 +89,8 @@ impl Graph<'_> {
         if term.is_variable() {
             return self.variable(side, term, term.symbol());
         }
-        let children = term.parts().map(|part| self.add(side, part)).collect();
+        let mut parts = term.parts().map(|part| self.add(side, part));
+        let children = [parts.next(), parts.next()];
         self.node(term.symbol(), children)
     }
 
@@ -72,12 +107,12 @@ impl Graph<'_> {
         if let Some((_, _, node)) = known {
             return *node;
         }
-        let node = self.node(symbol, vec![]);
+        let node = self.node(symbol, [None, None]);
         self.variables.push((side, term.clone(), node));
         node
     }
 
-    fn node(&mut self, symbol: Symbol, children: Vec<usize>) -> usize {
+    fn node(&mut self, symbol: Symbol, children: Children) -> usize {
         let number = self.nodes.len();
         self.nodes.push(Node {
             symbol,
@@ -131,9 +166,9 @@ impl Graph<'_> {
         if slip::hashes::ends_sharing(mine) {
             return true;
         }
-        let mine = self.nodes[one].children.clone();
-        let theirs = self.nodes[other].children.clone();
-        mine.iter().zip(&theirs).all(|(a, b)| self.unite(*a, *b))
+        let mine = self.nodes[one].children.into_iter().flatten();
+        let theirs = self.nodes[other].children.into_iter().flatten();
+        mine.zip(theirs).all(|(a, b)| self.unite(a, b))
     }
 
     /// Whether the first is a variable that takes what the second stands for: a
@@ -182,11 +217,38 @@ impl Graph<'_> {
             return true;
         }
         seen[node] = Seen::Below;
-        let finite = self.nodes[node]
-            .children
-            .iter()
-            .all(|child| self.finite_below(*child, seen));
+        let mut children = self.nodes[node].children.into_iter().flatten();
+        let finite = children.all(|child| self.finite_below(child, seen));
         seen[node] = Seen::Done;
         finite
+    }
+
+    /// The message that a finite node stands for, of at most so many symbols.
+    fn message(&self, node: usize, filling: Filling, left_over: &mut usize) -> Option<Term> {
+        let node = &self.nodes[self.leader(node)];
+        let root = match node.symbol {
+            Symbol::Variable => filling.message.clone(),
+            Symbol::NonceVariable => filling.nonce.clone(),
+            _ => {
+                *left_over = left_over.checked_sub(1)?;
+                return self.composed(node, filling, left_over);
+            }
+        };
+        *left_over = left_over.checked_sub(root.size())?;
+        Some(root)
+    }
+
+    /// The message of a node that is no variable.
+    fn composed(&self, node: &Node, filling: Filling, left_over: &mut usize) -> Option<Term> {
+        let mut children = node.children.into_iter().flatten();
+        let mut part = || self.message(children.next()?, filling, left_over);
+        Some(match node.symbol {
+            Symbol::Pair => Term::pair(part()?, part()?),
+            Symbol::Encryption(key) => Term::encryption(part()?, key),
+            Symbol::Hash => Term::hash(part()?),
+            Symbol::Signature(key) => Term::signature(part()?, key),
+            Symbol::Atom(number) => Term::Atom(number),
+            Symbol::Variable | Symbol::NonceVariable => return None,
+        })
     }
 }

@@ -2,8 +2,8 @@
 //! against sharing with the term's variables frozen.
 
 use generate::pairs::{atoms, small_term_pair, term_pair};
-use literal::term::is_one_nonce;
-use literal::{decode, encode, Term};
+use literal::term::{is_one_nonce, subterms};
+use literal::{common_instance, decode, encode, Filling, Term};
 use std::time::Instant;
 
 fn shares(left: &Term, right: &Term) -> bool {
@@ -305,4 +305,31 @@ fn ordinary(term: &Term) -> Term {
         Term::MarkedNonce(n) => Term::Marked(n + 8),
         _ => term.with_parts(ordinary),
     }
+}
+
+/// An example of a common instance is an instance of both terms, without
+/// variables, and there is one just where they share. Only a chain's is too long.
+#[test]
+fn examples_of_common_instances() {
+    let filling = Filling {
+        message: &Term::pair(Term::Atom(0), Term::Atom(6)),
+        nonce: &Term::Atom(7),
+    };
+    let (mut found, mut too_long) = (0, 0);
+    for seed in 0..20_000 {
+        let (pattern, term) = term_pair(seed);
+        match common_instance(&atoms(), &pattern, &term, filling, TOO_LARGE) {
+            Some(message) => {
+                assert!(matches(&pattern, &message), "seed {seed}");
+                assert!(matches(&term, &message), "seed {seed}");
+                assert!(!subterms(&message).iter().any(|p| p.subterm.is_variable()));
+                assert!(message.size() <= TOO_LARGE);
+                found += 1;
+            }
+            None if shares(&pattern, &term) => too_long += 1,
+            None => {}
+        }
+    }
+    println!("{found} examples, {too_long} too long");
+    assert!(found > 5_000 && too_long > 0 && too_long < found / 10);
 }
