@@ -60,6 +60,26 @@ fn signs_that_cannot_be_seen() {
     assert_eq!(no_width, "9:10: expected `,`, found U+200B");
 }
 
+/// Letters of other alphabets, as atoms' names, for the Latin ones.
+#[test]
+fn letters_that_look_alike() {
+    let cyrillic = ("АВЕЅІЈКМНОРСТХаеіјорсух", "ABESIJKMHOPCTXaeijopcyx");
+    let greek = ("ΑΒΕΖΗΙΚΜΝΟΡΤΥΧονι", "ABEZHIKMNOPTYXovi");
+    let full_width = ("ＡＺａｚ０９", "AZaz09");
+    for (others, latin) in [cyrillic, greek, full_width] {
+        let pairs: Vec<(char, char)> = others.chars().zip(latin.chars()).collect();
+        assert_eq!(pairs.len(), latin.len());
+        let hints = pairs.iter().map(|(other, latin)| {
+            let text = format!("atom {latin} nonce known\nsecret {other}");
+            error_of(&text).hint.unwrap_or_default()
+        });
+        let wanted = latin
+            .chars()
+            .map(|latin| format!("did you mean `{latin}`?"));
+        assert_eq!(hints.collect::<Vec<_>>(), wanted.collect::<Vec<_>>());
+    }
+}
+
 #[test]
 fn first_words() {
     let first = "expected `atom`, `secret`, `good`, `bad` or `rule`, found";
