@@ -13,6 +13,9 @@ const MARKS: [(&[u8], &str); 5] = [
     (&[0xFE, 0xFF], "UTF-16, big-endian"),
 ];
 
+/// A longer text has lines to spare for every certificate.
+pub const LONGEST_TEXT: usize = 1 << 20;
+
 const NO_MARK: &str = "text in UTF-8 without a byte order mark";
 const UTF_8: &str = "text in UTF-8";
 const SAVE: &str = "save the text as UTF-8 without a byte order mark (BOM)";
@@ -20,6 +23,14 @@ const SAVE: &str = "save the text as UTF-8 without a byte order mark (BOM)";
 /// The text that the bytes are.
 pub fn text_of(bytes: &[u8]) -> Result<&str, Error> {
     let start = behind("");
+    if bytes.len() > LONGEST_TEXT {
+        let expected = format!("a text of at most {LONGEST_TEXT} bytes");
+        return Err(Error::new(
+            start,
+            &expected,
+            &format!("{} bytes", bytes.len()),
+        ));
+    }
     if let Some((_, name)) = MARKS.iter().find(|(mark, _)| bytes.starts_with(mark)) {
         let found = format!("the byte order mark of {name}");
         return Err(Error::new(start, NO_MARK, &found).or_hint(SAVE));

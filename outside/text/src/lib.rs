@@ -20,7 +20,7 @@ mod terms;
 mod tokens;
 
 pub use assemble::{assemble, assembled};
-pub use encoding::text_of;
+pub use encoding::{text_of, LONGEST_TEXT};
 pub use error::Error;
 pub use origin::{Assembled, BlockOrigin, Span};
 pub use pointed::pointed;

@@ -1,7 +1,7 @@
 //! Bytes that are to be a text.
 
 use text::document::ATOMS;
-use text::{assemble, text_of, Error, Span};
+use text::{assemble, text_of, Error, Span, LONGEST_TEXT};
 
 fn error_of(bytes: &[u8]) -> Error {
     text_of(bytes).unwrap_err()
@@ -18,6 +18,15 @@ fn texts() {
     ] {
         assert_eq!(text_of(text.as_bytes()), Ok(text));
     }
+}
+
+#[test]
+fn longest_text() {
+    let text = " ".repeat(LONGEST_TEXT);
+    assert_eq!(text_of(text.as_bytes()), Ok(text.as_str()));
+    let error = error_of((text + " ").as_bytes());
+    let words = "1:1: expected a text of at most 1048576 bytes, found 1048577 bytes";
+    assert_eq!(error.to_string(), words);
 }
 
 #[test]
