@@ -1,0 +1,191 @@
+//! Number 12: why no encryption above the place is a sure hat for it.
+
+use crate::mismatch::{mended_by_exchange, mismatch, Mismatch, Why};
+use crate::report::{short, Report, MOST_TOLD};
+use crate::scene::{root_words, Scene};
+use crate::source::down;
+use crate::taken::taken_by_bads;
+use literal::read::{Listed, Rule};
+use literal::term::{at_or_above, joined, marks, places, strictly_above, subterms, Place};
+use literal::Term;
+use std::cmp::Reverse;
+
+/// A place of a rule's conclusion.
+pub struct Asked<'a> {
+    pub rule: &'a Rule,
+    pub place: &'a Place<'a>,
+}
+
+/// All that stands above the place, outermost first.
+pub fn no_sure_hat(report: &mut Report, scene: Scene, asked: &Asked) {
+    report.title("Why no hat covers it");
+    let all = places(&asked.rule.conclusion);
+    let above = |upper: &&Place| strictly_above(&upper.path, &asked.place.path);
+    let mut hats = 0;
+    for upper in all.iter().filter(above) {
+        match upper.subterm {
+            Term::Encryption(..) => {
+                hats += 1;
+                let hat = Hat {
+                    scene,
+                    asked,
+                    upper,
+                };
+                hat.fails(report);
+            }
+            Term::Signature(..) => {
+                let spot = scene.in_conclusion(asked.rule, upper);
+                report.item(format!(
+                    "{spot} hides nothing: everybody reads what is signed"
+                ));
+            }
+            _ => {}
+        }
+    }
+    if hats == 0 {
+        report.item("no encryption stands above it, so everybody reads it");
+    }
+}
+
+/// An encryption above the place.
+struct Hat<'a> {
+    scene: Scene<'a>,
+    asked: &'a Asked<'a>,
+    upper: &'a Place<'a>,
+}
+
+impl Hat<'_> {
+    /// Why it is no sure hat: the good patterns that it matches, then those that it
+    /// nearly does, then those under other keys.
+    fn fails(&self, report: &mut Report) {
+        let spot = self.scene.in_conclusion(self.asked.rule, self.upper);
+        report.item(format!("{spot} is no sure hat:"));
+        let certificate = self.scene.certificate;
+        let (near, far) = by_root(&certificate.goods, self.upper.subterm);
+        let mut unlike = Vec::new();
+        for good in near {
+            match mismatch(&certificate.atoms, &good.term, self.upper.subterm) {
+                Some(found) => unlike.push((good, found)),
+                None => self.matched(report, good),
+            }
+        }
+        self.unmatched(report, unlike);
+        under_other_keys(report, self.scene, self.upper.subterm, &far);
+        if certificate.goods.is_empty() {
+            report.detail("the certificate has no good pattern");
+        }
+    }
+
+    /// A good pattern that the encryption is, with its variables replaced.
+    fn matched(&self, report: &mut Report, good: &Listed) {
+        let words = self.scene.listed("good", good);
+        if self.has_mark(good) {
+            report.detail(format!("{words} matches, with a mark, but"));
+            taken_by_bads(report, self.scene, self.upper, self.asked.place);
+        } else {
+            self.has_no_mark(report, good, &words);
+        }
+    }
+
+    fn has_mark(&self, good: &Listed) -> bool {
+        let place = &self.asked.place.path;
+        let marks = marks(&good.term);
+        let mut paths = marks.iter().map(|mark| joined(&self.upper.path, mark));
+        paths.any(|path| at_or_above(&path, place))
+    }
+
+    /// Which marks the pattern has, and what it has where one is wanted.
+    fn has_no_mark(&self, report: &mut Report, good: &Listed, words: &str) {
+        let marks = marks(&good.term);
+        let spots = marks.iter().map(|mark| self.scene.in_pattern(good, mark));
+        let others = match marks.is_empty() {
+            true => "it has none at all".to_string(),
+            false => format!("it marks {}", spots.collect::<Vec<_>>().join(", ")),
+        };
+        report.detail(format!(
+            "{words} matches, but has no mark at or above the place: {others}"
+        ));
+        let way = &self.asked.place.path[self.upper.path.len()..];
+        let way = as_far_as(&good.term, way);
+        if let Term::Plain(_) | Term::PlainNonce(_) = down(&good.term, way) {
+            let spot = self.scene.in_pattern(good, way);
+            report.detail(format!(
+                "hint: here it has {spot}; a mark `*` in place of `?` would protect the place"
+            ));
+        }
+    }
+
+    /// Those that go along furthest come first; the others are counted.
+    fn unmatched(&self, report: &mut Report, mut unlike: Vec<(&Listed, Mismatch)>) {
+        let entry = |(good, found): &(&Listed, Mismatch)| {
+            let all = subterms(&good.term);
+            all.iter().position(|place| place.path == found.path)
+        };
+        unlike.sort_by_key(|one| Reverse(entry(one)));
+        for (good, found) in unlike.iter().take(MOST_TOLD) {
+            self.no_match(report, good, found);
+        }
+        if unlike.len() > MOST_TOLD {
+            let more = unlike.len() - MOST_TOLD;
+            report.detail(format!(
+                "{more} more good patterns under this key do not match"
+            ));
+        }
+    }
+
+    /// Where the pattern and the encryption part, and what stands there.
+    fn no_match(&self, report: &mut Report, good: &Listed, found: &Mismatch) {
+        let (scene, block) = (self.scene, self.asked.rule.block);
+        let here = root_words(scene.source, block, down(self.upper.subterm, &found.path));
+        let there = scene.in_pattern(good, &found.path);
+        let why = match &found.why {
+            Why::Symbol => format!("it has {there}, and here is {here}"),
+            Why::NoNonce => format!("it has {there}, which takes one nonce, and here is {here}"),
+            Why::StandsFor(first) => {
+                let first = short(scene.source.term(block, first));
+                format!("{there} stands for {first} already, and here is {here}")
+            }
+        };
+        let words = scene.listed("good", good);
+        report.detail(format!("{words} does not match: {why}"));
+        let atoms = &scene.certificate.atoms;
+        if let Some(pair) = mended_by_exchange(atoms, &good.term, self.upper.subterm, found) {
+            let pair = scene.in_pattern(good, &pair);
+            report.detail(format!(
+                "hint: with the halves of its {pair} exchanged it would match"
+            ));
+        }
+    }
+}
+
+/// The way as far as the pattern reaches.
+fn as_far_as<'a>(pattern: &Term, way: &'a [u8]) -> &'a [u8] {
+    let all = subterms(pattern);
+    let reaches = |length: &usize| all.iter().any(|place| place.path == way[..*length]);
+    let length = (0..=way.len()).rev().find(reaches).unwrap_or(0);
+    &way[..length]
+}
+
+/// The patterns with this term's root, and the others.
+pub fn by_root<'a>(patterns: &'a [Listed], term: &Term) -> (Vec<&'a Listed>, Vec<&'a Listed>) {
+    let same = |pattern: &&Listed| pattern.term.symbol() == term.symbol();
+    patterns.iter().partition(same)
+}
+
+/// The good patterns whose root has another key than this encryption.
+pub fn under_other_keys(report: &mut Report, scene: Scene, encryption: &Term, far: &[&Listed]) {
+    if far.is_empty() {
+        return;
+    }
+    let key = root_words(scene.source, 0, encryption);
+    let told = far.iter().take(MOST_TOLD);
+    let told: Vec<String> = told.map(|good| scene.listed("good", good)).collect();
+    let more = match far.len() - told.len() {
+        0 => String::new(),
+        more => format!(", and {more} more"),
+    };
+    report.detail(format!(
+        "{}{more}: another key at the root, and here is {key}",
+        told.join(", ")
+    ));
+}

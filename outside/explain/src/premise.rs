@@ -1,0 +1,141 @@
+//! Number 12: why the premise does not cover the place.
+
+use crate::hats::Asked;
+use crate::report::{all_of, Report};
+use crate::scene::Scene;
+use literal::hats::closings;
+use literal::matches;
+use literal::read::Listed;
+use literal::term::{marks, places, subterms, Place, Term};
+
+/// Where the same subterm stands in the premise, and what closes it there.
+pub fn not_in_premise(report: &mut Report, scene: Scene, asked: &Asked) {
+    report.title("Why the premise does not cover it");
+    let Some(premise) = &asked.rule.premise else {
+        report.item("the rule has no premise");
+        return;
+    };
+    let mut same = subterms(premise);
+    same.retain(|place| place.subterm == asked.place.subterm);
+    if same.is_empty() {
+        absent(report, scene, asked, premise);
+    }
+    let seen: Vec<usize> = places(premise).iter().map(|place| place.entry).collect();
+    for place in &same {
+        let spot = scene.in_premise(asked.rule, place);
+        match seen.contains(&place.entry) {
+            true => closed(report, scene, asked, premise, place),
+            false => report.item(format!(
+                "{spot} stands below a hash, which shows nothing of it"
+            )),
+        }
+    }
+}
+
+/// The encryptions that close this place, with the patterns they share with.
+fn closed(report: &mut Report, scene: Scene, asked: &Asked, premise: &Term, place: &Place) {
+    let spot = scene.in_premise(asked.rule, place);
+    report.item(format!("{spot} is no open place:"));
+    let all = places(premise);
+    for closing in closings(scene.certificate, premise) {
+        if !closing.closes(place) {
+            continue;
+        }
+        let Some(upper) = all.iter().find(|upper| upper.path == closing.path) else {
+            continue;
+        };
+        let words = scene.in_premise(asked.rule, upper);
+        report.detail(format!("{words} closes it: {}", shared_good(scene, upper)));
+        matched_bads(report, scene, upper);
+    }
+}
+
+/// The first good pattern that the encryption shares an instance with.
+fn shared_good(scene: Scene, upper: &Place) -> String {
+    let atoms = &scene.certificate.atoms;
+    let shares = |good: &&Listed| literal::shares(atoms, &good.term, upper.subterm);
+    let goods: Vec<&Listed> = scene.certificate.goods.iter().filter(shares).collect();
+    let Some(first) = goods.first() else {
+        return "no good pattern shares an instance with it".to_string();
+    };
+    let more = match goods.len() - 1 {
+        0 => String::new(),
+        more => format!(", and {more} more do"),
+    };
+    let example = scene.example(&first.term, upper.subterm);
+    let words = scene.listed("good", first);
+    format!("it shares an instance with {words}{more}: {example}")
+}
+
+/// Bad patterns that the encryption is, but that mark other places.
+fn matched_bads(report: &mut Report, scene: Scene, upper: &Place) {
+    let atoms = &scene.certificate.atoms;
+    for bad in &scene.certificate.bads {
+        if matches(atoms, &bad.term, upper.subterm) && !marks(&bad.term).is_empty() {
+            let words = scene.listed("bad", bad);
+            report.detail(format!(
+                "  {words} matches, but has no mark at or above the place"
+            ));
+        }
+    }
+}
+
+/// The premise does not hold the subterm at all.
+fn absent(report: &mut Report, scene: Scene, asked: &Asked, premise: &Term) {
+    let block = asked.rule.block;
+    let wanted = scene.source.term(block, asked.place.subterm);
+    report.item(format!("{wanted} does not stand in the premise"));
+    if !asked.place.subterm.is_variable() {
+        return;
+    }
+    let there = variables(premise);
+    let used = variables(&asked.rule.conclusion);
+    let names = |terms: &[&Term]| -> Vec<String> {
+        terms
+            .iter()
+            .map(|term| scene.source.term(block, term))
+            .collect()
+    };
+    if there.is_empty() {
+        report.detail("the premise has no variable");
+        return;
+    }
+    report.detail(format!(
+        "the premise's variables: {}",
+        all_of(&names(&there))
+    ));
+    let unused: Vec<&Term> = there
+        .iter()
+        .filter(|v| !used.contains(v))
+        .copied()
+        .collect();
+    if !unused.is_empty() {
+        let unused = all_of(&names(&unused));
+        report.detail(format!(
+            "hint: the conclusion does not use {unused}: mistyped?"
+        ));
+    }
+    let same_name = |name: &String| bare(name) == bare(&wanted);
+    if let Some(name) = names(&there).iter().find(|name| same_name(name)) {
+        report.detail(format!(
+            "hint: {name} and {wanted} are two variables, of two sorts"
+        ));
+    }
+}
+
+/// The variables of a term, each once, by first occurrence.
+pub fn variables(term: &Term) -> Vec<&Term> {
+    let mut found: Vec<&Term> = Vec::new();
+    for place in subterms(term) {
+        if place.subterm.is_variable() && !found.contains(&place.subterm) {
+            found.push(place.subterm);
+        }
+    }
+    found
+}
+
+/// A variable's name without its sign.
+fn bare(name: &str) -> &str {
+    let name = name.trim_start_matches(['?', '*']);
+    name.strip_prefix("n!").unwrap_or(name)
+}
