@@ -1,7 +1,7 @@
 //! Number 12: why no encryption above the place is a sure hat for it.
 
-use crate::mismatch::{mended_by_exchange, mismatch, Mismatch, Why};
-use crate::report::{short, Report, MOST_TOLD};
+use crate::mismatch::{mended_by_exchange, mismatch, Mismatch};
+use crate::report::{Report, MOST_TOLD};
 use crate::scene::{root_words, Scene};
 use crate::source::down;
 use crate::taken::taken_by_bads;
@@ -135,17 +135,8 @@ impl Hat<'_> {
 
     /// Where the pattern and the encryption part, and what stands there.
     fn no_match(&self, report: &mut Report, good: &Listed, found: &Mismatch) {
-        let (scene, block) = (self.scene, self.asked.rule.block);
-        let here = root_words(scene.source, block, down(self.upper.subterm, &found.path));
-        let there = scene.in_pattern(good, &found.path);
-        let why = match &found.why {
-            Why::Symbol => format!("it has {there}, and here is {here}"),
-            Why::NoNonce => format!("it has {there}, which takes one nonce, and here is {here}"),
-            Why::StandsFor(first) => {
-                let first = short(scene.source.term(block, first));
-                format!("{there} stands for {first} already, and here is {here}")
-            }
-        };
+        let scene = self.scene;
+        let why = scene.parting(good, self.asked.rule.block, self.upper.subterm, found);
         let words = scene.listed("good", good);
         report.detail(format!("{words} does not match: {why}"));
         let atoms = &scene.certificate.atoms;

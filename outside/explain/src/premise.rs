@@ -1,12 +1,13 @@
 //! Number 12: why the premise does not cover the place.
 
 use crate::hats::Asked;
-use crate::report::{all_of, Report};
+use crate::mismatch::mismatch;
+use crate::report::{all_of, Report, MOST_TOLD};
 use crate::scene::Scene;
 use literal::hats::closings;
-use literal::matches;
 use literal::read::Listed;
-use literal::term::{marks, places, subterms, Place, Term};
+use literal::shares;
+use literal::term::{places, subterms, Place, Term};
 
 /// Where the same subterm stands in the premise, and what closes it there.
 pub fn not_in_premise(report: &mut Report, scene: Scene, asked: &Asked) {
@@ -46,15 +47,15 @@ fn closed(report: &mut Report, scene: Scene, asked: &Asked, premise: &Term, plac
         };
         let words = scene.in_premise(asked.rule, upper);
         report.detail(format!("{words} closes it: {}", shared_good(scene, upper)));
-        matched_bads(report, scene, upper);
+        near_bads(report, scene, asked, upper);
     }
 }
 
 /// The first good pattern that the encryption shares an instance with.
 fn shared_good(scene: Scene, upper: &Place) -> String {
     let atoms = &scene.certificate.atoms;
-    let shares = |good: &&Listed| literal::shares(atoms, &good.term, upper.subterm);
-    let goods: Vec<&Listed> = scene.certificate.goods.iter().filter(shares).collect();
+    let shared = |good: &&Listed| shares(atoms, &good.term, upper.subterm);
+    let goods: Vec<&Listed> = scene.certificate.goods.iter().filter(shared).collect();
     let Some(first) = goods.first() else {
         return "no good pattern shares an instance with it".to_string();
     };
@@ -67,16 +68,21 @@ fn shared_good(scene: Scene, upper: &Place) -> String {
     format!("it shares an instance with {words}{more}: {example}")
 }
 
-/// Bad patterns that the encryption is, but that mark other places.
-fn matched_bads(report: &mut Report, scene: Scene, upper: &Place) {
+/// The bad patterns that come near to opening the place: they match and mark other
+/// places, or share an instance and do not match.
+fn near_bads(report: &mut Report, scene: Scene, asked: &Asked, upper: &Place) {
     let atoms = &scene.certificate.atoms;
-    for bad in &scene.certificate.bads {
-        if matches(atoms, &bad.term, upper.subterm) && !marks(&bad.term).is_empty() {
-            let words = scene.listed("bad", bad);
-            report.detail(format!(
-                "  {words} matches, but has no mark at or above the place"
-            ));
-        }
+    let shares = |bad: &&Listed| shares(atoms, &bad.term, upper.subterm);
+    let near = scene.certificate.bads.iter().filter(shares);
+    for bad in near.take(MOST_TOLD) {
+        let why = match mismatch(atoms, &bad.term, upper.subterm) {
+            None => "matches, but has no mark at or above the place".to_string(),
+            Some(found) => {
+                let why = scene.parting(bad, asked.rule.block, upper.subterm, &found);
+                format!("would open it if it matched; but {why}")
+            }
+        };
+        report.detail(format!("  {} {why}", scene.listed("bad", bad)));
     }
 }
 

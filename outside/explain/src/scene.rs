@@ -1,7 +1,8 @@
 //! A certificate that can be read, with words for its parts.
 
+use crate::mismatch::{Mismatch, Why};
 use crate::report::short;
-use crate::source::Source;
+use crate::source::{down, Source};
 use literal::numbers::FIRST_FOREIGN;
 use literal::read::{Certificate, Listed, Rule};
 use literal::term::{subterms, Place};
@@ -46,6 +47,20 @@ impl Scene<'_> {
         match all.iter().find(|place| place.path == path) {
             Some(place) => self.entry(pattern.block, place.entry, place.subterm),
             None => "nothing".to_string(),
+        }
+    }
+
+    /// Where a pattern and a term of this block part, and what stands there.
+    pub fn parting(&self, pattern: &Listed, block: usize, term: &Term, found: &Mismatch) -> String {
+        let here = root_words(self.source, block, down(term, &found.path));
+        let there = self.in_pattern(pattern, &found.path);
+        match &found.why {
+            Why::Symbol => format!("it has {there}, and here is {here}"),
+            Why::NoNonce => format!("it has {there}, which takes one nonce, and here is {here}"),
+            Why::StandsFor(first) => {
+                let first = short(self.source.term(block, first));
+                format!("{there} stands for {first} already, and here is {here}")
+            }
         }
     }
 

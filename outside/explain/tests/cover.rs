@@ -138,6 +138,10 @@ fn why_not_the_premise() {
     let words =
         "bad {(*y, ?x)}KA (line 12, block 4) matches, but has no mark at or above the place";
     assert_says(&marks, words);
+    let narrow = usual("bad {(I, ?x)}KA\nrule {?m}KA -> ?m\n");
+    let words = "bad {(I, ?x)}KA (line 12, block 4) would open it if it matched; \
+                 but it has (I, ?x) (12:6, entry 1), and here is the variable ?m";
+    assert_says(&narrow, words);
     let sorts = usual("rule ?n!x -> ?x\n");
     assert_says(&sorts, "?x does not stand in the premise");
     assert_says(&sorts, "hint: ?n!x and ?x are two variables, of two sorts");
