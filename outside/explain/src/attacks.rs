@@ -7,10 +7,10 @@ use literal::read::Rule;
 use literal::Term;
 
 /// The run that was found, or what was searched for one.
-pub fn broken_or_narrow(report: &mut Report, scene: Scene) {
+pub fn broken_or_narrow(report: &mut Report, scene: Scene, refused: &Rule) {
     report.title("Is the protocol broken, or only the certificate too narrow?");
     match attack::search(scene.certificate) {
-        Outcome::Found(attack) => broken(report, scene, &attack),
+        Outcome::Found(attack) => broken(report, scene, refused, &attack),
         Outcome::NotFound(bound) => not_found(report, &bound),
     }
 }
@@ -26,7 +26,7 @@ fn not_found(report: &mut Report, bound: &Bound) {
     report.item("messages whose contents are for everybody out of a good pattern by a bad one.");
 }
 
-fn broken(report: &mut Report, scene: Scene, attack: &Attack) {
+fn broken(report: &mut Report, scene: Scene, refused: &Rule, attack: &Attack) {
     let secret = &scene.certificate.secrets[attack.secret];
     let words = scene.listed("secret", secret);
     report.item(format!("Broken: after this run the intruder has {words}."));
@@ -40,7 +40,14 @@ fn broken(report: &mut Report, scene: Scene, attack: &Attack) {
         scene.message(&secret.term)
     ));
     moves(report, scene, &attack.derivation, &had);
-    report.item("No patterns make these rules acceptable: the protocol has to change.");
+    report.item(
+        "No patterns make these rules acceptable with these secrets and known atoms: the protocol",
+    );
+    report.item("has to change, or what is mistyped in the rules or the lists.");
+    let is_refused = |step: &Step| scene.certificate.rules[step.rule].block == refused.block;
+    if !attack.steps.iter().any(is_refused) {
+        report.item("The refused rule takes no part in this run: what is wrong with it is a fault of its own.");
+    }
 }
 
 /// One step; the answer is the message that it adds.

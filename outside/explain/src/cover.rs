@@ -33,7 +33,7 @@ pub fn uncovered(report: &mut Report, scene: Scene, block: usize, entry: usize) 
     risky(report, scene, &asked);
     no_sure_hat(report, scene, &asked);
     not_in_premise(report, scene, &asked);
-    attacks::broken_or_narrow(report, scene);
+    attacks::broken_or_narrow(report, scene, rule);
 }
 
 /// A variable, or what shares an instance with a secret.
@@ -45,7 +45,7 @@ fn risky(report: &mut Report, scene: Scene, asked: &Asked) {
     if subterm.is_nonce_variable() {
         let words = match scene.secret_nonce() {
             Some(secret) => format!("it may stand for {}, a secret", scene.message(&secret)),
-            None => "every variable of a conclusion is, also if no secret is a nonce".to_string(),
+            None => "every one in a conclusion is risky, also if no secret is a nonce".to_string(),
         };
         report.item(format!("{name} is a nonce variable: {words}"));
     } else if subterm.is_variable() {

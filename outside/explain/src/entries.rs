@@ -41,15 +41,26 @@ fn wrong_atom(source: &Source, atoms: &[Entry], i: usize) -> (String, String) {
     let name = source.atom(i as u16);
     match atom.first {
         atom_kind::PRINCIPAL | atom_kind::NONCE => (
-            format!("partner 0: {} has none", atom_words(atom.first)),
-            format!("partner {}", atom.value),
+            format!(
+                "no partner, which is 0: {} has none",
+                atom_words(atom.first)
+            ),
+            partner_words(source, atoms, atom.value),
         ),
         atom_kind::SYMMETRIC => (
-            format!("partner {i}: a symmetric key is its own partner"),
-            format!("partner {}", atom.value),
+            format!("partner {name}: a symmetric key is its own partner"),
+            partner_words(source, atoms, atom.value),
         ),
         atom_kind::PUBLIC => wrong_partner(source, atoms, i, &name, atom_kind::PRIVATE),
         _ => wrong_partner(source, atoms, i, &name, atom_kind::PUBLIC),
+    }
+}
+
+/// A partner that is listed, by its name; another one by its number.
+fn partner_words(source: &Source, atoms: &[Entry], partner: u16) -> String {
+    match (partner as usize) < atoms.len() {
+        true => format!("partner {}", source.atom(partner)),
+        false => format!("partner {partner}; {} atoms are listed", atoms.len()),
     }
 }
 
@@ -64,18 +75,13 @@ fn wrong_partner(
     let wanted = atom_words(wanted);
     let expected = format!("{wanted} that names {name} as its partner too");
     let value = atoms[i].value;
-    let found = match atoms.get(value as usize) {
-        None => format!("partner {value}; {} atoms are listed", atoms.len()),
-        Some(partner) => {
-            let of = source.atom(value);
-            let words = atom_words(partner.first);
-            let back = match partner.value as usize {
-                own if own == i => String::new(),
-                _ => format!(", whose partner is {}", source.atom(partner.value)),
-            };
-            format!("partner {of}, {words}{back}")
+    let mut found = partner_words(source, atoms, value);
+    if let Some(partner) = atoms.get(value as usize) {
+        found += &format!(", {}", atom_words(partner.first));
+        if partner.value as usize != i {
+            found += &format!(", whose partner is {}", source.atom(partner.value));
         }
-    };
+    }
     (expected, found)
 }
 

@@ -1,12 +1,13 @@
 //! Number 12: why no encryption above the place is a sure hat for it.
 
-use crate::mismatch::{mended_by_exchange, mismatch, Mismatch};
+use crate::mismatch::{exchanged, mended_by_exchange, mismatch, to_the_right, Mismatch};
 use crate::report::{Report, MOST_TOLD};
 use crate::scene::{root_words, Scene};
 use crate::source::down;
-use crate::taken::taken_by_bads;
+use crate::taken::{taken_by_bads, taking_bads};
 use literal::read::{Listed, Rule};
-use literal::term::{at_or_above, joined, marks, places, strictly_above, subterms, Place};
+use literal::term::{at_or_above, joined, marks, places, strictly_above, subterms};
+use literal::term::{Path, Place};
 use literal::Term;
 use std::cmp::Reverse;
 
@@ -43,7 +44,7 @@ pub fn no_sure_hat(report: &mut Report, scene: Scene, asked: &Asked) {
         }
     }
     if hats == 0 {
-        report.item("no encryption stands above it, so everybody reads it");
+        report.item("no encryption stands above it, so everybody gets it");
     }
 }
 
@@ -79,7 +80,7 @@ impl Hat<'_> {
     /// A good pattern that the encryption is, with its variables replaced.
     fn matched(&self, report: &mut Report, good: &Listed) {
         let words = self.scene.listed("good", good);
-        if self.has_mark(good) {
+        if self.covers(&good.term) {
             report.detail(format!("{words} matches, with a mark, but"));
             taken_by_bads(report, self.scene, self.upper, self.asked.place);
         } else {
@@ -87,9 +88,10 @@ impl Hat<'_> {
         }
     }
 
-    fn has_mark(&self, good: &Listed) -> bool {
+    /// Whether the pattern has a mark at or above the place.
+    fn covers(&self, pattern: &Term) -> bool {
         let place = &self.asked.place.path;
-        let marks = marks(&good.term);
+        let marks = marks(pattern);
         let mut paths = marks.iter().map(|mark| joined(&self.upper.path, mark));
         paths.any(|path| at_or_above(&path, place))
     }
@@ -97,21 +99,56 @@ impl Hat<'_> {
     /// Which marks the pattern has, and what it has where one is wanted.
     fn has_no_mark(&self, report: &mut Report, good: &Listed, words: &str) {
         let marks = marks(&good.term);
-        let spots = marks.iter().map(|mark| self.scene.in_pattern(good, mark));
-        let others = match marks.is_empty() {
+        let others: Vec<String> = marks
+            .iter()
+            .map(|mark| self.other_mark(good, mark))
+            .collect();
+        let others = match others.is_empty() {
             true => "it has none at all".to_string(),
-            false => format!("it marks {}", spots.collect::<Vec<_>>().join(", ")),
+            false => format!("it marks {}", others.join(", ")),
         };
         report.detail(format!(
             "{words} matches, but has no mark at or above the place: {others}"
         ));
+        if let Some(hint) = self.wants_mark(good) {
+            report.detail(format!("hint: {hint}"));
+            taken_by_bads(report, self.scene, self.upper, self.asked.place);
+        }
+    }
+
+    /// A mark that does not cover the place.
+    fn other_mark(&self, good: &Listed, mark: &Path) -> String {
+        let spot = self.scene.in_pattern(good, mark);
+        match at_or_above(&self.asked.place.path, &joined(&self.upper.path, mark)) {
+            true => format!("{spot} below the place"),
+            false => spot,
+        }
+    }
+
+    /// What stands where a mark would have to, if a mark can stand there.
+    fn wants_mark(&self, good: &Listed) -> Option<String> {
         let way = &self.asked.place.path[self.upper.path.len()..];
         let way = as_far_as(&good.term, way);
-        if let Term::Plain(_) | Term::PlainNonce(_) = down(&good.term, way) {
-            let spot = self.scene.in_pattern(good, way);
-            report.detail(format!(
-                "hint: here it has {spot}; a mark `*` in place of `?` would protect the place"
-            ));
+        let there = down(&good.term, way);
+        let spot = self.scene.in_pattern(good, way);
+        let all = subterms(&good.term);
+        let often = all.iter().filter(|place| place.subterm == there).count() > 1;
+        let is_taken = !taking_bads(self.scene, self.upper, self.asked.place).is_empty();
+        let end = match is_taken {
+            true => "is wanted; and then",
+            false => "would protect the place",
+        };
+        match there {
+            Term::Plain(_) | Term::PlainNonce(_) if often => Some(format!(
+                "here it has {spot}; a mark `*` in place of `?` at all its places {end}"
+            )),
+            Term::Plain(_) | Term::PlainNonce(_) => Some(format!(
+                "here it has {spot}; a mark `*` in place of `?` {end}"
+            )),
+            Term::Atom(_) => Some(format!(
+                "here it has {spot}; a marked variable in its place {end}"
+            )),
+            _ => None,
         }
     }
 
@@ -139,13 +176,28 @@ impl Hat<'_> {
         let why = scene.parting(good, self.asked.rule.block, self.upper.subterm, found);
         let words = scene.listed("good", good);
         report.detail(format!("{words} does not match: {why}"));
-        let atoms = &scene.certificate.atoms;
-        if let Some(pair) = mended_by_exchange(atoms, &good.term, self.upper.subterm, found) {
-            let pair = scene.in_pattern(good, &pair);
-            report.detail(format!(
-                "hint: with the halves of its {pair} exchanged it would match"
+        if let Some(hint) = self.other_order(good, found) {
+            report.detail(format!("hint: {hint}"));
+        }
+    }
+
+    /// Whether the pattern would match with the same fields in another order, or
+    /// bracketed otherwise.
+    fn other_order(&self, good: &Listed, found: &Mismatch) -> Option<String> {
+        let (atoms, term) = (&self.scene.certificate.atoms, self.upper.subterm);
+        if let Some(pair) = mended_by_exchange(atoms, &good.term, term, found) {
+            let spot = self.scene.in_pattern(good, &pair);
+            let mended = exchanged(&good.term, &pair);
+            let besides = match self.covers(&mended) {
+                true => "",
+                false => ", but has no mark for the place",
+            };
+            return Some(format!(
+                "with the halves of its {spot} exchanged it would match{besides}"
             ));
         }
+        let same = literal::matches(atoms, &to_the_right(&good.term), &to_the_right(term));
+        same.then(|| "its fields are the same, but bracketed otherwise".to_string())
     }
 }
 

@@ -27,6 +27,16 @@ pub fn length(file: &[u8]) -> Finding {
     }
 }
 
+/// 1, of a text that has no line.
+pub fn no_lines() -> Finding {
+    Finding {
+        what: "the certificate is empty".to_string(),
+        at: At::File,
+        found: "a text without a line but comments".to_string(),
+        expected: "lines for atoms, secrets, patterns and rules".to_string(),
+    }
+}
+
 /// 2: the check.
 pub fn check(file: &[u8], number: usize) -> Finding {
     let block = block_of(file, number);

@@ -72,8 +72,8 @@ fn origin(report: &mut Report, source: &Source, proved: &str, verdict: &Verdict)
             report.line(format!("literal: {line}"));
         }
     }
-    if source.is_printed() {
-        report.line("The file came as bytes: lines and names are those that --print gives it.");
+    if let Some(form) = source.form() {
+        report.line(form);
     }
     report.line("");
 }
@@ -83,6 +83,7 @@ fn refused(report: &mut Report, source: &Source, refusal: &Refusal) {
     let (block, place) = (refusal.block as usize, refusal.place as usize);
     let file = &source.file;
     let finding = match refusal.number {
+        1 if source.is_empty_text() => layout::no_lines(),
         1 => layout::length(file),
         2 => layout::check(file, block),
         3 => layout::kind_order(file, block),

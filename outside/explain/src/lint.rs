@@ -5,10 +5,14 @@ use crate::report::{all_of, Report};
 use crate::scene::Scene;
 use crate::secrets::atom_at;
 use crate::source::At;
+use literal::hats::shares_with_some;
 use literal::numbers::{atom_kind, kind, BLOCK};
 use literal::read::{Certificate, Listed, Rule};
 use literal::shares;
 use literal::term::{marks, places, subterms, Term};
+
+/// So many atoms without use are named.
+const MOST_NAMES: usize = 12;
 
 /// A part of the file, and what is suspect about it.
 pub struct Suspect {
@@ -29,6 +33,7 @@ pub fn suspects(scene: Scene) -> Vec<Suspect> {
     found.extend(keys_of_the_intruder(scene.certificate));
     found.extend(patterns_without_marks(scene));
     found.extend(patterns_without_use(scene));
+    found.extend(bads_without_good(scene.certificate));
     found.extend(atoms_without_use(scene));
     found.extend(equal_blocks(scene));
     found
@@ -60,10 +65,23 @@ fn lone_variable(scene: Scene, rule: &Rule) -> Option<Suspect> {
     Some(Suspect {
         at: At::Entry(rule.block, rule.premise_entries() + place.entry),
         words: format!(
-            "only the conclusion has {}: the rule sends any message there, a secret too",
-            all_of(&names)
+            "only the conclusion has {}: the rule sends {} there",
+            all_of(&names),
+            what_is_sent(scene, &lone)
         ),
     })
+}
+
+/// What may stand for these variables.
+fn what_is_sent(scene: Scene, variables: &[&Term]) -> &'static str {
+    let all_nonces = variables
+        .iter()
+        .all(|variable| variable.is_nonce_variable());
+    match (all_nonces, scene.secret_nonce()) {
+        (false, _) => "any message, a secret too",
+        (true, Some(_)) => "any nonce, a secret one too",
+        (true, None) => "any nonce",
+    }
 }
 
 /// The intruder has foreign nonces, but no key that the file does not list.
@@ -113,15 +131,29 @@ fn patterns_without_use(scene: Scene) -> Vec<Suspect> {
         all.any(|encryption| shares(&certificate.atoms, &listed.term, encryption))
     };
     let patterns = certificate.goods.iter().chain(&certificate.bads);
-    let suspect = |listed: &Listed| Suspect {
+    let suspect = |listed: &Listed| {
+        Suspect {
         at: At::Block(listed.block),
-        words: "no encryption of any rule matches this pattern or shares an instance with it"
+        words: "no encryption at a place of any rule matches this pattern or shares an instance with it"
             .to_string(),
+    }
     };
     patterns
         .filter(|listed| !is_used(listed))
         .map(suspect)
         .collect()
+}
+
+/// Bad patterns that take nothing out of a good one.
+fn bads_without_good(certificate: &Certificate) -> Vec<Suspect> {
+    let takes = |bad: &Listed| shares_with_some(&certificate.atoms, &bad.term, &certificate.goods);
+    let suspect = |bad: &Listed| Suspect {
+        at: At::Block(bad.block),
+        words: "no good pattern shares an instance with this bad one: it takes nothing out"
+            .to_string(),
+    };
+    let bads = certificate.bads.iter().filter(|bad| !takes(bad));
+    bads.map(suspect).collect()
 }
 
 /// Every encryption at a place of a rule.
@@ -135,7 +167,8 @@ fn terms_of(rule: &Rule) -> impl Iterator<Item = &Term> {
     rule.premise.iter().chain([&rule.conclusion])
 }
 
-/// Atoms that no term holds, but for the partner of a key that one does.
+/// Atoms that no term holds, but for the partner of a key that one does, and for
+/// known keys: the intruder uses these.
 fn atoms_without_use(scene: Scene) -> Option<Suspect> {
     let certificate = scene.certificate;
     let listed = certificate.secrets.iter();
@@ -145,18 +178,21 @@ fn atoms_without_use(scene: Scene) -> Option<Suspect> {
     for term in terms.chain(certificate.rules.iter().flat_map(terms_of)) {
         mark_used(certificate, term, &mut used);
     }
-    let unused: Vec<u16> = (0..)
-        .zip(used)
-        .filter_map(|(number, used)| (!used).then_some(number))
-        .collect();
+    let is_suspect = |number: &u16| {
+        let atom = certificate.atoms[*number as usize];
+        !used[*number as usize] && !(atom.is_key() && atom.known == 1)
+    };
+    let unused: Vec<u16> = (0..used.len() as u16).filter(is_suspect).collect();
     let first = unused.first()?;
-    let names: Vec<String> = unused.iter().map(|atom| scene.source.atom(*atom)).collect();
+    let told = unused.iter().take(MOST_NAMES);
+    let names: Vec<String> = told.map(|atom| scene.source.atom(*atom)).collect();
+    let more = match unused.len() - names.len() {
+        0 => String::new(),
+        more => format!(" and {more} more"),
+    };
     Some(Suspect {
         at: atom_at(*first),
-        words: match unused.len() {
-            1 => format!("no term uses the atom {}", names[0]),
-            count => format!("no term uses these {count} atoms: {}", names.join(", ")),
-        },
+        words: format!("no term uses {}{more}", names.join(", ")),
     })
 }
 

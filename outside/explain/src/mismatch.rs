@@ -99,6 +99,25 @@ pub fn exchanged(term: &Term, path: &[u8]) -> Term {
     }
 }
 
+/// The term with the fields of every tuple nested to the right.
+pub fn to_the_right(term: &Term) -> Term {
+    let term = term.with_parts(to_the_right);
+    match &term {
+        Term::Pair(left, rest) => with_fields_before(left, rest),
+        _ => term,
+    }
+}
+
+/// The fields of the left tuple, and then the rest.
+fn with_fields_before(left: &Term, rest: &Term) -> Term {
+    match left {
+        Term::Pair(first, others) => {
+            Term::pair((**first).clone(), with_fields_before(others, rest))
+        }
+        field => Term::pair(field.clone(), rest.clone()),
+    }
+}
+
 /// The first place where both have symbols, and other ones: none if the two
 /// share no instance for what variables would have to stand for.
 pub fn clash(atoms: &[Atom], one: &Term, other: &Term) -> Option<Path> {

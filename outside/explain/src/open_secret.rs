@@ -2,7 +2,7 @@
 
 use crate::hats::{by_root, under_other_keys};
 use crate::mismatch::clash;
-use crate::report::{short, Finding, Report};
+use crate::report::{short, Finding, Report, MOST_TOLD};
 use crate::scene::{root_words, Scene};
 use crate::source::{down, At};
 use literal::hats::{shares_with_some, Exception};
@@ -27,20 +27,26 @@ pub fn open_secret(report: &mut Report, scene: Scene, block: usize, entry: usize
     let finding = Finding {
         what: "the premise has a listed secret at an open place".to_string(),
         at: At::Entry(block, entry),
-        found: format!("{name} where everybody reads it: {listed}"),
-        expected: "an encryption above it that shares an instance with a good pattern".to_string(),
+        found: format!("{name} at an open place, where no good pattern keeps it: {listed}"),
+        expected:
+            "an encryption above it that shares an instance with a good pattern and is no bad one"
+                .to_string(),
     };
     report.finding(scene.source, &finding);
-    why_open(report, scene, rule, &all, place);
+    let by_bad = why_open(report, scene, rule, &all, place);
     report.title("What to do");
-    report.item("The rule waits for a message that shows the secret: if the secret is kept, it never fires.");
-    report.item("Write the premise as the part reads it, or give that message a good pattern, or drop the rule.");
+    report.item("The rule waits for a message in which the secret is not protected: no accepted run has one.");
+    report.item(match by_bad {
+        true => "Narrow the bad pattern, or write the premise as the part reads it, or drop the rule.",
+        false => "Write the premise as the part reads it, or give that message a good pattern, or drop the rule.",
+    });
 }
 
-/// Of every encryption above the place, why it does not close it.
-fn why_open(report: &mut Report, scene: Scene, rule: &Rule, all: &[Place], place: &Place) {
+/// Of every encryption above the place, why it does not close it; whether a bad
+/// pattern is the reason.
+fn why_open(report: &mut Report, scene: Scene, rule: &Rule, all: &[Place], place: &Place) -> bool {
     report.title("Why the place is open");
-    let mut above = 0;
+    let (mut above, mut by_bad) = (0, false);
     let is_above =
         |upper: &&Place| upper.subterm.is_encryption() && strictly_above(&upper.path, &place.path);
     for upper in all.iter().filter(is_above) {
@@ -48,6 +54,7 @@ fn why_open(report: &mut Report, scene: Scene, rule: &Rule, all: &[Place], place
         let words = scene.in_premise(rule, upper);
         match opening_bad(scene, upper, place) {
             Some(bad) => {
+                by_bad = true;
                 let bad = scene.listed("bad", bad);
                 report.item(format!(
                     "{words} does not close it: it is {bad} with its variables replaced"
@@ -62,6 +69,7 @@ fn why_open(report: &mut Report, scene: Scene, rule: &Rule, all: &[Place], place
     if above == 0 {
         report.item("no encryption stands above it");
     }
+    by_bad
 }
 
 /// The bad pattern that opens the place below an encryption, where a good one
@@ -81,7 +89,10 @@ fn opening_bad<'a>(scene: Scene<'a>, upper: &Place, place: &Place) -> Option<&'a
 /// Where the good patterns and the encryption part.
 fn no_good(report: &mut Report, scene: Scene, rule: &Rule, upper: &Place) {
     let (near, far) = by_root(&scene.certificate.goods, upper.subterm);
-    for good in near {
+    if near.is_empty() && far.is_empty() {
+        report.detail("the certificate has none");
+    }
+    for good in near.iter().take(MOST_TOLD) {
         let words = scene.listed("good", good);
         let why = match clash(&scene.certificate.atoms, &good.term, upper.subterm) {
             Some(path) => {
@@ -92,6 +103,10 @@ fn no_good(report: &mut Report, scene: Scene, rule: &Rule, upper: &Place) {
             None => "a variable would have to be two messages, or hold itself".to_string(),
         };
         report.detail(format!("{words}: {why}"));
+    }
+    if near.len() > MOST_TOLD {
+        let more = near.len() - MOST_TOLD;
+        report.detail(format!("{more} more under this key share none"));
     }
     under_other_keys(report, scene, upper.subterm, &far);
 }

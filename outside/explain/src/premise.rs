@@ -7,7 +7,7 @@ use crate::scene::Scene;
 use literal::hats::closings;
 use literal::read::Listed;
 use literal::shares;
-use literal::term::{places, subterms, Place, Term};
+use literal::term::{at_or_above, marks, places, subterms, Place, Term};
 
 /// Where the same subterm stands in the premise, and what closes it there.
 pub fn not_in_premise(report: &mut Report, scene: Scene, asked: &Asked) {
@@ -48,7 +48,29 @@ fn closed(report: &mut Report, scene: Scene, asked: &Asked, premise: &Term, plac
         let words = scene.in_premise(asked.rule, upper);
         report.detail(format!("{words} closes it: {}", shared_good(scene, upper)));
         near_bads(report, scene, asked, upper);
+        opening_pattern(report, scene, asked, upper, place);
     }
+}
+
+/// For a variable in a field that no good pattern marks: the bad pattern that would
+/// open it.
+fn opening_pattern(report: &mut Report, scene: Scene, asked: &Asked, upper: &Place, place: &Place) {
+    let way = &place.path[upper.path.len()..];
+    let atoms = &scene.certificate.atoms;
+    let mut goods = scene.certificate.goods.iter();
+    let marks_it = |good: &Listed| {
+        shares(atoms, &good.term, upper.subterm)
+            && marks(&good.term).iter().any(|mark| at_or_above(mark, way))
+    };
+    if !place.subterm.is_variable() || goods.any(marks_it) {
+        return;
+    }
+    let bad = scene
+        .source
+        .with_mark(asked.rule.block, upper.subterm, place.subterm);
+    report.detail(format!(
+        "hint: it closes all below it, marked or not; if this field is for everybody, `bad {bad}` opens it"
+    ));
 }
 
 /// The first good pattern that the encryption shares an instance with.
@@ -90,7 +112,11 @@ fn near_bads(report: &mut Report, scene: Scene, asked: &Asked, upper: &Place) {
 fn absent(report: &mut Report, scene: Scene, asked: &Asked, premise: &Term) {
     let block = asked.rule.block;
     let wanted = scene.source.term(block, asked.place.subterm);
-    report.item(format!("{wanted} does not stand in the premise"));
+    let as_key = match is_key_in(premise, asked.place.subterm) {
+        true => " but as a key, and keys are no places",
+        false => "",
+    };
+    report.item(format!("{wanted} does not stand in the premise{as_key}"));
     if !asked.place.subterm.is_variable() {
         return;
     }
@@ -127,6 +153,14 @@ fn absent(report: &mut Report, scene: Scene, asked: &Asked, premise: &Term) {
             "hint: {name} and {wanted} are two variables, of two sorts"
         ));
     }
+}
+
+/// Whether the atom is the key of an encryption or of a signature.
+fn is_key_in(term: &Term, atom: &Term) -> bool {
+    subterms(term).iter().any(|place| match place.subterm {
+        Term::Encryption(_, key) | Term::Signature(_, key) => Term::Atom(*key) == *atom,
+        _ => false,
+    })
 }
 
 /// The variables of a term, each once, by first occurrence.

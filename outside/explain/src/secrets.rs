@@ -72,19 +72,26 @@ pub fn key_not_kept(report: &mut Report, scene: Scene, block: usize) {
         return;
     };
     let inverse = scene.certificate.atoms[*key as usize].partner;
+    let is_known = scene.certificate.atoms[inverse as usize].known == 1;
     let (key, name) = (scene.source.atom(*key), scene.source.atom(inverse));
+    let (expected, found) = match is_known {
+        true => (
+            "a key whose inverse the intruder does not have".to_string(),
+            format!("{name}, which opens what is under {key} and is known: drop the pattern"),
+        ),
+        false => (
+            format!("`secret {name}` among the secrets"),
+            format!("no such secret; {name} opens what is encrypted under {key}"),
+        ),
+    };
     let finding = Finding {
         what: "the inverse of a good pattern's root key is no listed secret".to_string(),
         at: At::Block(block),
-        found: format!("no such secret; {name} opens what is encrypted under {key}"),
-        expected: format!("`secret {name}` among the secrets"),
+        found,
+        expected,
     };
     report.finding(scene.source, &finding);
-    report.also(
-        scene.source,
-        atom_at(inverse),
-        &format!("{name} is listed here"),
-    );
+    report.also(scene.source, atom_at(inverse), &format!("the atom {name}"));
 }
 
 fn listed(list: &[Listed], block: usize) -> Option<&Listed> {

@@ -59,9 +59,22 @@ impl Source {
         }
     }
 
-    /// Whether lines and columns are those of the printed bytes.
-    pub fn is_printed(&self) -> bool {
-        !self.is_text && !self.blocks.is_empty()
+    /// How the words of an explanation name places, if not as the designer does.
+    pub fn form(&self) -> Option<&'static str> {
+        match (self.is_text, self.blocks.is_empty()) {
+            (true, _) => None,
+            (false, false) => {
+                Some("The file came as bytes: lines and names are those that --print gives it.")
+            }
+            (false, true) => {
+                Some("The file came as bytes that cannot be printed whole: places are told by block and entry.")
+            }
+        }
+    }
+
+    /// Whether it is a text without a line but comments.
+    pub fn is_empty_text(&self) -> bool {
+        self.is_text && self.file.is_empty()
     }
 
     pub fn name(&self) -> &str {
@@ -133,17 +146,33 @@ impl Source {
 
     /// The term, with the names that the block's variables have.
     pub fn term(&self, block: usize, term: &Term) -> String {
+        self.shown(term, &|variable| self.variable(block, variable))
+    }
+
+    /// The same with this variable marked.
+    pub fn with_mark(&self, block: usize, term: &Term, marked: &Term) -> String {
+        self.shown(term, &|variable| {
+            let name = self.variable(block, variable);
+            match variable == marked {
+                true => format!("*{}", name.trim_start_matches('?')),
+                false => name,
+            }
+        })
+    }
+
+    fn shown(&self, term: &Term, named: &impl Fn(&Term) -> String) -> String {
         let (open, close) = match term {
             Term::Pair(left, right) => {
-                return format!("({}, {})", self.term(block, left), self.term(block, right))
+                let (left, right) = (self.shown(left, named), self.shown(right, named));
+                return format!("({left}, {right})");
             }
             Term::Atom(number) => return self.atom(*number),
             Term::Encryption(_, key) => ("{", format!("}}{}", self.atom(*key))),
             Term::Hash(_) => ("h(", ")".to_string()),
             Term::Signature(_, key) => ("sig(", format!("){}", self.atom(*key))),
-            variable => return self.variable(block, variable),
+            variable => return named(variable),
         };
-        let message = term.parts().map(|part| self.term(block, part));
+        let message = term.parts().map(|part| self.shown(part, named));
         format!("{open}{}{close}", message.collect::<String>())
     }
 

@@ -7,14 +7,19 @@ use literal::read::Listed;
 use literal::shares;
 use literal::term::{at_or_above, joined, marks, Path, Place};
 
-/// The bad patterns that share an instance with the encryption above the place, each
-/// by an example, and the marks by which they count.
-pub fn taken_by_bads(report: &mut Report, scene: Scene, upper: &Place, place: &Place) {
+/// The bad patterns that share an instance with the encryption above the place, and
+/// count for the place.
+pub fn taking_bads<'a>(scene: Scene<'a>, upper: &Place, place: &Place) -> Vec<&'a Listed> {
     let atoms = &scene.certificate.atoms;
     let takes = |bad: &&Listed| {
         shares(atoms, &bad.term, upper.subterm) && Exception::of(&upper.path, bad).may_expose(place)
     };
-    let bads: Vec<&Listed> = scene.certificate.bads.iter().filter(takes).collect();
+    scene.certificate.bads.iter().filter(takes).collect()
+}
+
+/// Each of these by an example, and the marks by which it counts.
+pub fn taken_by_bads(report: &mut Report, scene: Scene, upper: &Place, place: &Place) {
+    let bads = taking_bads(scene, upper, place);
     for bad in bads.iter().take(MOST_TOLD) {
         let words = scene.listed("bad", bad);
         let example = scene.example(&bad.term, upper.subterm);

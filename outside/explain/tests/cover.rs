@@ -48,7 +48,7 @@ fn why_risky() {
     let none = both_whys(&format!("{atoms}secret K\nrule -> ?n!x\n"));
     assert_says(
         &none[0],
-        "every variable of a conclusion is, also if no secret is a nonce",
+        "every one in a conclusion is risky, also if no secret is a nonce",
     );
     let shared = said_of("secret (N, T)\ngood {?x}KA\nrule {(?x, ?y)}KA -> (?x, ?y)\n");
     let words = "(?x, ?y) shares an instance with secret (N, T) (line 11, block 3): (N, T)";
@@ -58,10 +58,7 @@ fn why_risky() {
 #[test]
 fn why_no_hat() {
     let none = usual("rule {?x}KA -> (T, ?x)\n");
-    assert_says(
-        &none,
-        "no encryption stands above it, so everybody reads it",
-    );
+    assert_says(&none, "no encryption stands above it, so everybody gets it");
     let signed = usual("rule {?x}KA -> sig(?x)KAi\n");
     assert_says(&signed, "sig(?x)KAi (12:16, entry 2) hides nothing");
     let key = usual("rule {?x}KA -> {?x}KI\n");
@@ -91,9 +88,46 @@ fn why_no_mark() {
     let hint = "hint: here it has ?x (11:8, entry 2); a mark `*` in place of `?` would protect";
     assert_says(&other, hint);
     let atom = said_of("good {(N, *s)}KA\nrule -> {(N, T)}KA\n");
-    assert!(!atom.contains("hint: here"), "{atom}");
+    let words = "hint: here it has N (11:8, entry 2); a marked variable in its place would protect";
+    assert_says(&atom, words);
+    let twice = said_of("good {(?x, ?x)}KA\nrule -> {(N, N)}KA\n");
+    assert_says(
+        &twice,
+        "a mark `*` in place of `?` at all its places would protect the place",
+    );
+    let lower = said_of("secret (N, T)\ngood {(*s, ?t)}KA\nrule -> {(N, T)}KA\n");
+    assert_says(&lower, "it marks *s (12:8, entry 2) below the place");
+    let bad = "bad {(I, ?k)}KA\n";
+    let taken = said_of(&format!(
+        "good {{(?a, ?k)}}KA\n{bad}rule -> {{(?x, N)}}KA\n"
+    ));
+    let words =
+        "here it has ?a (11:8, entry 2); a mark `*` in place of `?` is wanted; and then\n      bad";
+    assert_says(&taken, words);
     let below = said_of("good {(?x, *s)}KA\nrule -> {((T, N), T)}KA\n");
     assert_says(&below, hint);
+}
+
+/// The same fields in another order, or bracketed otherwise.
+#[test]
+fn why_another_order() {
+    let order = said_of("good {(*s, T)}KA\nrule -> {(T, N)}KA\n");
+    assert_says(
+        &order,
+        "hint: with the halves of its (*s, T) (11:7, entry 1) exchanged it would match\n",
+    );
+    let no_mark = said_of("good {(?s, T)}KA\nrule -> {(T, N)}KA\n");
+    assert_says(
+        &no_mark,
+        "exchanged it would match, but has no mark for the place\n",
+    );
+    let brackets = said_of("good {((A, I), *s)}KA\nrule -> {(A, (I, N))}KA\n");
+    assert_says(
+        &brackets,
+        "hint: its fields are the same, but bracketed otherwise",
+    );
+    let other = said_of("good {((A, A), *s)}KA\nrule -> {(A, (I, N))}KA\n");
+    assert!(!other.contains("bracketed"), "{other}");
 }
 
 #[test]
@@ -147,7 +181,31 @@ fn why_not_the_premise() {
     assert_says(&sorts, "hint: ?n!x and ?x are two variables, of two sorts");
     let ground = usual("rule T -> ?x\n");
     assert_says(&ground, "the premise has no variable");
-    assert_says(&usual("rule T -> N\n"), "N does not stand in the premise");
+    assert_says(&usual("rule T -> N\n"), "N does not stand in the premise\n");
+    let key = usual("rule {T}KAi -> KAi\n");
+    assert_says(
+        &key,
+        "KAi does not stand in the premise but as a key, and keys are no places",
+    );
+    let field = said_of("good {(*k, ?t)}KA\nrule {(?k, ?t)}KA -> ?t\n");
+    let words = "hint: it closes all below it, marked or not; \
+                 if this field is for everybody, `bad {(?k, *t)}KA` opens it";
+    assert_says(&field, words);
+    let opened = "good {(*k, ?t)}KA\nbad {(?k, *t)}KA\nrule {(?k, ?t)}KA -> ?t\n";
+    let opened = of_text(&format!("{ATOMS}{SECRETS}{opened}"));
+    assert!(common::line(&opened).starts_with("accepted "));
+    let marked = usual("rule {(?k, ?t)}KA -> ?t\n");
+    assert!(!marked.contains("closes all below it"), "{marked}");
+}
+
+/// An attack that does without the refused rule says so.
+#[test]
+fn attacks_of_other_rules() {
+    let other = usual("rule {?x}KA -> {?x}KI\nrule -> {N}KI\n");
+    assert_says(&other, "Broken: after this run the intruder has secret N");
+    assert_says(&other, "The refused rule takes no part in this run");
+    let own = usual("rule -> {N}KI\n");
+    assert!(!own.contains("takes no part"), "{own}");
 }
 
 /// Of many patterns the near ones are told, the rest is counted.

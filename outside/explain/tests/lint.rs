@@ -19,9 +19,9 @@ atom N nonce unknown
 secret N
 secret KAi
 good {(A, *s)}KA
-bad {(KX, ?x)}KA
+bad {(A, (KX, ?x))}KA
 rule -> {(A, N)}KA
-rule -> {(KX, A)}KA
+rule -> {(A, (KX, A))}KA
 rule {?x}KI -> ?x
 ";
 
@@ -62,13 +62,24 @@ fn nothing() {
 
 #[test]
 fn a_variable_of_the_conclusion_only() {
-    let found = one("{(A, N)}KA", "{(A, (?z, ?y))}KA");
+    let found = one("{(A, N)}KA", "{(A, ((?z, ?y), A))}KA");
     assert_says(
         &found,
-        "lane.txt:12:15: block 5, entry 4: only the conclusion has ?z and ?y",
+        "lane.txt:12:16: block 5, entry 5: only the conclusion has ?z and ?y",
     );
     let other_sort = one("rule {?x}KI -> ?x", "rule {?x}KI -> {(A, ?n!x)}KA");
-    assert_says(&other_sort, "only the conclusion has ?n!x");
+    assert_says(
+        &other_sort,
+        "only the conclusion has ?n!x: the rule sends any nonce, a secret one too",
+    );
+    let no_secret = CLEAN
+        .replace("secret N\n", "")
+        .replace("(A, N)", "(A, ?n!x)");
+    let words = words_of(&no_secret);
+    assert_says(
+        &words[0],
+        "only the conclusion has ?n!x: the rule sends any nonce there",
+    );
 }
 
 #[test]
@@ -95,31 +106,54 @@ fn a_pattern_without_use() {
     let good = one("bad {", "good {(KI, *s)}KA\nbad {");
     assert_says(
         &good,
-        "lane.txt:11:1: block 4: no encryption of any rule matches",
+        "lane.txt:11:1: block 4: no encryption at a place of any rule matches",
     );
-    let bad = one("bad {(KX, ?x)}KA", "bad {(KX, ?x)}KA\nbad {A}KA");
+    let bad = one(
+        "bad {(A, (KX, ?x))}KA",
+        "bad {(A, (KX, ?x))}KA\nbad {(A, A)}KA",
+    );
     assert_says(
         &bad,
-        "lane.txt:12:1: block 5: no encryption of any rule matches",
+        "lane.txt:12:1: block 5: no encryption at a place of any rule matches",
     );
-    let below_a_hash = "rule -> h({A}KA)\nrule {?x}KI -> ?x";
-    let hidden = CLEAN.replace("bad {", "bad {A}KA\nbad {");
+    let below_a_hash = "rule -> h({(A, A)}KA)\nrule {?x}KI -> ?x";
+    let hidden = CLEAN.replace("bad {", "bad {(A, A)}KA\nbad {");
     let words = words_of(&hidden.replace("rule {?x}KI -> ?x", below_a_hash));
     assert_eq!(words.len(), 1, "{words:?}");
 }
 
 #[test]
+fn a_bad_pattern_without_a_good_one() {
+    let lines = "bad {KX}KI\nrule -> {KX}KI\n";
+    let (bad, rule) = lines.split_once('\n').unwrap();
+    let text = CLEAN.replace(
+        "rule -> {(A, N)}KA",
+        &format!("{bad}\nrule -> {{(A, N)}}KA"),
+    );
+    let words = words_of(&(text + rule));
+    assert_eq!(words.len(), 1, "{words:?}");
+    assert_says(
+        &words[0],
+        "lane.txt:12:1: block 5: no good pattern shares an instance with",
+    );
+}
+
+/// A key that the intruder has need not stand in a term: it may encrypt with it.
+#[test]
+fn keys_of_the_intruder_are_used() {
+    let text = CLEAN.replace("atom N ", "atom KY symmetric known\natom N ");
+    assert_eq!(words_of(&text), Vec::<String>::new());
+}
+
+#[test]
 fn an_atom_without_use() {
     let found = one("atom N ", "atom M nonce known\natom N ");
-    assert_says(
-        &found,
-        "lane.txt:7:1: block 0, entry 6: no term uses the atom M",
-    );
+    assert_says(&found, "lane.txt:7:1: block 0, entry 6: no term uses M");
     let two = one(
         "atom N ",
-        "atom M nonce known\natom K symmetric known\natom N ",
+        "atom M nonce known\natom L principal known\natom N ",
     );
-    assert_says(&two, "block 0, entry 6: no term uses these 2 atoms: M, K");
+    assert_says(&two, "block 0, entry 6: no term uses M, L");
 }
 
 #[test]

@@ -39,7 +39,9 @@ fn one_length() {
     assert_says(&cut, "found    700 bytes: 1 whole block and 188 bytes more");
     assert_says(&cut, "expected 1 to 64 blocks of 512 bytes");
     let empty = why(&of_text("# nothing\n"));
-    assert_says(&empty, "found    nothing: the file is empty");
+    assert_says(&empty, "found    a text without a line but comments");
+    let nothing = why(&Source::of_bytes("lane.cert", Vec::new()));
+    assert_says(&nothing, "found    nothing: the file is empty");
     let long = why(&Source::of_bytes("lane.cert", vec![0; 512 * 65]));
     assert_says(&long, "found    33280 bytes: 65 blocks");
 }
@@ -136,7 +138,7 @@ fn six_atoms() {
     );
     assert_says(
         &said,
-        "expected partner 8: a symmetric key is its own partner\nfound    partner 0",
+        "expected partner K: a symmetric key is its own partner\nfound    partner A",
     );
     let private = said_of("atom K private unknown partner KA\nsecret N\nrule -> T");
     assert_says(
@@ -150,7 +152,7 @@ fn six_atoms() {
     let nonce = said_of("atom M nonce known partner T\nsecret N\nrule -> T");
     assert_says(
         &nonce,
-        "expected partner 0: a nonce has none\nfound    partner 7",
+        "expected no partner, which is 0: a nonce has none\nfound    partner T",
     );
     let kind = said_of_bytes(&[(4, 9)], true);
     assert_says(&kind, "block 0, entry 0: ");
@@ -289,7 +291,21 @@ fn eleven_key_not_kept() {
     );
     assert_says(&said, "expected `secret KAi` among the secrets");
     assert_says(&said, "KAi opens what is encrypted under KA");
-    assert_says(&said, "lane.txt:4:1: block 0, entry 3: KAi is listed here");
+    assert_says(&said, "lane.txt:4:1: block 0, entry 3: the atom KAi\n");
+}
+
+/// A key that everybody has protects nothing, so listing it does not help.
+#[test]
+fn eleven_key_known() {
+    let said = said_of("secret N\ngood {*s}KI\nrule -> A\n");
+    assert_says(
+        &said,
+        "expected a key whose inverse the intruder does not have",
+    );
+    assert_says(
+        &said,
+        "found    KIi, which opens what is under KI and is known: drop the pattern",
+    );
 }
 
 #[test]
@@ -310,6 +326,15 @@ fn fifteen_open_secret() {
     );
     let bare = said_of(&format!("{SECRETS}{GOOD}rule N -> T\n"));
     assert_says(&bare, "no encryption stands above it");
+    let no_goods = said_of(&format!("{SECRETS}rule {{N}}KA -> T\n"));
+    assert_says(
+        &no_goods,
+        "shares an instance with no good pattern:\n    the certificate has none\n",
+    );
+    assert_says(
+        &no_goods,
+        "or give that message a good pattern, or drop the rule",
+    );
     let bad = said_of(&format!(
         "{SECRETS}{GOOD}bad {{(I, *x)}}KA\nrule {{(I, N)}}KA -> T\n"
     ));

@@ -22,14 +22,14 @@ const SAVE: &str = "save the text as UTF-8 without a byte order mark (BOM)";
 
 /// The text that the bytes are.
 pub fn text_of(bytes: &[u8]) -> Result<&str, Error> {
-    let start = behind("");
+    // The whole text, of which no piece is drawn.
+    let start = Span {
+        width: 0,
+        ..behind("")
+    };
     if bytes.len() > LONGEST_TEXT {
         let expected = format!("a text of at most {LONGEST_TEXT} bytes");
-        return Err(Error::new(
-            start,
-            &expected,
-            &format!("{} bytes", bytes.len()),
-        ));
+        return Err(Error::new(start, &expected, "more"));
     }
     if let Some((_, name)) = MARKS.iter().find(|(mark, _)| bytes.starts_with(mark)) {
         let found = format!("the byte order mark of {name}");

@@ -34,9 +34,12 @@ impl Error {
     }
 
     /// The error in lines of its own: where and what, the line of the text with
-    /// the piece marked, and the hint.
+    /// the piece marked if there is one, and the hint.
     pub fn told(&self, file: &str, text: &str) -> String {
-        let mut told = format!("{file}:{}\n{}", self.said(), pointed(text, self.at));
+        let mut told = format!("{file}:{}", self.said());
+        if self.at.width > 0 {
+            told += &format!("\n{}", pointed(text, self.at));
+        }
         if let Some(hint) = &self.hint {
             told += &format!("\nhint: {hint}");
         }

@@ -1,6 +1,6 @@
 //! What to do about common slips.
 
-use crate::letters::ascii_like;
+use crate::letters::{ascii_like, LONGEST_WORD};
 
 pub const TUPLE: &str = "a tuple is pairs: (N, (A, A))";
 pub const MESSAGE: &str = "a message is one term; a tuple is pairs: (N, (A, A))";
@@ -34,6 +34,7 @@ pub fn on_sign(sign: &str) -> Option<String> {
         ":" => "the text form has no colons",
         "!" => "`!` stands only in nonce variables: ?n!x and *n!x",
         "?" | "*" | "?n!" | "*n!" => "a variable's name stands directly behind its sign: ?x, *n!x",
+        "-" => "a name has letters, digits, _ and '; the arrow is `->`",
         "→" | "⇒" | "⟶" | "⟹" | "–" | "—" | "−" | "‐" => ARROW,
         "[" | "]" => "a pair is (T, T), an encryption {T}KEY",
         "\"" | "`" | "“" | "”" => "names stand without quotation marks",
@@ -54,6 +55,13 @@ pub fn on_call(name: &str) -> String {
         "h" | "sig" => format!("write `{name}(` without a space"),
         _ => FORMS.to_string(),
     }
+}
+
+/// On a name that is no atom and near to none, where a term may stand.
+pub fn on_unknown(name: &str) -> Option<String> {
+    let hint =
+        || format!("an atom needs a line `atom {name} ..`, and a variable is written `?{name}`");
+    (name.len() <= LONGEST_WORD).then(hint)
 }
 
 /// On a name that is no atom but one of those that hashes and signatures have.

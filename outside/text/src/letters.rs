@@ -57,10 +57,12 @@ pub fn told_sign(sign: &str) -> String {
     }
 }
 
+/// A longer word is cut.
+pub const LONGEST_WORD: usize = 40;
+
 /// The word in quotation marks; of a long one the beginning.
 pub fn quoted(word: &str) -> String {
-    const LONGEST: usize = 40;
-    match word.char_indices().nth(LONGEST) {
+    match word.char_indices().nth(LONGEST_WORD) {
         Some((end, _)) => format!("`{}..`", &word[..end]),
         None => format!("`{word}`"),
     }

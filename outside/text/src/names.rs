@@ -18,7 +18,8 @@ pub fn number_of(name: &str, names: &[String]) -> Option<u16> {
 
 /// That no atom has this name.
 pub fn no_atom(at: Span, expected: &str, name: &str) -> Error {
-    Error::new(at, expected, &told_name(name))
+    let found = format!("{}, which is no atom", told_name(name));
+    Error::new(at, expected, &found)
 }
 
 /// The hint that the name of one of the atoms was meant.

@@ -1,32 +1,44 @@
 //! Which of several words may have been meant by another.
 
-use crate::letters::in_ascii;
+use crate::letters::{in_ascii, LONGEST_WORD};
 
 /// The hint that one of these words may have been meant.
 pub fn did_you_mean<'a>(word: &str, among: impl Iterator<Item = &'a str>) -> Option<String> {
-    nearest(word, among).map(|near| format!("did you mean `{near}`?"))
+    let near = nearest(word, among);
+    let quoted: Vec<String> = near
+        .iter()
+        .take(MOST)
+        .map(|near| format!("`{near}`"))
+        .collect();
+    match &quoted[..] {
+        [] => None,
+        [one] => Some(format!("did you mean {one}?")),
+        [before @ .., last] => Some(format!("did you mean {} or {last}?", before.join(", "))),
+    }
 }
 
-/// Words longer than this are not compared.
-const LONGEST: usize = 40;
+/// So many words are named at most.
+const MOST: usize = 4;
 
-/// The word with the fewest letters that differ, if those are few. Other case,
-/// and letters that only look alike, are no difference.
-fn nearest<'a>(word: &str, among: impl Iterator<Item = &'a str>) -> Option<&'a str> {
+/// The words with the fewest letters that differ, if those are few. Other case,
+/// and letters that only look alike, are no difference; long words are not compared.
+fn nearest<'a>(word: &str, among: impl Iterator<Item = &'a str>) -> Vec<&'a str> {
     let word = plain(word);
-    if word.len() > LONGEST {
-        return None;
+    if word.len() > LONGEST_WORD {
+        return Vec::new();
     }
     let most = (word.len() / 2).min(2);
     let near = among.filter_map(|other| {
         let letters = plain(other);
         let longer = letters.len().abs_diff(word.len());
         let apart = (longer <= most).then(|| distance(&word, &letters))?;
-        (apart <= most).then_some((apart, longer, other))
+        (apart <= most).then_some(((apart, longer), other))
     });
-    // Of equally near ones rather one of the same length.
-    let (_, _, other) = near.min_by_key(|(apart, longer, _)| (*apart, *longer))?;
-    Some(other)
+    let near: Vec<((usize, usize), &str)> = near.collect();
+    // Of equally near ones rather those of the same length.
+    let least = near.iter().map(|(apart, _)| *apart).min();
+    let nearest = near.iter().filter(|(apart, _)| Some(*apart) == least);
+    nearest.map(|(_, other)| *other).collect()
 }
 
 fn plain(word: &str) -> Vec<char> {

@@ -93,7 +93,11 @@ impl Terms<'_> {
 
     fn by_first_word(&mut self, depth: usize) -> Result<Term, Error> {
         match self.reader.peek() {
-            Some(Token::Name(_)) => Ok(Term::Atom(self.atom("an atom's name")?)),
+            Some(Token::Name(name)) => {
+                let number = self.atom("an atom's name");
+                let number = number.map_err(|error| error.or_maybe(hints::on_unknown(name)));
+                Ok(Term::Atom(number?))
+            }
             Some(Token::Variable(sort, name)) => self.variable(*sort, name),
             Some(Token::Sign('(')) => {
                 self.reader.skip();

@@ -99,7 +99,9 @@ fn first_words() {
 #[test]
 fn lines_of_errors() {
     let no_atom = error_of("\n# note\nsecret N").to_string();
-    assert_eq!(no_atom, "3:8: expected an atom's name, found `N`");
+    let words = "3:8: expected an atom's name, found `N`, which is no atom; \
+                 an atom needs a line `atom N ..`, and a variable is written `?N`";
+    assert_eq!(no_atom, words);
     let late = error_after_atoms("secret N\natom M nonce known\natom L nonce known");
     let words = "10:1: expected `secret`, `good`, `bad` or `rule`, found `atom`; \
                  atoms come before all other lines";
@@ -158,7 +160,11 @@ fn a_ninth_variable() {
 #[test]
 fn long_names() {
     let error = error_after_atoms(&format!("secret {}", "x".repeat(1_000_000)));
-    assert_eq!(error.found, format!("`{}..`", "x".repeat(40)));
+    assert_eq!(
+        error.found,
+        format!("`{}..`, which is no atom", "x".repeat(40))
+    );
+    assert_eq!(error.hint, None);
     assert_eq!((error.at.column, error.at.width), (8, 1_000_000));
     assert!(
         error
@@ -183,7 +189,7 @@ hint: a tuple is pairs: (N, (A, A))"
     assert_eq!(
         error_of(&text).told("standard input", &text),
         "\
-standard input:9:12: expected a key's name, found `KAA`
+standard input:9:12: expected a key's name, found `KAA`, which is no atom
     9 | \tsecret\t{N}KAA?x # why
       | \t      \t   ^^^
 hint: did you mean `KAi`?"

@@ -48,9 +48,10 @@ fn errors_end_with_2() {
     assert_eq!(
         message(&wrong),
         "\
-lane.txt:1:8: expected an atom's name, found `N`
+lane.txt:1:8: expected an atom's name, found `N`, which is no atom
     1 | secret N
       |        ^
+hint: an atom needs a line `atom N ..`, and a variable is written `?N`
 "
     );
     let unnamed = run(&["assemble"], b"secrets N");
