@@ -115,7 +115,11 @@ impl<'a> Solver<'a> {
         }
         let has_takers = || !access.takers(&self.store, goal.level).is_empty();
         match self.store.node_at(id) {
-            Node::Variable(variable) => self.store.lower(variable, goal.level),
+            Node::Variable(variable) => {
+                // Its message may be made of all that there is at the level.
+                agenda.used = agenda.used.max(goal.level);
+                self.store.lower(variable, goal.level);
+            }
             node @ Node::Pair(..) if !has_takers() => agenda.add_parts(node, goal.level),
             Node::Atom(_) if !has_takers() => return false,
             _ => agenda.waiting.push(goal),
