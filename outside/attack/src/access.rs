@@ -77,6 +77,7 @@ impl Access {
         let node = store.node_at(id);
         match node {
             Node::Atom(number) => return self.reach_atom(number, reached),
+            Node::Variable(_) if self.is_open(store, id) => {}
             Node::Variable(_) => self.open.push((id, self.level)),
             Node::Pair(left, right) => reached.extend([right, left]),
             _ if self.same_closed(store, id).next().is_some() => {}
@@ -93,7 +94,7 @@ impl Access {
     }
 
     fn reach_atom(&mut self, number: u16, reached: &mut Vec<Id>) -> bool {
-        let is_new = self.atoms[number as usize] == NEVER;
+        let is_new = self.atom(number) == NEVER;
         if is_new {
             self.atoms[number as usize] = self.level;
             let opened = self.locked.iter().filter(|locked| locked.opens == number);

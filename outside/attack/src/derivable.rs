@@ -40,7 +40,21 @@ impl Access {
             Node::Variable(variable) => *from <= level && *from <= store.level(variable),
             _ => false,
         };
+        store.works_through(self.open.len() / 4);
         self.open.iter().filter(takes).copied().collect()
+    }
+
+    /// Whether this variable can be got out.
+    pub fn is_open(&self, store: &Store, id: Id) -> bool {
+        self.got(store, id) != NEVER
+    }
+
+    /// The level from which on this variable can be got out.
+    fn got(&self, store: &Store, id: Id) -> Level {
+        store.works_through(self.open.len() / 4);
+        let same = |(open, _): &&(Id, Level)| store.resolve(*open) == id;
+        let from = self.open.iter().filter(same).map(|(_, from)| *from);
+        from.min().unwrap_or(NEVER)
     }
 
     /// The level from which on the term is derivable, whatever its variables
@@ -52,14 +66,7 @@ impl Access {
         let id = store.resolve(id);
         match store.node_at(id) {
             Node::Atom(number) => self.atom(number),
-            Node::Variable(variable) => {
-                let got = self
-                    .open
-                    .iter()
-                    .filter(|(open, _)| store.resolve(*open) == id);
-                let got = got.map(|(_, from)| *from).min().unwrap_or(NEVER);
-                got.min(store.level(variable))
-            }
+            Node::Variable(variable) => self.got(store, id).min(store.level(variable)),
             Node::Pair(left, right) => match self.derivable(store, left) {
                 NEVER => NEVER,
                 level => level.max(self.derivable(store, right)),

@@ -9,6 +9,7 @@ mod access;
 mod bound;
 mod derivable;
 pub mod derive;
+mod got;
 mod meet;
 pub mod message;
 mod rules;

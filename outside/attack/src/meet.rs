@@ -13,7 +13,7 @@ use std::ops::ControlFlow;
 const WORK_FOR_SHORTER: u64 = 2_000_000;
 const MOST_ATTACKS: usize = 20;
 /// Making an attack of a run is so much work for each two of its steps.
-const WORK_FOR_TWO_STEPS: usize = 64;
+const WORK_FOR_TWO_STEPS: usize = 256;
 
 impl Search<'_> {
     /// Every way to derive a secret from what the intruder has.

@@ -2,6 +2,7 @@
 //! the steps that are not needed.
 
 use crate::derive::derive;
+use crate::got::{Got, Messages};
 use crate::message::instance;
 use crate::store::{Id, Node, Store};
 use crate::{Attack, Derivation, Move, Step};
@@ -46,30 +47,51 @@ fn foreign_for(variable: usize, foreign: &mut Vec<usize>) -> u16 {
 /// The attack with these steps, but for those that are not needed; none if a
 /// premise or the secret is not derivable.
 pub fn attack(certificate: &Certificate, steps: Vec<Taken>, secret: usize) -> Option<Attack> {
-    let mut steps = needed(certificate, steps, secret)?;
+    let steps = needed(certificate, steps, secret)?;
+    let mut messages = Messages::new(&certificate.atoms);
+    let number = |step| numbered(certificate, step, &mut messages);
+    let mut numbers: Vec<(usize, Numbers)> = steps.iter().map(number).enumerate().collect();
+    let goal = messages.add(&certificate.secrets[secret].term);
     for place in (0..steps.len()).rev() {
-        let mut fewer = steps.clone();
-        fewer.remove(place);
-        if still_derives(certificate, &fewer, secret, place) {
-            steps = fewer;
+        let left_out = numbers.remove(place);
+        if !still_derives(&messages, &numbers, goal) {
+            numbers.insert(place, left_out);
         }
     }
+    let steps: Vec<&Taken> = numbers.iter().map(|(place, _)| &steps[*place]).collect();
     told(certificate, &steps, secret)
 }
 
-/// Whether the steps from this place on, and the secret, need no other step.
-fn still_derives(certificate: &Certificate, steps: &[Taken], secret: usize, from: usize) -> bool {
-    let conclusions = conclusions(certificate, steps);
-    let mut later = (from..steps.len()).map(|place| (&steps[place], &conclusions[..place]));
-    let secret = &certificate.secrets[secret].term;
-    later.all(|(step, has)| premise(certificate, step, has).is_some())
-        && derive(&certificate.atoms, &conclusions, secret).is_some()
+/// A step's premise and conclusion among the messages.
+struct Numbers {
+    premise: Option<Id>,
+    conclusion: Id,
 }
 
-fn conclusions(certificate: &Certificate, steps: &[Taken]) -> Vec<Term> {
+fn numbered(certificate: &Certificate, step: &Taken, messages: &mut Messages) -> Numbers {
+    let rule = &certificate.rules[step.rule];
+    let mut add = |term: &Term| messages.add(&instance(term, &step.replacement));
+    Numbers {
+        premise: rule.premise.as_ref().map(&mut add),
+        conclusion: add(&rule.conclusion),
+    }
+}
+
+/// Whether the steps and the secret need no other step.
+fn still_derives(messages: &Messages, steps: &[(usize, Numbers)], secret: Id) -> bool {
+    let mut got = Got::new(messages);
+    let takes = |(_, step): &(usize, Numbers)| {
+        let is_taken = step.premise.is_none_or(|premise| got.derives(premise));
+        got.add(step.conclusion);
+        is_taken
+    };
+    steps.iter().all(takes) && got.derives(secret)
+}
+
+fn conclusions<'a>(certificate: &Certificate, steps: impl Iterator<Item = &'a Taken>) -> Vec<Term> {
     let rule = |step: &Taken| &certificate.rules[step.rule];
     let conclusion = |step: &Taken| instance(&rule(step).conclusion, &step.replacement);
-    steps.iter().map(conclusion).collect()
+    steps.map(conclusion).collect()
 }
 
 /// How many steps it has, and how many moves.
@@ -82,7 +104,7 @@ pub fn length(attack: &Attack) -> (usize, usize) {
 
 /// The steps that the derivation of the secret uses, and those that these use.
 fn needed(certificate: &Certificate, steps: Vec<Taken>, secret: usize) -> Option<Vec<Taken>> {
-    let conclusions = conclusions(certificate, &steps);
+    let conclusions = conclusions(certificate, steps.iter());
     let secret = &certificate.secrets[secret].term;
     let mut used = used(&derive(&certificate.atoms, &conclusions, secret)?);
     let mut kept = Vec::new();
@@ -116,9 +138,9 @@ fn premise(certificate: &Certificate, step: &Taken, has: &[Term]) -> Option<Opti
 }
 
 /// All steps with their derivations, and that of the secret.
-fn told(certificate: &Certificate, taken: &[Taken], secret: usize) -> Option<Attack> {
-    let has = conclusions(certificate, taken);
-    let step = |(place, step): (usize, &Taken)| {
+fn told(certificate: &Certificate, taken: &[&Taken], secret: usize) -> Option<Attack> {
+    let has = conclusions(certificate, taken.iter().copied());
+    let step = |(place, step): (usize, &&Taken)| {
         Some(Step {
             rule: step.rule,
             replacement: step.replacement.clone(),

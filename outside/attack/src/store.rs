@@ -17,7 +17,7 @@ pub type Level = usize;
 /// message is derivable.
 pub const NEVER: Level = usize::MAX;
 
-#[derive(Clone, Copy, Debug, PartialEq, Eq)]
+#[derive(Clone, Copy, Debug, PartialEq, Eq, Hash)]
 pub enum Node {
     Atom(u16),
     Variable(usize),

@@ -120,6 +120,50 @@ fn growing_messages() {
     is_quick("growing messages", &with_nonces(50, &lines));
 }
 
+/// Each step gives the key to what the next one gives, and sixteen secrets need
+/// them all: many long runs to shorten.
+#[test]
+fn many_long_runs() {
+    let keys = (0..46).map(|i| format!("atom K{} symmetric unknown\n", i + 1));
+    let keys = ["atom K0 symmetric known\n".to_string()]
+        .into_iter()
+        .chain(keys);
+    let secret = |i: usize| format!("secret {}\n", nested(i, ("h(", ")"), "K46"));
+    let rule = |i: usize| {
+        let long = |inner: &str| nested(20, ("{(T, ", ")}KI"), inner);
+        let next = long(&format!("K{}", i + 1));
+        format!("rule {} -> {{{next}}}K{i}\n", long("T"))
+    };
+    let lines = keys.chain((0..16).map(secret)).chain((0..46).map(rule));
+    let outcome = is_quick(
+        "many long runs",
+        &with_nonces(0, &lines.collect::<Vec<_>>()),
+    );
+    assert!(matches!(outcome, Outcome::Found(attack) if attack.steps.len() == 46));
+}
+
+/// Messages with the same open variables again and again.
+#[test]
+fn many_open_variables() {
+    let tuple = |fields: Vec<String>| {
+        let open: String = fields[1..]
+            .iter()
+            .map(|field| format!("({field}, "))
+            .collect();
+        format!("{open}{}{}", fields[0], ")".repeat(fields.len() - 1))
+    };
+    let eight = tuple((0..8).map(|i| format!("?{i}")).collect());
+    let rule = |i: usize| {
+        let mut fields = vec!["?x".to_string(); 28];
+        fields[0] = format!("{{(M{i}, ?x)}}KA");
+        format!("rule {{?x}}KAi -> {}\n", tuple(fields))
+    };
+    let mut lines = vec!["secret N\nsecret KAi\n".to_string()];
+    lines.push(format!("rule {eight} -> {{{eight}}}KAi\n"));
+    lines.extend((0..50).map(rule));
+    is_quick("many open variables", &with_nonces(50, &lines));
+}
+
 #[test]
 fn largest_files() {
     let mut slowest = (Duration::ZERO, String::new());
