@@ -1,6 +1,7 @@
 //! What the tests have in common.
 #![allow(dead_code)]
 
+pub mod planted;
 pub mod sampler;
 pub mod small;
 

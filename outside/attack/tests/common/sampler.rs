@@ -10,9 +10,9 @@ use literal::Term;
 
 /// What the intruder has and gets out of it.
 #[derive(Clone)]
-struct Knowledge<'a> {
-    certificate: &'a Certificate,
-    got: Vec<Term>,
+pub struct Knowledge<'a> {
+    pub certificate: &'a Certificate,
+    pub got: Vec<Term>,
 }
 
 impl Knowledge<'_> {
@@ -21,11 +21,11 @@ impl Knowledge<'_> {
         number >= FIRST_FOREIGN || atom.is_some_and(|atom| atom.known == 1)
     }
 
-    fn has_atom(&self, number: u16) -> bool {
+    pub fn has_atom(&self, number: u16) -> bool {
         self.is_known(number) || self.got.contains(&Term::Atom(number))
     }
 
-    fn derives(&self, message: &Term) -> bool {
+    pub fn derives(&self, message: &Term) -> bool {
         let parts = || message.parts().all(|part| self.derives(part));
         self.got.contains(message)
             || match message {
@@ -37,7 +37,7 @@ impl Knowledge<'_> {
             }
     }
 
-    fn add(&mut self, message: Term) {
+    pub fn add(&mut self, message: Term) {
         self.got.push(message);
         while self.takes_one_apart() {}
     }

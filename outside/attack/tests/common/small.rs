@@ -19,23 +19,17 @@ const ATOMS: [(u8, u8, u16); 9] = [
     (PRIVATE, 1, 6),
     (SYMMETRIC, 0, 8),
 ];
-const SECRET: u16 = 1;
-const KEYS: [u16; 6] = [4, 4, 4, 6, 8, 8];
-const SIGNERS: [u16; 2] = [5, 7];
+pub const SECRET: u16 = 1;
+pub const KEYS: [u16; 6] = [4, 4, 4, 6, 8, 8];
+pub const SIGNERS: [u16; 2] = [5, 7];
 
-/// The certificate of a seed: a rule that sends the secret under a key, and
-/// two to five others.
-pub fn certificate(seed: u64) -> Certificate {
-    let mut random = Random::new(seed);
+/// With these atoms and this secret, and rules from premises and conclusions.
+pub fn with_rules(rules: Vec<(Option<Term>, Term)>) -> Certificate {
     let atom = |(kind, known, partner)| Atom {
         kind,
         known,
         partner,
     };
-    let first = Term::encryption(beside(&mut random, Term::Atom(SECRET)), 4);
-    let mut terms = vec![(None, first)];
-    let others = random.between(2, 5);
-    terms.extend((0..others).map(|_| rule(&mut random)));
     let rule = |(premise, conclusion)| Rule {
         block: 0,
         premise,
@@ -47,9 +41,20 @@ pub fn certificate(seed: u64) -> Certificate {
             block: 0,
             term: Term::Atom(SECRET),
         }],
-        rules: terms.into_iter().map(rule).collect(),
+        rules: rules.into_iter().map(rule).collect(),
         ..Certificate::default()
     }
+}
+
+/// The certificate of a seed: a rule that sends the secret under a key, and
+/// two to five others.
+pub fn certificate(seed: u64) -> Certificate {
+    let mut random = Random::new(seed);
+    let first = Term::encryption(beside(&mut random, Term::Atom(SECRET)), 4);
+    let mut rules = vec![(None, first)];
+    let others = random.between(2, 5);
+    rules.extend((0..others).map(|_| rule(&mut random)));
+    with_rules(rules)
 }
 
 fn rule(random: &mut Random) -> (Option<Term>, Term) {
