@@ -2,9 +2,9 @@
 
 use crate::hats::Asked;
 use crate::mismatch::mismatch;
-use crate::report::{all_of, Report, MOST_TOLD};
+use crate::report::{all_of, short, Report, MOST_TOLD};
 use crate::scene::Scene;
-use literal::hats::closings;
+use literal::hats::{closings, Exception};
 use literal::read::Listed;
 use literal::shares;
 use literal::term::{at_or_above, marks, places, subterms, Place, Term};
@@ -47,7 +47,7 @@ fn closed(report: &mut Report, scene: Scene, asked: &Asked, premise: &Term, plac
         };
         let words = scene.in_premise(asked.rule, upper);
         report.detail(format!("{words} closes it: {}", shared_good(scene, upper)));
-        near_bads(report, scene, asked, upper);
+        near_bads(report, scene, asked, upper, place);
         opening_pattern(report, scene, asked, upper, place);
     }
 }
@@ -91,66 +91,70 @@ fn shared_good(scene: Scene, upper: &Place) -> String {
 }
 
 /// The bad patterns that come near to opening the place: they match and mark other
-/// places, or share an instance and do not match.
-fn near_bads(report: &mut Report, scene: Scene, asked: &Asked, upper: &Place) {
+/// places, or would open it and only share an instance.
+fn near_bads(report: &mut Report, scene: Scene, asked: &Asked, upper: &Place, place: &Place) {
     let atoms = &scene.certificate.atoms;
-    let shares = |bad: &&Listed| shares(atoms, &bad.term, upper.subterm);
-    let near = scene.certificate.bads.iter().filter(shares);
-    for bad in near.take(MOST_TOLD) {
-        let why = match mismatch(atoms, &bad.term, upper.subterm) {
-            None => "matches, but has no mark at or above the place".to_string(),
-            Some(found) => {
+    let why = |bad: &Listed| {
+        let exposes = Exception::of(&upper.path, bad).exposes(place);
+        match mismatch(atoms, &bad.term, upper.subterm) {
+            None => Some("matches, but has no mark at or above the place".to_string()),
+            Some(found) if exposes && shares(atoms, &bad.term, upper.subterm) => {
                 let why = scene.parting(bad, asked.rule.block, upper.subterm, &found);
-                format!("would open it if it matched; but {why}")
+                Some(format!("would open it if it matched; but {why}"))
             }
-        };
+            Some(_) => None,
+        }
+    };
+    let near = scene.certificate.bads.iter();
+    let near = near.filter_map(|bad| Some((bad, why(bad)?)));
+    for (bad, why) in near.take(MOST_TOLD) {
         report.detail(format!("  {} {why}", scene.listed("bad", bad)));
     }
 }
 
 /// The premise does not hold the subterm at all.
 fn absent(report: &mut Report, scene: Scene, asked: &Asked, premise: &Term) {
-    let block = asked.rule.block;
-    let wanted = scene.source.term(block, asked.place.subterm);
+    let wanted = scene.source.term(asked.rule.block, asked.place.subterm);
     let as_key = match is_key_in(premise, asked.place.subterm) {
         true => " but as a key, and keys are no places",
         false => "",
     };
-    report.item(format!("{wanted} does not stand in the premise{as_key}"));
-    if !asked.place.subterm.is_variable() {
-        return;
+    report.item(format!(
+        "{} does not stand in the premise{as_key}",
+        short(wanted)
+    ));
+    if asked.place.subterm.is_variable() {
+        other_variables(report, scene, asked, premise);
     }
+}
+
+/// The premise's own variables, and which of them may have been meant.
+fn other_variables(report: &mut Report, scene: Scene, asked: &Asked, premise: &Term) {
+    let name = |term: &Term| scene.source.term(asked.rule.block, term);
     let there = variables(premise);
     let used = variables(&asked.rule.conclusion);
-    let names = |terms: &[&Term]| -> Vec<String> {
-        terms
-            .iter()
-            .map(|term| scene.source.term(block, term))
-            .collect()
-    };
+    let names = |terms: &[&Term]| all_of(&terms.iter().map(|term| name(term)).collect::<Vec<_>>());
     if there.is_empty() {
         report.detail("the premise has no variable");
         return;
     }
-    report.detail(format!(
-        "the premise's variables: {}",
-        all_of(&names(&there))
-    ));
+    report.detail(format!("the premise's variables: {}", names(&there)));
     let unused: Vec<&Term> = there
         .iter()
         .filter(|v| !used.contains(v))
         .copied()
         .collect();
     if !unused.is_empty() {
-        let unused = all_of(&names(&unused));
+        let unused = names(&unused);
         report.detail(format!(
             "hint: the conclusion does not use {unused}: mistyped?"
         ));
     }
-    let same_name = |name: &String| bare(name) == bare(&wanted);
-    if let Some(name) = names(&there).iter().find(|name| same_name(name)) {
+    let wanted = name(asked.place.subterm);
+    if let Some(other) = there.iter().find(|term| bare(&name(term)) == bare(&wanted)) {
+        let other = name(other);
         report.detail(format!(
-            "hint: {name} and {wanted} are two variables, of two sorts"
+            "hint: {other} and {wanted} are two variables, of two sorts"
         ));
     }
 }

@@ -176,6 +176,8 @@ fn why_not_the_premise() {
     let words = "bad {(I, ?x)}KA (line 12, block 4) would open it if it matched; \
                  but it has (I, ?x) (12:6, entry 1), and here is the variable ?m";
     assert_says(&narrow, words);
+    let elsewhere = usual("bad {(*y, (I, ?x))}KA\nrule {(T, ?m)}KA -> ?m\n");
+    assert!(!elsewhere.contains("would open it"), "{elsewhere}");
     let sorts = usual("rule ?n!x -> ?x\n");
     assert_says(&sorts, "?x does not stand in the premise");
     assert_says(&sorts, "hint: ?n!x and ?x are two variables, of two sorts");
