@@ -3,11 +3,9 @@
 use crate::mismatch::{exchanged, mended_by_exchange, mismatch, to_the_right, Mismatch};
 use crate::report::{Report, MOST_TOLD};
 use crate::scene::{root_words, Scene};
-use crate::source::down;
-use crate::taken::{taken_by_bads, taking_bads};
+use crate::taken::taken_by_bads;
 use literal::read::{Listed, Rule};
-use literal::term::{at_or_above, joined, marks, places, strictly_above, subterms};
-use literal::term::{Path, Place};
+use literal::term::{at_or_above, joined, marks, places, strictly_above, subterms, Place};
 use literal::Term;
 use std::cmp::Reverse;
 
@@ -49,10 +47,10 @@ pub fn no_sure_hat(report: &mut Report, scene: Scene, asked: &Asked) {
 }
 
 /// An encryption above the place.
-struct Hat<'a> {
-    scene: Scene<'a>,
-    asked: &'a Asked<'a>,
-    upper: &'a Place<'a>,
+pub struct Hat<'a> {
+    pub scene: Scene<'a>,
+    pub asked: &'a Asked<'a>,
+    pub upper: &'a Place<'a>,
 }
 
 impl Hat<'_> {
@@ -94,62 +92,6 @@ impl Hat<'_> {
         let marks = marks(pattern);
         let mut paths = marks.iter().map(|mark| joined(&self.upper.path, mark));
         paths.any(|path| at_or_above(&path, place))
-    }
-
-    /// Which marks the pattern has, and what it has where one is wanted.
-    fn has_no_mark(&self, report: &mut Report, good: &Listed, words: &str) {
-        let marks = marks(&good.term);
-        let others: Vec<String> = marks
-            .iter()
-            .map(|mark| self.other_mark(good, mark))
-            .collect();
-        let others = match others.is_empty() {
-            true => "it has none at all".to_string(),
-            false => format!("it marks {}", others.join(", ")),
-        };
-        report.detail(format!(
-            "{words} matches, but has no mark at or above the place: {others}"
-        ));
-        if let Some(hint) = self.wants_mark(good) {
-            report.detail(format!("hint: {hint}"));
-            taken_by_bads(report, self.scene, self.upper, self.asked.place);
-        }
-    }
-
-    /// A mark that does not cover the place.
-    fn other_mark(&self, good: &Listed, mark: &Path) -> String {
-        let spot = self.scene.in_pattern(good, mark);
-        match at_or_above(&self.asked.place.path, &joined(&self.upper.path, mark)) {
-            true => format!("{spot} below the place"),
-            false => spot,
-        }
-    }
-
-    /// What stands where a mark would have to, if a mark can stand there.
-    fn wants_mark(&self, good: &Listed) -> Option<String> {
-        let way = &self.asked.place.path[self.upper.path.len()..];
-        let way = as_far_as(&good.term, way);
-        let there = down(&good.term, way);
-        let spot = self.scene.in_pattern(good, way);
-        let all = subterms(&good.term);
-        let often = all.iter().filter(|place| place.subterm == there).count() > 1;
-        let is_taken = !taking_bads(self.scene, self.upper, self.asked.place).is_empty();
-        let end = match is_taken {
-            true => "is wanted; and then",
-            false => "would protect the place",
-        };
-        match there {
-            Term::Plain(_) | Term::PlainNonce(_) if often => Some(format!(
-                "here it has {spot}; a mark `*` in place of `?` at all its places {end}"
-            )),
-            Term::Plain(_) | Term::PlainNonce(_) => Some(format!(
-                "here it has {spot}; a mark `*` in place of `?` {end}"
-            )),
-            Term::Atom(_) => Some(format!(
-                "here it has {spot}; a marked variable in its place {end}"
-            )),
-            _ => None,
-        }
     }
 
     /// Those that go along furthest come first; the others are counted.
@@ -199,14 +141,6 @@ impl Hat<'_> {
         let same = literal::matches(atoms, &to_the_right(&good.term), &to_the_right(term));
         same.then(|| "its fields are the same, but bracketed otherwise".to_string())
     }
-}
-
-/// The way as far as the pattern reaches.
-fn as_far_as<'a>(pattern: &Term, way: &'a [u8]) -> &'a [u8] {
-    let all = subterms(pattern);
-    let reaches = |length: &usize| all.iter().any(|place| place.path == way[..*length]);
-    let length = (0..=way.len()).rev().find(reaches).unwrap_or(0);
-    &way[..length]
 }
 
 /// The patterns with this term's root, and the others.

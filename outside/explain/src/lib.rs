@@ -16,6 +16,7 @@ pub mod scene;
 pub mod secrets;
 pub mod source;
 pub mod taken;
+mod unmarked;
 
 use literal::read::read;
 use literal::{Refusal, Verdict};

@@ -95,6 +95,11 @@ fn why_no_mark() {
         &twice,
         "a mark `*` in place of `?` at all its places would protect the place",
     );
+    let taken = said_of("good {(?s, *s)}KA\nrule -> {(N, T)}KA\n");
+    assert_says(
+        &taken,
+        "here it has ?s (11:8, entry 2); a mark of another name in its place would",
+    );
     let lower = said_of("secret (N, T)\ngood {(*s, ?t)}KA\nrule -> {(N, T)}KA\n");
     assert_says(&lower, "it marks *s (12:8, entry 2) below the place");
     let bad = "bad {(I, ?k)}KA\n";
