@@ -1,4 +1,7 @@
 // The byte layer of the certificate checker: the blocks of a file, their parts, their check and their layout.
+
+#![tactic(auto)]
+
 mod columns;
 pub mod kinds;
 pub mod limits;

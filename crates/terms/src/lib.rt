@@ -1,4 +1,7 @@
 // The term layer: entries of blocks as terms, matching and shared instances.
+
+#![tactic(auto)]
+
 pub mod atom;
 mod classes;
 mod ending;

@@ -1,0 +1,18 @@
+use mathlib.Core.Path.{sym, ◌∙◌}
+use mathlib.Core.Logic.{inl, inr}
+use Rattle.terms.proofs.GraphLaws.{moved, both-answer, failed, first-clash}
+use Rattle.terms.specs.Names.{class_count}
+use Rattle.terms.proofs.ClassAnswers.{two-names, met-as, differ-answer, names-linked, names-fewer, free-answer, atoms-answer, contents-answer}
+use Rattle.terms.proofs.ClassAnswers.{halves-answer, one-class-answer, found-names, nodes-answer, turned}
+use native.Mathlib.Omega.{arith}
+use Prim.Native.Nat.{ℕ, ◌<◌, ◌*◌, ◌+◌}
+use Rattle.terms.proofs.classes.+unite_unite_halves_unite_names.Given as goal
+
+abbrev pub decreases-unite : goal.decreases-unite
+decreases-unite l = 3 * class_count l.c.now + 1
+
+abbrev pub decreases-unite_halves : goal.decreases-unite_halves
+decreases-unite_halves l = 3 * class_count l.c.now + 2
+
+abbrev pub decreases-unite_names : goal.decreases-unite_names
+decreases-unite_names l = 3 * class_count l.c.now

@@ -1,0 +1,8 @@
+-- `terms::entry::sizes` meets its contract. Assumes nothing.
+use native.Mathlib.Omega.{arith}
+use Rattle.terms.proofs.SizeLaws.{sizes-filled}
+use borrow.Author.Rules.{rules}
+use Rattle.terms.proofs.entry.sizes.Goals as goal
+
+pub returns : goal.returns
+returns c = sizes-filled c.fill_sizes.ensures.0

@@ -1,0 +1,18 @@
+use mathlib.Core.Path.{◌≡◌}
+use mathlib.Core.Bool.{true}
+use Prim.Native.Nat.{ℕ, ◌+◌, ◌-◌, ◌≤◌, ◌<◌}
+use lib.ListN.{get_or}
+use native.Mathlib.Omega.{arith}
+use native.Mathlib.Decide.{ℕ_discrete}
+use Rattle.terms.specs.Slot.{any_slots, slot_count}
+use Rattle.terms.specs.TermGraph.{variable_nodes, right_variables}
+use Rattle.terms.proofs.NameLaws.{own_name}
+use Rattle.terms.proofs.sharing.nonces_alone.Given as goal
+
+abbrev pub invariant-loop-k : goal.invariant-loop-k
+invariant-loop-k l = (l.k ≤ slot_count) × (any_slots ≤ l.k)
+    × (l.alone ≡ true → (j : ℕ) → any_slots ≤ j → j < l.k
+    → (get_or l.c (variable_nodes + j) 0 ≡ variable_nodes + j) × (get_or l.c (right_variables + j) 0 ≡ right_variables + j))
+
+abbrev pub decreases-loop-k : goal.decreases-loop-k
+decreases-loop-k l = slot_count - l.k

@@ -1,0 +1,14 @@
+use Prim.Native.Nat.{◌≤◌, ◌*◌, ◌-◌}
+use native.Mathlib.Omega.{arith}
+use borrow.Author.Tests.{not-false}
+use Rattle.terms.proofs.EntryLaws.{from-length}
+use Rattle.terms.specs.Meetings.{Walking}
+use Rattle.terms.proofs.RunLaws.{front-tag}
+use Rattle.terms.proofs.MeetingLaws.{walking_run, run-stops, walking-room, walking-leaves}
+use Rattle.terms.proofs.sharing.pass.Given as goal
+
+abbrev pub invariant-loop-left : goal.invariant-loop-left
+invariant-loop-left l = Walking l.s l.t l.m l.n l.i l.j l.left × (l.first ≤ l.i)
+
+abbrev pub decreases-loop-left : goal.decreases-loop-left
+decreases-loop-left l = 64 - l.i

@@ -1,0 +1,22 @@
+use borrow.Author.Tests.{not-true, not-false}
+use mathlib.Core.List.{List}
+use mathlib.Core.Logic.{inl}
+use Prim.Native.Nat.{ℕ, ◌+◌, ◌-◌, ◌≤◌, ◌<◌}
+use native.Mathlib.Omega.{arith}
+use native.Mathlib.Decide.{ℕ_discrete}
+use Rattle.terms.specs.declared.atom.Atom.{Atom}
+use Rattle.terms.specs.Nonces.{NoncesIn}
+use Rattle.terms.specs.Slot.{any_slots, slot_count}
+use Rattle.terms.specs.Graph.{NonceNode}
+use Rattle.terms.specs.TermGraph.{node_of}
+use Rattle.terms.specs.Names.{name_of}
+use Rattle.terms.proofs.AnswerLaws.{says-yes, says-no}
+use Rattle.terms.proofs.NameLaws.{name-home}
+use Rattle.terms.proofs.sharing.side_keeps.Given as goal
+
+abbrev pub invariant-loop-k : goal.invariant-loop-k
+invariant-loop-k l = (l.k ≤ slot_count) × (any_slots ≤ l.k)
+    × ((atoms : List Atom) → NoncesIn atoms l.nonces → (j : ℕ) → any_slots ≤ j → j < l.k → NonceNode atoms (node_of l.s l.t (name_of l.c (l.slots + j))))
+
+abbrev pub decreases-loop-k : goal.decreases-loop-k
+decreases-loop-k l = slot_count - l.k
