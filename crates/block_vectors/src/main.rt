@@ -1,4 +1,7 @@
 // Runs document 01's examples of the byte layer and prints what comes out.
+
+#![tactic(auto)]
+
 use libc::STDOUT_FILENO;
 
 fn line(label: &[u8], n: u64) {

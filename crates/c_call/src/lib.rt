@@ -1,4 +1,7 @@
 // The check as a C program asks for it.
+
+#![tactic(auto)]
+
 ghost use Rattle.std.specs.Prelude.{◌≡◌};
 ghost use Rattle.judge.specs.Verdict.{verdict_of};
 ghost use Rattle.judge.specs.Answer.{packed_of};

@@ -1,4 +1,7 @@
 // The judging layer: a certificate file gets its verdict.
+
+#![tactic(auto)]
+
 pub mod answer;
 mod atoms;
 pub mod checking;

@@ -1,4 +1,7 @@
 // What is made of a verdict, for programs in other languages: the line, the refused part, the tally, and sealing.
+
+#![tactic(auto)]
+
 ghost use Rattle.std.specs.Prelude.{◌≡◌, length};
 ghost use Rattle.blocks.specs.Check.{sealing, after_sealing};
 ghost use Rattle.judge.specs.Verdict.{verdict_of};

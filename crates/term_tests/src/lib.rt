@@ -1,5 +1,8 @@
 // The term layer's tests for programs in other languages: any bytes are taken, and what is no term is said to be none. `atoms`
 // are atom entries, any bytes again, of which only the kinds count.
+
+#![tactic(auto)]
+
 ghost use Rattle.std.specs.Prelude.{◌≡◌};
 ghost use Rattle.term_tests.specs.Asked.{is_term, yes_number, share_number, match_number, same_number};
 

@@ -1,5 +1,8 @@
 // The check program: reads a certificate from standard input, at most 32,769 bytes, and prints the verdict line. Input
 // that cannot be read to its end gets no verdict: half a file may be a right certificate.
+
+#![tactic(auto)]
+
 mod call;
 mod transfer;
 

@@ -50,7 +50,8 @@ module _ {certificate : Certificate} (meets : MeetsAll certificate) where
       ((m : Message) → has m → Safe certificate m) → (m : Message) → after_from has steps m → Safe certificate m
   unfolding after_from
   safe-after [] base = base
-  safe-after (step ∷ steps) base = safe-after steps (safe-step step base)
+  safe-after {has = has} (step ∷ steps) base =
+      safe-after {has = λ x. AfterStep {certificate = certificate} (λ x'. has x') step x} steps (safe-step step base)
 
 -- For every certificate that meets the conditions and every list of steps, every listed secret at a place of what the intruder
 -- derives is protected.

@@ -1,0 +1,16 @@
+use mathlib.Core.Path.{refl}
+use Prim.Native.Nat.{ℕ, ◌≤◌, ◌<◌, ◌-◌, ◌/◌}
+use borrow.Author.Count.{below_none, below_more}
+use lib.ListN.{length}
+use Rattle.terms.specs.First.{fails, holds}
+use Rattle.terms.proofs.AnswerLaws.{says-yes, says-no}
+use Rattle.judge.specs.File.{certificate_of}
+use Rattle.judge.specs.Listed.{IsSecret}
+use Rattle.judge.specs.CoverEntries.{FlaggedWith}
+use Rattle.judge.proofs.cover.first_secret.Given as goal
+
+abbrev pub invariant-loop-k : goal.invariant-loop-k
+invariant-loop-k l = (l.k ≤ length l.e / 4) × ((j : ℕ) → j < l.k → ¬ FlaggedWith l.e l.opened (IsSecret (certificate_of l.file)) j)
+
+abbrev pub decreases-loop-k : goal.decreases-loop-k
+decreases-loop-k l = length l.e / 4 - l.k

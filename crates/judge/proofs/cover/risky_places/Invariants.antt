@@ -1,0 +1,20 @@
+use mathlib.Core.Path.{refl}
+use Prim.Native.Nat.{◌≤◌, ◌-◌}
+use Rattle.blocks.proofs.KindLaws.{secret-lists}
+use Rattle.terms.specs.Entry.{term_of, size}
+use Rattle.terms.specs.PlaceEntries.{PlaceEntry}
+use Rattle.terms.proofs.PlaceEntryLaws.{first-place, next_place_lem}
+use Rattle.judge.specs.Cover.{Risky}
+use Rattle.judge.specs.File.{certificate_of}
+use Rattle.judge.specs.CoverEntries.{sub_at}
+use Rattle.judge.proofs.Covering.Flags.{RaisedBelow, raised-start}
+use Rattle.judge.proofs.Covering.Hats.{searching-at}
+use Rattle.judge.proofs.Covering.Covers.{standing-concluded, concluded-entries, entries-flags, places-more}
+use Rattle.judge.proofs.cover.risky_places.Given as goal
+
+abbrev pub invariant-loop-k : goal.invariant-loop-k
+invariant-loop-k l =
+    (l.k ≤ size (term_of l.e)) × RaisedBelow l.risky (λ k. PlaceEntry l.e k × Risky (certificate_of l.file) (sub_at l.e k)) l.k × PlaceEntry l.e l.k
+
+abbrev pub decreases-loop-k : goal.decreases-loop-k
+decreases-loop-k l = size (term_of l.e) - l.k

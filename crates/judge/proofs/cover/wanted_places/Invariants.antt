@@ -1,0 +1,18 @@
+use native.Mathlib.Omega.{arith}
+use mathlib.Core.Path.{◌≡◌}
+use Prim.Native.Nat.{◌≤◌, ◌-◌, ◌/◌}
+use lib.ListN.{length}
+use Rattle.terms.specs.PlaceEntries.{PlaceEntry}
+use Rattle.terms.proofs.PlaceEntryLaws.{first-place, next_place_lem}
+use Rattle.judge.specs.File.{certificate_of}
+use Rattle.judge.specs.CoverEntries.{Wanted}
+use Rattle.judge.proofs.Covering.Flags.{RaisedBelow, raised-start}
+use Rattle.judge.proofs.Covering.Covers.{standing-entries, entries-flags, places-more}
+use Rattle.judge.proofs.cover.wanted_places.Given as goal
+
+abbrev pub invariant-loop-k : goal.invariant-loop-k
+invariant-loop-k l =
+    (l.k ≤ length l.premise / 4) × RaisedBelow l.wanted (λ k. PlaceEntry l.premise k × Wanted (certificate_of l.file) l.premise l.conclusion l.risky k) l.k × PlaceEntry l.premise l.k
+
+abbrev pub decreases-loop-k : goal.decreases-loop-k
+decreases-loop-k l = length l.premise / 4 - l.k

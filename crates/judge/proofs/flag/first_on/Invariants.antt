@@ -1,0 +1,13 @@
+use mathlib.Core.Path.{refl}
+use native.Mathlib.Omega.{arith}
+use Prim.Native.Nat.{ℕ, ◌≤◌, ◌<◌, ◌-◌}
+use borrow.Author.Count.{below_none, below_more}
+use Rattle.terms.specs.First.{fails, holds}
+use Rattle.judge.specs.CoverEntries.{On}
+use Rattle.judge.proofs.flag.first_on.Given as goal
+
+abbrev pub invariant-loop-k : goal.invariant-loop-k
+invariant-loop-k l = (l.k ≤ l.count) × ((j : ℕ) → j < l.k → ¬ On l.flags j)
+
+abbrev pub decreases-loop-k : goal.decreases-loop-k
+decreases-loop-k l = l.count - l.k

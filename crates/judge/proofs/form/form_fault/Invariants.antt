@@ -1,0 +1,18 @@
+use mathlib.Core.Path.{◌≡◌, sym, ◌∙◌}
+use Prim.Native.Nat.{ℕ, ◌-◌, ◌<◌, ◌≤◌}
+use borrow.Author.Count.{below_none, below_more}
+use native.Mathlib.Omega.{arith}
+use Rattle.blocks.specs.Block.{block_at, Fitting}
+use Rattle.judge.specs.File.{block_count}
+use Rattle.judge.specs.Verdict.{block_fault, first_fault, form_fault}
+use Rattle.judge.proofs.Files.LaidLaws.{long, block-fits}
+use Rattle.judge.proofs.Stages.FormLaws.{fine-none, faulty-some, judged-none, judged-some, layout-start, first-stop, first_more, first-end}
+use Rattle.judge.proofs.form.form_fault.Given as goal
+
+abbrev pub invariant-loop-i : goal.invariant-loop-i
+invariant-loop-i l =
+    (l.i ≤ block_count l.file)
+    × ((first_fault (block_fault l.file) l.i (block_count l.file - l.i) ≡ form_fault l.file) × ((j : ℕ) → j < l.i → Fitting (block_at l.file j)))
+
+abbrev pub decreases-loop-i : goal.decreases-loop-i
+decreases-loop-i l = block_count l.file - l.i

@@ -1,0 +1,24 @@
+use mathlib.Core.Path.{◌≡◌, sym, ap, ◌∙◌}
+use Prim.Native.Nat.{◌-◌, ◌≤◌}
+use Rattle.blocks.specs.Kinds.{rule_kind}
+use Rattle.blocks.specs.Block.{first_entries, second_entries}
+use Rattle.judge.specs.Listed.{NeverHat, SharesUnmarked}
+use Rattle.judge.specs.CoverEntries.{Carried}
+use Rattle.judge.specs.File.{block_count, certificate_of}
+use Rattle.judge.specs.Judgement.{judged_of, held_or}
+use Rattle.judge.specs.Verdict.{first_fault, on_kind, open_secret_rule, open_secret_fault, uncovered_rule, uncovered_fault}
+use Rattle.judge.proofs.Stages.Heads.{heads}
+use Rattle.judge.proofs.Stages.FormLaws.{judged-some, first-stop, first_more, first-end}
+use Rattle.judge.proofs.Stages.JudgingLaws.{refuse-secret, hold-both, held_start, held_next, held-end, secret-start, uncovered-start, rule-secret, rule-uncovered}
+use Rattle.judge.proofs.Covering.Repeats.{nothing-before}
+use Rattle.judge.proofs.judging.rule_fault.Given as goal
+
+abbrev pub invariant-loop-i : goal.invariant-loop-i
+invariant-loop-i l =
+    (l.i ≤ block_count l.file)
+    × (first_fault (on_kind rule_kind (open_secret_rule (certificate_of l.file)) l.file) l.i (block_count l.file - l.i) ≡ open_secret_fault (certificate_of l.file) l.file)
+    × (held_or l.held (first_fault (on_kind rule_kind (uncovered_rule (certificate_of l.file)) l.file) l.i (block_count l.file - l.i)) ≡ judged_of (uncovered_fault (certificate_of l.file) l.file))
+    × Carried first_entries (NeverHat (certificate_of l.head)) l.file l.i l.above × Carried second_entries (SharesUnmarked (certificate_of l.head)) l.file l.i l.shared
+
+abbrev pub decreases-loop-i : goal.decreases-loop-i
+decreases-loop-i l = block_count l.file - l.i

@@ -1,0 +1,6 @@
+-- `judge::listed::last_mark_of` meets its contract. Assumes nothing.
+use borrow.Author.Rules.{rules}
+use Rattle.judge.proofs.listed.last_mark_of.Goals as goal
+
+pub returns : goal.returns
+returns c = c.wide.ensures.0

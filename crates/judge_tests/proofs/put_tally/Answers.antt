@@ -1,0 +1,23 @@
+-- `judge_tests::put_tally` meets its contract: the first k pairs are stored. Assumes nothing.
+use mathlib.Core.Path.{◌≡◌}
+use Prim.Native.Nat.{◌-◌, ◌≤◌}
+use lib.ListN.{length}
+use Rattle.judge.specs.Checked.{loader_count}
+use Rattle.judge_tests.specs.Asked.{tally_numbers}
+use Rattle.judge_tests.proofs.TallyLaws.{Stored, stored-none, stored-room, stored_more, stored-all}
+use borrow.Author.Rules.{rules}
+use Rattle.judge_tests.proofs.put_tally.Goals as goal
+
+pub loop-k-init : goal.loop-k-init
+loop-k-init c = (stored-none (search rules), search rules, search rules)
+
+pub bounds-counts-k-in-loop-k : goal.bounds-counts-k-in-loop-k
+bounds-counts-k-in-loop-k c = stored-room c.loop-k.invariant.0 c.loop-k-test.true _
+
+pub loop-k-preserved : goal.loop-k-preserved
+loop-k-preserved c =
+    let next = stored_more c.loop-k.invariant.0 c.loop-k-test.true in
+    (next, search rules, next.long)
+
+pub returns : goal.returns
+returns c = stored-all _ c.loop-k.invariant.0 c.loop-k-test.false

@@ -1,0 +1,15 @@
+-- `judge_tests::tally_from` meets its contract: the first k pairs are loaded. Assumes nothing.
+use Prim.Native.Nat.{◌-◌, ◌≤◌}
+use Rattle.judge.specs.Checked.{loader_count}
+use Rattle.judge_tests.proofs.TallyLaws.{Loaded, loaded-none, loaded-more, loaded-all}
+use borrow.Author.Rules.{rules}
+use Rattle.judge_tests.proofs.tally_from.Goals as goal
+
+pub loop-k-init : goal.loop-k-init
+loop-k-init c = (loaded-none (search rules), search rules)
+
+pub loop-k-preserved : goal.loop-k-preserved
+loop-k-preserved c = (loaded-more c.loop-k.invariant.0 c.loop-k-test.true, search rules)
+
+pub returns : goal.returns
+returns c = loaded-all _ c.requires c.loop-k.invariant.0 c.loop-k-test.false
