@@ -5,7 +5,6 @@ use native.Mathlib.Omega.{arith}
 use Rattle.terms.specs.declared.atom.Atom.{Atom}
 use Rattle.terms.specs.Atom.{foreign_nonce}
 use Rattle.terms.specs.Term.{Term, variable, atom, pair, Message, Variable, Range, one_nonce, range_of, no_variable, replace, as_term, wrapped}
-use Rattle.terms.specs.Place.{left, right}
 use Rattle.terms.specs.Instance.{NonceTerm, PutsNonces, Replaced, Matches, Share}
 use Rattle.terms.specs.Seek.{Becomes}
 use Rattle.terms.specs.Apart.{Common}

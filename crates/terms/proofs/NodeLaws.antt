@@ -16,7 +16,6 @@ use Rattle.terms.specs.Entry.{Begins}
 use Rattle.terms.specs.Graph.{free, wrapper_node, IsSymbol}
 use Rattle.terms.specs.TermGraph.{right_nodes, variable_nodes, right_variables, tag_in, value_in, home_for, home_by, home, right_in, node_for, node_by, node_tag}
 use Rattle.terms.specs.TermGraph.{node_value, first_child, second_child, node_of, TwoTerms, SizesOf, AtHome, OwnEntry, HasChild}
-use Rattle.terms.proofs.EntryLaws.{fits}
 use Rattle.terms.proofs.TermGraphLaws.{home-there, left-side, right_side}
 use Rattle.terms.proofs.SizeLaws.{tag-inside, tag-there, pair-there, wrapped-there, whole-entry}
 

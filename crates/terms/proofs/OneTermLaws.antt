@@ -13,7 +13,6 @@ use Rattle.blocks.specs.Kinds.{secret_kind}
 use Rattle.terms.specs.declared.valid.Found.TheVariants.{Nothing}
 use Rattle.terms.specs.Term.{Term, variable, atom, pair, encrypted, Message, Sort, sort, plain, marked, Variable, named, replace, as_term, wrapped, Wrapping, encryption}
 use Rattle.terms.specs.declared.atom.Atom.{Atom}
-use Rattle.terms.specs.Atom.{IsKey}
 use Rattle.terms.specs.Tag.{encryption_tag, wrapping_tag, variables, wrapping-tagged, sort-tagged}
 use Rattle.terms.specs.Entry.{Symbol, atom_symbol, pair_symbol, wrapper_symbol, variable_symbol, tag_of, value_of, entry_of, term_entries, size, numbered}
 use Rattle.terms.specs.Entry.{symbol_of, with_zero, terms_of, term_of, Reads, Begins, tag_at, value_at}

@@ -2,14 +2,14 @@
 -- walk over those.
 use mathlib.Core.Path.{◌≡◌, refl, sym, ap, ◌∙◌}
 use mathlib.Core.List.{List, [], ◌∷◌, ◌++◌}
-use mathlib.Core.Logic.{◌⊎◌, inl, inr, ⊎_elim, ◌↔◌}
+use mathlib.Core.Logic.{◌⊎◌, inl, inr, ◌↔◌}
 use mathlib.Core.Option.{some}
-use Prim.Native.Nat.{ℕ, ◌+◌, ◌*◌, ◌-◌, ◌<◌, ◌≤◌}
+use Prim.Native.Nat.{ℕ, ◌+◌, ◌*◌, ◌<◌, ◌≤◌}
 use native.Mathlib.Omega.{arith}
 use native.Mathlib.Decide.{dec_lt, ℕ_discrete}
-use lib.ListN.{length, drop}
+use lib.ListN.{length}
 use borrow.Author.Tests.{eq-eqb, ne_eqb}
-use Rattle.terms.specs.Term.{Term, pair, wrapped, Wrapping, hash, Variable, replace}
+use Rattle.terms.specs.Term.{Term, wrapped, hash, Variable, replace}
 use Rattle.terms.specs.Place.{Turn, Place, subterm_at, StrictlyAbove, AtOrAbove, IsPlace}
 use Rattle.terms.specs.Turns.{nothing-above-root}
 use Rattle.terms.specs.Tag.{hash_tag, wrapping_tag}
@@ -21,7 +21,7 @@ use Rattle.terms.proofs.PlaceLaws.{OnTheWay, on-the-way, Composite, composite, i
 use Rattle.terms.proofs.EntryLaws.{term_of-reads, term-reads, reads-wrapped, wrapped-first}
 use Rattle.terms.proofs.TermGraphLaws.{tag_in_lem, tag-from}
 use Rattle.terms.proofs.SizeLaws.{tag-inside}
-use Rattle.terms.proofs.PlacedLaws.{Spotted, placed, within, spotted, subterm-at, placed-reads, placed-begins, at-or-above-entry, strictly-above-entry, part-within}
+use Rattle.terms.proofs.PlacedLaws.{placed, within, spotted, subterm-at, placed-reads, placed-begins, strictly-above-entry, part-within}
 
 -- ---- places of a term
 

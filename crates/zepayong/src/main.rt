@@ -10,36 +10,54 @@ ghost use Rattle.zepayong.specs.Transfer.{InputWithin};
 
 use judge::judging::judge;
 use judge::line::print_line;
+use std::io::{Error, Write};
 use transfer::{Input, read_all, write_all};
 
+// Says on standard error what failed, and why; where that cannot be said, nobody is there to be told.
+fn fail(rt: &impl Eprint, what: &str, failure: Option<Error>) {
+    let said = match failure {
+        Some(error) => eprintln!(rt; "zepayong: {what}: {error}"),
+        None => eprintln!(rt; "zepayong: {what}: Success"),
+    };
+    if said.is_err() {}
+}
+
 // Writes the line's first bytes.
-fn write_line(line: &[u8], count: usize) {
+fn write_line<W: Write>(rt: &impl Eprint, writer: &mut W, line: &[u8], count: usize) {
     if count <= line.len() {
-        if !write_all(&line[0..count]) {
-            os::fail(b"zepayong: the verdict line cannot be written");
+        let mut failure = None;
+        if !write_all(writer, &line[0..count], &mut failure) {
+            fail(rt, "the verdict line cannot be written", failure);
         }
     }
 }
 
 // Judges the file and writes its line, which has at most 64 bytes.
-fn answer(file: &[u8]) {
+fn answer<W: Write>(rt: &impl Eprint, writer: &mut W, file: &[u8]) {
     let mut line = [0u8; 64];
     let printed = print_line(judge(file), &mut line);
-    write_line(&line, blocks::written(printed));
+    write_line(rt, writer, &line, blocks::written(printed));
 }
 
 // Judges the bytes that came.
-fn answer_input(buf: &[u8], input: Input)
+fn answer_input<W: Write>(
+    rt: &impl Eprint,
+    writer: &mut W,
+    buf: &[u8],
+    input: Input,
+    failure: Option<Error>,
+)
     requires { InputWithin input buf.now }
 {
     match input {
-        Input::Came(count) => answer(&buf[..count]),
-        Input::Failed => os::fail(b"zepayong: standard input cannot be read"),
+        Input::Came(count) => answer(rt, writer, &buf[..count]),
+        Input::Failed => fail(rt, "standard input cannot be read", failure),
     }
 }
 
-fn main() {
+fn main(rt: HostRuntime) {
     let mut buf = [0u8; 32769];
-    let input = read_all(&mut buf);
-    answer_input(&buf, input);
+    let mut failure = None;
+    let input = read_all(&mut rt.stdin(), &mut buf, &mut failure);
+    answer_input(&rt, &mut rt.stdout(), &buf, input, failure);
 }

@@ -2,7 +2,6 @@
 use mathlib.Core.Path.{refl, ap, ◌∙◌}
 use lib.ListN.{length}
 use Rattle.blocks.proofs.Parts.{block-part, block-length}
-use borrow.Author.Rules.{rules}
 use Rattle.blocks.proofs.block.Goals as goal
 
 pub returns : goal.returns

@@ -1,10 +1,8 @@
 -- `blocks::check_of` meets its contract: the sums are those of the header and of the columns before `from`, and small enough to
 -- fit. Assumes nothing.
 use mathlib.Core.Path.{◌≡◌, ap, ◌∙◌}
-use Prim.Native.Nat.{ℕ, ◌+◌, ◌-◌, ◌*◌, ◌%◌, ◌≤◌}
+use Prim.Native.Nat.{ℕ, ◌%◌}
 use native.Mathlib.Omega.{arith}
-use Rattle.blocks.specs.Block.{byte_at}
-use Rattle.blocks.specs.Check.{weight_of}
 use Rattle.blocks.specs.Columns.{sum_of, column_sum, column_weighted}
 use Rattle.blocks.proofs.ColumnLaws.{sum-split, columns-a, columns-b}
 use borrow.Author.Rules.{rules}
@@ -17,11 +15,11 @@ loop-from-init c = search rules
 pub loop-from-preserved : goal.loop-from-preserved
 loop-from-preserved c =
     let from = c.loop-from.from in let block = c.args.block.now in (
-    (omega arith, omega arith),
-    (
-    omega (arith, sum-split (column_sum block) from 8),
-    (omega (arith, sum-split (column_weighted block) from 8), (omega arith, omega arith)),
-    ),
+      (omega arith, omega arith),
+      (
+        omega (arith, sum-split (column_sum block) from 8),
+        (omega (arith, sum-split (column_weighted block) from 8), (omega arith, omega arith)),
+      ),
     )
 
 pub returns : goal.returns

@@ -1,10 +1,8 @@
-use mathlib.Core.Path.{◌≡◌, ap, ◌∙◌}
-use Prim.Native.Nat.{ℕ, ◌+◌, ◌-◌, ◌*◌, ◌%◌, ◌≤◌}
-use native.Mathlib.Omega.{arith}
+use mathlib.Core.Path.{◌≡◌}
+use Prim.Native.Nat.{◌+◌, ◌-◌, ◌*◌, ◌%◌, ◌≤◌}
 use Rattle.blocks.specs.Block.{byte_at}
 use Rattle.blocks.specs.Check.{weight_of}
 use Rattle.blocks.specs.Columns.{sum_of, column_sum, column_weighted}
-use Rattle.blocks.proofs.ColumnLaws.{sum-split, columns-a, columns-b}
 use Rattle.blocks.proofs.check_of.Given as goal
 
 abbrev pub invariant-loop-from : goal.invariant-loop-from

@@ -1,6 +1,5 @@
 -- `blocks::check_right` meets its contract. Assumes nothing.
 use Rattle.blocks.proofs.Sealing.{check-short, check-wrong, check-last}
-use borrow.Author.Rules.{rules}
 use Rattle.blocks.proofs.check_right.Goals as goal
 
 pub returns-then-block-ne-BLOCK_SIZE : goal.returns-then-block-ne-BLOCK_SIZE

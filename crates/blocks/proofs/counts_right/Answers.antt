@@ -1,9 +1,7 @@
 -- `blocks::counts_right` meets its contract: one law for each kind. Assumes nothing.
 use mathlib.Core.Path.{sym, ◌∙◌}
-use borrow.Author.Tests.{not-true, not-false}
 use Rattle.blocks.proofs.Tests.{and-taken, and_left}
 use Rattle.blocks.proofs.Layouts.{counts-of-atoms, counts-of-rule, counts-of-term}
-use borrow.Author.Rules.{rules}
 use Rattle.blocks.proofs.counts_right.Goals as goal
 
 pub returns-then-is_within : goal.returns-then-is_within

@@ -2,7 +2,6 @@
 use mathlib.Core.Path.{refl, ap, ◌∙◌}
 use lib.ListN.{length}
 use Rattle.blocks.proofs.Parts.{first_part, first-length}
-use borrow.Author.Rules.{rules}
 use Rattle.blocks.proofs.first_entries.Goals as goal
 
 pub returns : goal.returns

@@ -1,6 +1,5 @@
 -- `blocks::has_block_lem` meets its contract. Assumes nothing.
 use Rattle.blocks.proofs.Parts.{has_block_lem}
-use borrow.Author.Rules.{rules}
 use Rattle.blocks.proofs.has_block.Goals as goal
 
 pub returns : goal.returns

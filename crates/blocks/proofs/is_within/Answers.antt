@@ -1,6 +1,5 @@
 -- `blocks::is_within` meets its contract. Assumes nothing.
 use Rattle.blocks.proofs.Layouts.{within-above, within-below}
-use borrow.Author.Rules.{rules}
 use Rattle.blocks.proofs.is_within.Goals as goal
 
 pub returns-then-low-x : goal.returns-then-low-x

@@ -1,12 +1,10 @@
 -- `blocks::layout_right` meets its contract. Assumes nothing.
 use mathlib.Core.Path.{◌≡◌}
 use lib.ListN.{length}
-use borrow.Author.Tests.{not-true, not-false}
 use Rattle.blocks.specs.Limits.{block_size}
 use Rattle.blocks.specs.Block.{kind_of, first_count, second_count}
 use Rattle.blocks.specs.Layout.{counts_right}
 use Rattle.blocks.proofs.Layouts.{layout-short, layout-counts, layout-byte3, layout-unused}
-use borrow.Author.Rules.{rules}
 use Rattle.blocks.proofs.layout_right.Goals as goal
 use Rattle.blocks.proofs.layout_right.Goals.{After-counts_right}
 

@@ -1,7 +1,6 @@
 -- `blocks::lists_term` meets its contract. Assumes nothing.
 use Rattle.blocks.specs.Kinds.{secret_kind, bad_kind}
 use Rattle.blocks.proofs.Layouts.{within-above, within-below}
-use borrow.Author.Rules.{rules}
 use Rattle.blocks.proofs.lists_term.Goals as goal
 
 pub returns-then-kind-ge-SECRET : goal.returns-then-kind-ge-SECRET

@@ -1,6 +1,5 @@
 -- `blocks::seal` meets its contract. Assumes nothing.
 use Rattle.blocks.proofs.Sealing.{seal-done, seal-refused}
-use borrow.Author.Rules.{rules}
 use Rattle.blocks.proofs.seal.Goals as goal
 
 pub returns-then-block-ne-BLOCK_SIZE : goal.returns-then-block-ne-BLOCK_SIZE

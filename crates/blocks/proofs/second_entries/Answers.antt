@@ -2,7 +2,6 @@
 use mathlib.Core.Path.{refl, ap, ◌∙◌}
 use lib.ListN.{length}
 use Rattle.blocks.proofs.Parts.{second-part, second-length}
-use borrow.Author.Rules.{rules}
 use Rattle.blocks.proofs.second_entries.Goals as goal
 
 pub returns : goal.returns

@@ -1,7 +1,5 @@
 -- `blocks::zero_from` meets its contract: what is left to look at answers as the whole does. Assumes nothing.
-use mathlib.Core.Path.{◌≡◌, sym, ◌∙◌}
-use Prim.Native.Nat.{◌-◌}
-use Rattle.blocks.specs.Layout.{zero_from}
+use mathlib.Core.Path.{sym, ◌∙◌}
 use Rattle.blocks.proofs.Layouts.{zero_more, zero-stop, zero-end}
 use borrow.Author.Rules.{rules}
 use Rattle.blocks.proofs.zero_from.Goals as goal

@@ -1,7 +1,6 @@
-use mathlib.Core.Path.{◌≡◌, sym, ◌∙◌}
+use mathlib.Core.Path.{◌≡◌}
 use Prim.Native.Nat.{◌-◌}
 use Rattle.blocks.specs.Layout.{zero_from}
-use Rattle.blocks.proofs.Layouts.{zero_more, zero-stop, zero-end}
 use Rattle.blocks.proofs.zero_from.Given as goal
 
 abbrev pub invariant-loop-i : goal.invariant-loop-i

@@ -1,7 +1,6 @@
 -- `c_call::zepayong_check` meets its contract. Assumes nothing.
 use mathlib.Core.Path.{ap, ◌∙◌}
 use Rattle.judge.specs.Answer.{packed_of}
-use borrow.Author.Rules.{rules}
 use Rattle.c_call.proofs.zepayong_check.Goals as goal
 
 pub returns : goal.returns

@@ -21,7 +21,7 @@ use Rattle.judge.specs.declared.checking.Checked.{Checked}
 use Rattle.judge.specs.File.{certificate_of, counts_of}
 use Rattle.judge.specs.Certificate.{Secret}
 use Rattle.judge.specs.Run.{Step, Derives, after}
-use Rattle.judge.specs.Meaning.{Accepts, RefusedWith}
+use Rattle.judge.specs.Meaning.{Accepts}
 use Rattle.judge.specs.Verdict.{verdict_of}
 use Rattle.judge.specs.Answer.{number_of, part_of, partless}
 use Rattle.judge.specs.Checked.{loader_count, IsLoader, full, raised_of, counted_of, EightPairs, zero_pair, pair_of, tallied_of, checked_of}

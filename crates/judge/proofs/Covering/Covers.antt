@@ -25,7 +25,7 @@ use Rattle.terms.proofs.EntryLaws.{term_of-reads, suffix, reads-variable, term-r
 use Rattle.terms.specs.Decisions.{Says, says_same}
 use Rattle.terms.specs.First.{FirstNot, fails, holds}
 use Rattle.terms.proofs.FirstLaws.{first-only, first-along}
-use Rattle.terms.proofs.PlacedLaws.{placed, within, spotted, subterm-at, spot-placed}
+use Rattle.terms.proofs.PlacedLaws.{placed, spotted, subterm-at, spot-placed}
 use Rattle.terms.proofs.PlaceEntryLaws.{place-entry}
 use Rattle.judge.specs.Certificate.{Certificate, Rule}
 use Rattle.judge.specs.File.{certificate_of, rule_of}

@@ -1,17 +1,16 @@
 -- Subterms by their entries: the k-th of `spots` is the one that stands at entry k (`entry_at` of the turns that lead to it is k),
 -- and the entries from there on begin with it. So the place that number 12 reports is an entry's number, and the verdict goes
 -- over the places as the meaning does.
-use mathlib.Core.Path.{◌≡◌, ap}
+use mathlib.Core.Path.{◌≡◌}
 use mathlib.Core.List.{List, []}
 use mathlib.Core.Logic.{◌↔◌}
 use mathlib.Core.Option.{some}
 use Prim.Native.Nat.{ℕ, ◌*◌, ◌<◌}
-use native.Mathlib.Omega.{arith}
 use lib.ListN.{drop}
 use Rattle.terms.specs.Term.{Term, Variable}
 use Rattle.terms.specs.Place.{Place, subterm_at, IsPlace}
 use Rattle.terms.specs.Entry.{term_of, size, Placed}
-use Rattle.terms.proofs.EntryLaws.{term_of-reads, size-positive}
+use Rattle.terms.proofs.EntryLaws.{term_of-reads}
 use Rattle.terms.specs.OneTerm.{OneTerm}
 use Rattle.terms.proofs.OneTermLaws.{one-alone}
 use Rattle.terms.proofs.PlacedLaws.{placed, spot-placed, placed-reads, one_place, one-subterm, placed-within}

@@ -7,7 +7,7 @@ use Prim.Native.Nat.{ℕ}
 use Rattle.terms.specs.Term.{Term, atom, hashed, signed, Message, Variable, no_variable, replace, instance}
 use Rattle.terms.specs.Instance.{PutsNonces}
 use Rattle.judge.specs.Certificate.{Rule, Certificate, Listed}
-use Rattle.judge.specs.Run.{Derives, had, hashes, signs, reads_signed, Step, no_premise, added, after_from, after}
+use Rattle.judge.specs.Run.{Derives, had, hashes, signs, reads_signed, no_premise, added, after_from, after}
 
 module _ {certificate : Certificate} {has : Message → Type 0} {m : Message} where
   -- "The intruder makes a hash from the message."

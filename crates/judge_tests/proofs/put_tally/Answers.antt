@@ -1,10 +1,5 @@
 -- `judge_tests::put_tally` meets its contract: the first k pairs are stored. Assumes nothing.
-use mathlib.Core.Path.{◌≡◌}
-use Prim.Native.Nat.{◌-◌, ◌≤◌}
-use lib.ListN.{length}
-use Rattle.judge.specs.Checked.{loader_count}
-use Rattle.judge_tests.specs.Asked.{tally_numbers}
-use Rattle.judge_tests.proofs.TallyLaws.{Stored, stored-none, stored-room, stored_more, stored-all}
+use Rattle.judge_tests.proofs.TallyLaws.{stored-none, stored-room, stored_more, stored-all}
 use borrow.Author.Rules.{rules}
 use Rattle.judge_tests.proofs.put_tally.Goals as goal
 

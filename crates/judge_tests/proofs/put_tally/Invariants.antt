@@ -3,7 +3,7 @@ use Prim.Native.Nat.{◌-◌, ◌≤◌}
 use lib.ListN.{length}
 use Rattle.judge.specs.Checked.{loader_count}
 use Rattle.judge_tests.specs.Asked.{tally_numbers}
-use Rattle.judge_tests.proofs.TallyLaws.{Stored, stored-none, stored-room, stored_more, stored-all}
+use Rattle.judge_tests.proofs.TallyLaws.{Stored}
 use Rattle.judge_tests.proofs.put_tally.Given as goal
 
 abbrev pub invariant-loop-k : goal.invariant-loop-k

@@ -1,7 +1,5 @@
 -- `judge_tests::tally_from` meets its contract: the first k pairs are loaded. Assumes nothing.
-use Prim.Native.Nat.{◌-◌, ◌≤◌}
-use Rattle.judge.specs.Checked.{loader_count}
-use Rattle.judge_tests.proofs.TallyLaws.{Loaded, loaded-none, loaded-more, loaded-all}
+use Rattle.judge_tests.proofs.TallyLaws.{loaded-none, loaded-more, loaded-all}
 use borrow.Author.Rules.{rules}
 use Rattle.judge_tests.proofs.tally_from.Goals as goal
 

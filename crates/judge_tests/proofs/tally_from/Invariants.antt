@@ -1,6 +1,6 @@
 use Prim.Native.Nat.{◌-◌, ◌≤◌}
 use Rattle.judge.specs.Checked.{loader_count}
-use Rattle.judge_tests.proofs.TallyLaws.{Loaded, loaded-none, loaded-more, loaded-all}
+use Rattle.judge_tests.proofs.TallyLaws.{Loaded}
 use Rattle.judge_tests.proofs.tally_from.Given as goal
 
 abbrev pub invariant-loop-k : goal.invariant-loop-k

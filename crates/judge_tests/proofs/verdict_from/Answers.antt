@@ -1,6 +1,5 @@
 -- `judge_tests::verdict_from` meets its contract. Assumes nothing.
 use Rattle.judge_tests.proofs.AskedLaws.{from-none, from-length, from-missing, from-loader, from-other}
-use borrow.Author.Rules.{rules}
 use Rattle.judge_tests.proofs.verdict_from.Goals as goal
 
 pub returns-then-number-eq0 : goal.returns-then-number-eq0

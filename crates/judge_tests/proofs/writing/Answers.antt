@@ -1,6 +1,5 @@
 -- `judge_tests::writing` meets its contract. Assumes nothing.
 use Rattle.judge_tests.proofs.AskedLaws.{wrote, wrong-length, short-buffer}
-use borrow.Author.Rules.{rules}
 use Rattle.judge_tests.proofs.writing.Goals as goal
 
 pub returns-in-Wrote : goal.returns-in-Wrote

@@ -1,6 +1,5 @@
 -- `judge_tests::zepayong_line` meets its contract. Assumes nothing.
 use Rattle.judge_tests.proofs.AskedLaws.{printed}
-use borrow.Author.Rules.{rules}
 use Rattle.judge_tests.proofs.zepayong_line.Goals as goal
 
 pub returns : goal.returns

@@ -1,6 +1,5 @@
 -- `judge_tests::zepayong_part` meets its contract. Assumes nothing.
 use Rattle.judge_tests.proofs.AskedLaws.{too_short, copied, room}
-use borrow.Author.Rules.{rules}
 use Rattle.judge_tests.proofs.zepayong_part.Goals as goal
 
 pub returns-then-buffer-part : goal.returns-then-buffer-part
@@ -12,6 +11,9 @@ copy-requires c = room _ _ c.if-buffer-part.false
 
 pub returns : goal.returns
 returns c =
-    record { answer = (copied _ _ c.verdict_from.ensures c.refused_part-part.ensures.part c.if-buffer-part.false
-    c.copy.ensures).0; bytes = (copied _ _ c.verdict_from.ensures c.refused_part-part.ensures.part c.if-buffer-part.false
-    c.copy.ensures).1 }
+    record {
+      answer = (copied _ _ c.verdict_from.ensures c.refused_part-part.ensures.part c.if-buffer-part.false
+          c.copy.ensures).0;
+      bytes = (copied _ _ c.verdict_from.ensures c.refused_part-part.ensures.part c.if-buffer-part.false
+          c.copy.ensures).1;
+    }

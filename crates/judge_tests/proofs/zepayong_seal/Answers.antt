@@ -1,7 +1,6 @@
 -- `judge_tests::zepayong_seal` meets its contract. Assumes nothing.
 use mathlib.Core.Path.{ap, ◌∙◌}
 use Rattle.judge_tests.specs.Asked.{packed_writing}
-use borrow.Author.Rules.{rules}
 use Rattle.judge_tests.proofs.zepayong_seal.Goals as goal
 
 pub returns : goal.returns

@@ -2,7 +2,6 @@
 use mathlib.Core.Path.{sym, ap, ◌∙◌}
 use native.Mathlib.Omega.{arith}
 use Rattle.term_tests.specs.Asked.{match_number, yes_number, term_is, asked, first_none, second_none}
-use borrow.Author.Rules.{rules}
 use Rattle.term_tests.proofs.zepayong_matches.Goals as goal
 
 pub nonces-told-requires : goal.nonces-told-requires

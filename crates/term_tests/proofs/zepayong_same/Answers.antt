@@ -1,7 +1,6 @@
 -- `term_tests::zepayong_same` meets its contract. Assumes nothing.
 use mathlib.Core.Path.{sym, ap, ◌∙◌}
 use Rattle.term_tests.specs.Asked.{same_number, yes_number, term_is, asked, first_none, second_none}
-use borrow.Author.Rules.{rules}
 use Rattle.term_tests.proofs.zepayong_same.Goals as goal
 
 pub same-requires : goal.same-requires

@@ -2,7 +2,6 @@
 use mathlib.Core.Path.{sym, ap, ◌∙◌}
 use native.Mathlib.Omega.{arith}
 use Rattle.term_tests.specs.Asked.{share_number, yes_number, term_is, asked, first_none, second_none}
-use borrow.Author.Rules.{rules}
 use Rattle.term_tests.proofs.zepayong_shares.Goals as goal
 
 pub nonces-told-requires : goal.nonces-told-requires
@@ -25,9 +24,9 @@ unfolding share_number
 shares-requires c =
     let args = c.args in let p = term_is args.atoms.now args.s.now (sym c.is_term.ensures ∙ c.if-is_term.true) in
     let q = term_is args.atoms.now args.t.now (sym c.is_term-then-is_term.ensures ∙ c.if-is_term-2.true) in (
-    record { left = p.begins; right = q.begins; left_short = p.short; right_short = q.short },
-    c.sizes.ensures,
-    c.sizes-then-is_term-2.ensures,
+      record { left = p.begins; right = q.begins; left_short = p.short; right_short = q.short },
+      c.sizes.ensures,
+      c.sizes-then-is_term-2.ensures,
     )
 
 pub returns-then-is_term-2 : goal.returns-then-is_term-2

@@ -1,7 +1,7 @@
 -- `blocks::columns::column` meets its contract: after some rows the sums are those of these rows, and small enough to fit.
 -- Assumes nothing.
 use mathlib.Core.Path.{◌≡◌, ap, ◌∙◌}
-use Prim.Native.Nat.{ℕ, ◌+◌, ◌-◌, ◌*◌, ◌≤◌}
+use Prim.Native.Nat.{ℕ, ◌+◌, ◌*◌, ◌≤◌}
 use native.Mathlib.Nat.{add-mul, mul-add, mul-le-mul}
 use native.Mathlib.Omega.{arith}
 use Rattle.blocks.specs.Block.{byte_at}
@@ -30,14 +30,14 @@ loop-row-preserved c =
     let args = c.args in let column : ℕ → ℕ = cell args.block.now args.k in
     let place : 4 + 24 * c.loop-row.row + args.k ≡ place_of args.k c.loop-row.row = omega arith in
     let byte : c.wide.result ≡ column c.loop-row.row = c.wide.ensures.0 ∙ ap (byte_at args.block.now) place in (
-    search rules,
-    (
-    sum_step column c.loop-row.row c.loop-row.invariant.1.0 byte,
-    (
-    sum_step (sum_of column) c.loop-row.row c.loop-row.invariant.1.1.0 c.loop-row.invariant.1.0,
-    (search rules, omega (arith, square-more c.loop-row.row)),
-    ),
-    ),
+      search rules,
+      (
+        sum_step column c.loop-row.row c.loop-row.invariant.1.0 byte,
+        (
+          sum_step (sum_of column) c.loop-row.row c.loop-row.invariant.1.1.0 c.loop-row.invariant.1.0,
+          (search rules, omega (arith, square-more c.loop-row.row)),
+        ),
+      ),
     )
 
 pub returns : goal.returns

@@ -1,10 +1,6 @@
-use mathlib.Core.Path.{◌≡◌, ap, ◌∙◌}
-use Prim.Native.Nat.{ℕ, ◌+◌, ◌-◌, ◌*◌, ◌≤◌}
-use native.Mathlib.Nat.{add-mul, mul-add, mul-le-mul}
-use native.Mathlib.Omega.{arith}
-use Rattle.blocks.specs.Block.{byte_at}
-use Rattle.blocks.specs.Columns.{sum_of, place_of, cell, column_sum, column_below}
-use Rattle.blocks.proofs.ColumnLaws.{sum_step}
+use mathlib.Core.Path.{◌≡◌}
+use Prim.Native.Nat.{◌-◌, ◌*◌, ◌≤◌}
+use Rattle.blocks.specs.Columns.{sum_of, cell}
 use Rattle.blocks.proofs.columns.column.Given as goal
 
 abbrev pub invariant-loop-row : goal.invariant-loop-row

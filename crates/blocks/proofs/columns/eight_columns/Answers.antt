@@ -1,7 +1,7 @@
 -- `blocks::columns::eight_columns` meets its contract: the first k sums of either kind are those of k columns. Assumes nothing.
 use mathlib.Core.Path.{◌≡◌, ◌∙◌}
 use mathlib.Core.List.{List}
-use Prim.Native.Nat.{ℕ, ◌+◌, ◌-◌, ◌≤◌, ◌<◌}
+use Prim.Native.Nat.{ℕ, ◌+◌, ◌<◌}
 use native.Mathlib.Nat.{not-suc-le-zero}
 use native.Mathlib.Decide.{ℕ_discrete}
 use native.Mathlib.Omega.{arith}
@@ -21,21 +21,20 @@ first_step f l n {x} inside first p i h = go (ℕ_discrete i n)
     go (no d) = get_or-set_other l n i x 0 d ∙ first i (omega arith)
 
 pub loop-k-init : goal.loop-k-init
-loop-k-init c =
-    (
-    (search rules, (search rules, search rules)),
-    (λ i h. absurd (not-suc-le-zero h), λ i h. absurd (not-suc-le-zero h)),
-    )
+loop-k-init c = (
+  (search rules, (search rules, search rules)),
+  (λ i h. absurd (not-suc-le-zero h), λ i h. absurd (not-suc-le-zero h)),
+)
 
 pub loop-k-preserved : goal.loop-k-preserved
 loop-k-preserved c =
     let args = c.args in let long = c.loop-k.invariant.0.1 in let sum : ℕ → ℕ = λ i. column_sum args.block.now (args.from + i) in
     let below : ℕ → ℕ = λ i. column_below args.block.now (args.from + i) in (
-    (omega arith, (simp length-set long.0, simp length-set long.1)),
-    (
-    first_step sum c.loop-k.sums c.loop-k.k (omega arith) c.loop-k.invariant.1.0 c.column-one.ensures.sum,
-    first_step below c.loop-k.below c.loop-k.k (omega arith) c.loop-k.invariant.1.1 c.column-one.ensures.below,
-    ),
+      (omega arith, (simp length-set long.0, simp length-set long.1)),
+      (
+        first_step sum c.loop-k.sums c.loop-k.k (omega arith) c.loop-k.invariant.1.0 c.column-one.ensures.sum,
+        first_step below c.loop-k.below c.loop-k.k (omega arith) c.loop-k.invariant.1.1 c.column-one.ensures.below,
+      ),
     )
 
 pub returns : goal.returns

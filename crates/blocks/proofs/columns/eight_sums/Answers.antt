@@ -79,15 +79,15 @@ pub loop-k-preserved : goal.loop-k-preserved
 loop-k-preserved c =
     let args = c.args in let sum = c.eight_columns-columns.ensures.sums c.loop-k.k (omega arith) in
     let below = c.eight_columns-columns.ensures.below c.loop-k.k (omega arith) in (
-    omega arith,
-    (
-    sum_step (λ i. column_sum args.block.now (args.from + i)) c.loop-k.k c.loop-k.invariant.1.0 sum,
-    (
-    eight-step args.block.now args.from c.loop-k.k c.loop-k.a c.loop-k.b (omega arith) (omega arith)
-    c.loop-k.invariant.1.1.0 sum below,
-    (omega (arith, sum-small (goal.at.loop-k-preserved c).In-loop-k), omega (arith, below-small (goal.at.loop-k-preserved c).In-loop-k, added-small (goal.at.loop-k-preserved c).In-loop-k)),
-    ),
-    ),
+      omega arith,
+      (
+        sum_step (λ i. column_sum args.block.now (args.from + i)) c.loop-k.k c.loop-k.invariant.1.0 sum,
+        (
+          eight-step args.block.now args.from c.loop-k.k c.loop-k.a c.loop-k.b (omega arith) (omega arith)
+              c.loop-k.invariant.1.1.0 sum below,
+          (omega (arith, sum-small (goal.at.loop-k-preserved c).In-loop-k), omega (arith, below-small (goal.at.loop-k-preserved c).In-loop-k, added-small (goal.at.loop-k-preserved c).In-loop-k)),
+        ),
+      ),
     )
 
 pub overflow_mul-result : goal.overflow_mul-result

@@ -1,14 +1,6 @@
 use mathlib.Core.Path.{◌≡◌}
-use mathlib.Core.List.{List}
-use Prim.Native.Nat.{ℕ, ◌+◌, ◌-◌, ◌*◌, ◌≤◌}
-use native.Mathlib.Nat.{add-mul, mul-add, mul-le-mul}
-use native.Mathlib.Numerals.{add-one}
-use native.Mathlib.Omega.{arith}
-use mir.Syntax.{w16}
-use mir.Val.{Fits}
-use lib.ListN.{get_or}
-use Rattle.blocks.specs.Columns.{sum_of, column_sum, column_below, column_weighted}
-use Rattle.blocks.proofs.ColumnLaws.{sum_step, column-weights}
+use Prim.Native.Nat.{◌+◌, ◌-◌, ◌*◌, ◌≤◌}
+use Rattle.blocks.specs.Columns.{sum_of, column_sum, column_weighted}
 use Rattle.blocks.proofs.columns.eight_sums.Given as goal
 
 abbrev pub invariant-loop-k : goal.invariant-loop-k

@@ -1,6 +1,5 @@
 -- `judge::answer::is_partless` meets its contract. Assumes nothing.
 use Rattle.judge.proofs.Answering.Answers.{partless-yes, partless-no}
-use borrow.Author.Rules.{rules}
 use Rattle.judge.proofs.answer.is_partless.Goals as goal
 
 pub returns-in-1 : goal.returns-in-1

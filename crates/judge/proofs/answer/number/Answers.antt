@@ -1,6 +1,5 @@
 -- `judge::answer::number` meets its contract. Assumes nothing.
 use Rattle.judge.proofs.Answering.Answers.{number_is}
-use borrow.Author.Rules.{rules}
 use Rattle.judge.proofs.answer.number.Goals as goal
 
 pub returns : goal.returns

@@ -1,6 +1,5 @@
 -- `judge::answer::packed` meets its contract. Assumes nothing.
 use Rattle.judge.proofs.Answering.Answers.{packed-refused}
-use borrow.Author.Rules.{rules}
 use Rattle.judge.proofs.answer.packed.Goals as goal
 
 pub returns-in-Refused : goal.returns-in-Refused

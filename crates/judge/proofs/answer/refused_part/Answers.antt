@@ -19,6 +19,6 @@ pub returns-else-is_partless : goal.returns-else-is_partless
 returns-else-is_partless c =
     let file = c.args.file in
     let there = part-there file.now file.ref_ptr c.in-Refused.is c.number.ensures.0
-        (sym c.if-is_partless.false ∙ c.is_partless.ensures) c.block_of.ensures
-        (c.block_or_none.ensures.part, c.block_or_none.ensures.place) in
+    (sym c.if-is_partless.false ∙ c.is_partless.ensures) c.block_of.ensures
+    (c.block_or_none.ensures.part, c.block_or_none.ensures.place) in
     record { part = there.0; place = there.1 }

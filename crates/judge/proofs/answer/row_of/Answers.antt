@@ -1,7 +1,6 @@
 -- `judge::answer::row_of` meets its contract. Assumes nothing.
 use mathlib.Core.Path.{sym, ap, ◌∙◌}
 use Rattle.judge.specs.Answer.{row_of}
-use borrow.Author.Rules.{rules}
 use Rattle.judge.proofs.answer.row_of.Goals as goal
 
 pub returns-in-Length : goal.returns-in-Length

@@ -1,9 +1,7 @@
 -- `judge::atoms::are_two` meets its contract. Assumes nothing.
 use mathlib.Core.Path.{ap, ◌∙◌}
-use borrow.Author.Tests.{not-true, not-false}
 use Rattle.blocks.specs.Block.{kind_of}
 use Rattle.judge.proofs.Stages.FormLaws.{not-two, second-inside, two-says}
-use borrow.Author.Rules.{rules}
 use Rattle.judge.proofs.atoms.are_two.Goals as goal
 
 pub returns-then-not-has_block : goal.returns-then-not-has_block

@@ -2,7 +2,6 @@
 use mathlib.Core.Path.{ap, ◌∙◌}
 use Rattle.blocks.specs.Block.{first_entries}
 use Rattle.judge.proofs.Files.AtomBlocks.{block_inside}
-use borrow.Author.Rules.{rules}
 use Rattle.judge.proofs.atoms.first.Goals as goal
 
 pub block-block-requires : goal.block-block-requires

@@ -3,7 +3,6 @@ use mathlib.Core.Path.{sym, ap, ◌∙◌}
 use Rattle.blocks.specs.Block.{first_entries}
 use Rattle.terms.proofs.AnswerLaws.{says-yes, says-no}
 use Rattle.judge.proofs.Files.AtomBlocks.{one_block, two_blocks, two-inside}
-use borrow.Author.Rules.{rules}
 use Rattle.judge.proofs.atoms.more.Goals as goal
 
 pub are_two-requires : goal.are_two-requires

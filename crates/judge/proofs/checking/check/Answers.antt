@@ -10,5 +10,5 @@ returns-then-n-ge-LOADERS c =
 pub returns : goal.returns
 returns c =
     let told = checked-is c.args.file.now c.args.loader c.args.t c.if-n-ge-LOADERS.false
-        (c.judge-v.ensures.verdict, c.judge-v.ensures.values) c.tallied.ensures in
+    (c.judge-v.ensures.verdict, c.judge-v.ensures.values) c.tallied.ensures in
     record { checked = told.0; values = told.1 }

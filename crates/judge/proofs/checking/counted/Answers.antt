@@ -1,6 +1,5 @@
 -- `judge::checking::counted` meets its contract. Assumes nothing.
 use Rattle.judge.proofs.Answering.Tallies.{counted-accepted, counted-refused}
-use borrow.Author.Rules.{rules}
 use Rattle.judge.proofs.checking.counted.Goals as goal
 
 pub returns-in-Accepted : goal.returns-in-Accepted

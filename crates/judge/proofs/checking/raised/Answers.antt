@@ -1,6 +1,5 @@
 -- `judge::checking::raised` meets its contract. Assumes nothing.
 use Rattle.judge.proofs.Answering.Tallies.{raised-full, raised-one}
-use borrow.Author.Rules.{rules}
 use Rattle.judge.proofs.checking.raised.Goals as goal
 
 pub returns-then-n-eq4294967295 : goal.returns-then-n-eq4294967295

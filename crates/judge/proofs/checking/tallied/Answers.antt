@@ -1,6 +1,5 @@
 -- `judge::checking::tallied` meets its contract. Assumes nothing.
 use Rattle.judge.proofs.Answering.Tallies.{tallied-is}
-use borrow.Author.Rules.{rules}
 use Rattle.judge.proofs.checking.tallied.Goals as goal
 
 pub returns : goal.returns

@@ -1,8 +1,5 @@
 -- `judge::cover::mark_around` meets its contract; the measure is what is left of the pattern's entries. Assumes nothing.
 use mathlib.Core.Path.{refl, sym, ◌∙◌}
-use Prim.Native.Nat.{ℕ, ◌<◌, ◌*◌, ◌-◌}
-use lib.ListN.{length}
-use borrow.Author.Tests.{not-true, not-false}
 use Rattle.terms.proofs.SizeLaws.{size-at}
 use Rattle.judge.proofs.Covering.Around.{pattern-room, term-room, pattern-tag, term-tag, laid_end, marks-told, mark-found, mark-laid, around-differ, no-mark-found, none-behind, none-laid}
 use Rattle.judge.proofs.Covering.Around.{left-around, right-around, pair-marked, pair-laid-around, content-around, wrapped-marked, wrapped-laid-around, found_as, raised-to}

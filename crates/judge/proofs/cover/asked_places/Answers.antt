@@ -1,6 +1,5 @@
 -- `judge::cover::asked_places` meets its contract. Assumes nothing.
 use Rattle.judge.proofs.Covering.Covers.{asked-flags, unasked-flags}
-use borrow.Author.Rules.{rules}
 use Rattle.judge.proofs.cover.asked_places.Goals as goal
 
 pub returns-then-asked : goal.returns-then-asked

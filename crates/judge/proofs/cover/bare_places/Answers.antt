@@ -1,9 +1,5 @@
 -- `judge::cover::bare_places` meets its contract: the flags before entry k are put off where its subterm stands at a flagged entry of the premise. Assumes nothing.
-use mathlib.Core.Path.{◌≡◌}
-use Prim.Native.Nat.{◌≤◌, ◌-◌, ◌*◌}
-use lib.ListN.{length}
-use Rattle.judge.specs.CoverEntries.{sub_at, SomeFlagged}
-use Rattle.judge.proofs.Covering.Flags.{ClearedBelow, below-start, below_more, below_all, loses-both}
+use Rattle.judge.proofs.Covering.Flags.{below-start, below_more, below_all, loses-both}
 use Rattle.judge.proofs.Covering.Covers.{flagged-below}
 use borrow.Author.Rules.{rules}
 use Rattle.judge.proofs.cover.bare_places.Goals as goal

@@ -2,8 +2,7 @@ use mathlib.Core.Path.{◌≡◌}
 use Prim.Native.Nat.{◌≤◌, ◌-◌, ◌*◌}
 use lib.ListN.{length}
 use Rattle.judge.specs.CoverEntries.{sub_at, SomeFlagged}
-use Rattle.judge.proofs.Covering.Flags.{ClearedBelow, below-start, below_more, below_all, loses-both}
-use Rattle.judge.proofs.Covering.Covers.{flagged-below}
+use Rattle.judge.proofs.Covering.Flags.{ClearedBelow}
 use Rattle.judge.proofs.cover.bare_places.Given as goal
 
 abbrev pub invariant-loop-k : goal.invariant-loop-k

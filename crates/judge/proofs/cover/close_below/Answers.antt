@@ -2,7 +2,6 @@
 use Rattle.terms.proofs.AnswerLaws.{says-no}
 use Rattle.judge.proofs.Covering.Hats.{standing-end}
 use Rattle.judge.proofs.Covering.Opens.{closed_none, closed-unasked}
-use borrow.Author.Rules.{rules}
 use Rattle.judge.proofs.cover.close_below.Goals as goal
 
 pub end_of-end-requires : goal.end_of-end-requires

@@ -1,9 +1,4 @@
 -- `judge::cover::close_places` meets its contract: before entry h the flags are on that were on at the start and are open as far as the first h entries go. Assumes nothing.
-use Prim.Native.Nat.{◌≤◌, ◌-◌}
-use Rattle.terms.specs.Entry.{term_of, size}
-use Rattle.judge.specs.Listed.{NeverHat}
-use Rattle.judge.specs.File.{certificate_of}
-use Rattle.judge.specs.CoverEntries.{OpenAmong, Remembered}
 use Rattle.judge.proofs.Covering.Opens.{open_none, open_more, open-all}
 use Rattle.judge.proofs.Covering.Covers.{standing-concluded}
 use borrow.Author.Rules.{rules}

@@ -3,8 +3,6 @@ use Rattle.terms.specs.Entry.{term_of, size}
 use Rattle.judge.specs.Listed.{NeverHat}
 use Rattle.judge.specs.File.{certificate_of}
 use Rattle.judge.specs.CoverEntries.{OpenAmong, Remembered}
-use Rattle.judge.proofs.Covering.Opens.{open_none, open_more, open-all}
-use Rattle.judge.proofs.Covering.Covers.{standing-concluded}
 use Rattle.judge.proofs.cover.close_places.Given as goal
 
 abbrev pub invariant-loop-h : goal.invariant-loop-h

@@ -1,9 +1,7 @@
 -- `judge::cover::close_under` meets its contract. Assumes nothing.
-use borrow.Author.Tests.{not-true, not-false}
 use Rattle.terms.proofs.AnswerLaws.{says-yes, says-no}
 use Rattle.judge.proofs.Covering.Hats.{standing-end}
 use Rattle.judge.proofs.Covering.Opens.{closed_none, closed-below}
-use borrow.Author.Rules.{rules}
 use Rattle.judge.proofs.cover.close_under.Goals as goal
 
 pub never_hat_at-requires : goal.never_hat_at-requires

@@ -1,14 +1,8 @@
 -- `judge::cover::drop_exceptions` meets its contract: the flags are put off by the patterns of the blocks from `left` on. Assumes nothing.
 use mathlib.Core.Path.{refl}
-use Prim.Native.Nat.{◌≤◌}
-use borrow.Author.Tests.{not-true}
-use Rattle.blocks.specs.Kinds.{bad_kind}
 use Rattle.blocks.proofs.KindLaws.{bad-lists}
 use Rattle.terms.proofs.AnswerLaws.{says-no}
-use Rattle.judge.specs.File.{block_count}
-use Rattle.judge.specs.Listed.{atoms_in}
-use Rattle.judge.specs.CoverEntries.{sub_at, Cleared, LaysAround}
-use Rattle.judge.proofs.Covering.Hats.{HeldFrom, dropped-none, dropped-more, dropped-all, dropped-lower, no-exceptions}
+use Rattle.judge.proofs.Covering.Hats.{dropped-none, dropped-more, dropped-all, dropped-lower, no-exceptions}
 use borrow.Author.Rules.{rules}
 use Rattle.judge.proofs.cover.drop_exceptions.Goals as goal
 

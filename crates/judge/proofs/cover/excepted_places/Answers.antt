@@ -3,7 +3,6 @@ use mathlib.Core.Path.{refl}
 use Rattle.blocks.proofs.KindLaws.{bad-lists}
 use Rattle.terms.proofs.AnswerLaws.{says-no}
 use Rattle.judge.proofs.Covering.Hats.{none-excepted}
-use borrow.Author.Rules.{rules}
 use Rattle.judge.proofs.cover.excepted_places.Goals as goal
 
 pub some_marked-requires : goal.some_marked-requires

@@ -1,13 +1,8 @@
 -- `judge::cover::first_secret` meets its contract: no flagged entry before entry k is a secret. Assumes nothing.
 use mathlib.Core.Path.{refl}
-use Prim.Native.Nat.{ℕ, ◌≤◌, ◌<◌, ◌-◌, ◌/◌}
 use borrow.Author.Count.{below_none, below_more}
-use lib.ListN.{length}
 use Rattle.terms.specs.First.{fails, holds}
 use Rattle.terms.proofs.AnswerLaws.{says-yes, says-no}
-use Rattle.judge.specs.File.{certificate_of}
-use Rattle.judge.specs.Listed.{IsSecret}
-use Rattle.judge.specs.CoverEntries.{FlaggedWith}
 use borrow.Author.Rules.{rules}
 use Rattle.judge.proofs.cover.first_secret.Goals as goal
 

@@ -1,7 +1,4 @@
 -- `judge::cover::index_of` meets its contract: the flagged entries before entry k are noted. Assumes nothing.
-use Prim.Native.Nat.{◌≤◌, ◌-◌, ◌*◌}
-use lib.ListN.{length}
-use Rattle.judge.specs.CoverEntries.{IndexedBelow}
 use Rattle.judge.proofs.Covering.Indexes.{index-none, index-all}
 use borrow.Author.Rules.{rules}
 use Rattle.judge.proofs.cover.index_of.Goals as goal

@@ -1,7 +1,6 @@
 use Prim.Native.Nat.{◌≤◌, ◌-◌, ◌*◌}
 use lib.ListN.{length}
 use Rattle.judge.specs.CoverEntries.{IndexedBelow}
-use Rattle.judge.proofs.Covering.Indexes.{index-none, index-all}
 use Rattle.judge.proofs.cover.index_of.Given as goal
 
 abbrev pub invariant-loop-k : goal.invariant-loop-k

@@ -4,7 +4,6 @@ use lib.Dec.{eqb}
 use Rattle.terms.specs.Tag.{children_of}
 use Rattle.terms.specs.Decisions.{says_same}
 use Rattle.terms.proofs.AnswerLaws.{says_eq}
-use borrow.Author.Rules.{rules}
 use Rattle.judge.proofs.cover.is_alike.Goals as goal
 
 pub returns-then-tag-other : goal.returns-then-tag-other

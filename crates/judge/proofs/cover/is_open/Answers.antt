@@ -1,7 +1,6 @@
 -- `judge::cover::is_open` meets its contract. Assumes nothing.
 use Rattle.terms.specs.Decisions.{says_same}
 use Rattle.judge.proofs.Covering.Covers.{flagged-begins}
-use borrow.Author.Rules.{rules}
 use Rattle.judge.proofs.cover.is_open.Goals as goal
 
 pub stands_at-requires : goal.stands_at-requires

@@ -5,7 +5,6 @@ use Rattle.judge.specs.Listed.{shares_listed?}
 use Rattle.terms.proofs.AnswerLaws.{answer-says, says-yes, says-no}
 use Rattle.judge.proofs.Covering.Covers.{risky-variable, risky-secret}
 use Rattle.judge.proofs.Stages.Roots.{no-root-shares}
-use borrow.Author.Rules.{rules}
 use Rattle.judge.proofs.cover.is_risky.Goals as goal
 
 pub may_be_secret-requires : goal.may_be_secret-requires

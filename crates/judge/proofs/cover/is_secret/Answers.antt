@@ -2,7 +2,6 @@
 use Rattle.judge.specs.Listed.{is_secret?}
 use Rattle.terms.proofs.AnswerLaws.{answer-says}
 use Rattle.judge.proofs.Stages.Roots.{no-root-secret}
-use borrow.Author.Rules.{rules}
 use Rattle.judge.proofs.cover.is_secret.Goals as goal
 
 pub may_be_secret-requires : goal.may_be_secret-requires

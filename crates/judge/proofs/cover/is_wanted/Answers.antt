@@ -6,7 +6,6 @@ use Rattle.judge.specs.CoverEntries.{is_secret}
 use Rattle.judge.proofs.Covering.Hats.{searching-at}
 use Rattle.judge.proofs.Covering.Covers.{standing-entries, wanted-risky, wanted-none}
 use Rattle.judge.proofs.Covering.Indexes.{index-absent, no-slot-secret}
-use borrow.Author.Rules.{rules}
 use Rattle.judge.proofs.cover.is_wanted.Goals as goal
 
 pub is_absent-requires : goal.is_absent-requires

@@ -24,9 +24,9 @@ matches-requires c = (c.term_at-p.ensures.term, search rules, search rules)
 pub mark_cover-requires : goal.mark_cover-requires
 mark_cover-requires c =
     let pre = c.requires in let told = nonces-read pre.4 c.nonces.ensures in (
-    pattern-laying pre.0 c.term_at-p.ensures
-    (becomes (yes_of (match? (atoms_in c.args.file.now) _ _) (sym (c.matches.ensures _ told) ∙ c.if-matches.true))),
-    pre.3,
+      pattern-laying pre.0 c.term_at-p.ensures
+          (becomes (yes_of (match? (atoms_in c.args.file.now) _ _) (sym (c.matches.ensures _ told) ∙ c.if-matches.true))),
+      pre.3,
     )
 
 pub returns-then-matches : goal.returns-then-matches

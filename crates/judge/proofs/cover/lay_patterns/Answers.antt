@@ -1,9 +1,5 @@
 -- `judge::cover::lay_patterns` meets its contract: the flags are raised by the patterns of the blocks from `left` on. Assumes nothing.
-use Prim.Native.Nat.{◌≤◌}
-use Rattle.judge.specs.File.{block_count}
-use Rattle.judge.specs.Listed.{atoms_in}
-use Rattle.judge.specs.CoverEntries.{sub_at, Raised, Lays}
-use Rattle.judge.proofs.Covering.Hats.{HeldFrom, held_none, held_more, held_all, held-lower}
+use Rattle.judge.proofs.Covering.Hats.{held_none, held_more, held_all, held-lower}
 use borrow.Author.Rules.{rules}
 use Rattle.judge.proofs.cover.lay_patterns.Goals as goal
 

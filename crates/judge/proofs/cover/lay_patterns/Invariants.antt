@@ -2,7 +2,7 @@ use Prim.Native.Nat.{◌≤◌}
 use Rattle.judge.specs.File.{block_count}
 use Rattle.judge.specs.Listed.{atoms_in}
 use Rattle.judge.specs.CoverEntries.{sub_at, Raised, Lays}
-use Rattle.judge.proofs.Covering.Hats.{HeldFrom, held_none, held_more, held_all, held-lower}
+use Rattle.judge.proofs.Covering.Hats.{HeldFrom}
 use Rattle.judge.proofs.cover.lay_patterns.Given as goal
 
 abbrev pub invariant-loop-left : goal.invariant-loop-left

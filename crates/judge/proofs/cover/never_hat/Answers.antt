@@ -4,7 +4,6 @@ use Rattle.blocks.proofs.KindLaws.{bad-lists}
 use Rattle.terms.proofs.AnswerLaws.{yes_of, no_of, answer-says}
 use Rattle.judge.specs.Listed.{matches_everywhere?, shares_listed?}
 use Rattle.judge.proofs.Covering.Opens.{no-good-shares, by-bad}
-use borrow.Author.Rules.{rules}
 use Rattle.judge.proofs.cover.never_hat.Goals as goal
 
 pub shares_listed-requires : goal.shares_listed-requires

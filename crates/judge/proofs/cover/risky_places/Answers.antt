@@ -1,15 +1,9 @@
 -- `judge::cover::risky_places` meets its contract: entry k stands at a place, or is the end, and the flags before it are on where
 -- there is a place and it is risky. Assumes nothing.
 use mathlib.Core.Path.{refl}
-use Prim.Native.Nat.{◌≤◌, ◌-◌}
 use Rattle.blocks.proofs.KindLaws.{secret-lists}
-use Rattle.terms.specs.Entry.{term_of, size}
-use Rattle.terms.specs.PlaceEntries.{PlaceEntry}
 use Rattle.terms.proofs.PlaceEntryLaws.{first-place, next_place_lem}
-use Rattle.judge.specs.Cover.{Risky}
-use Rattle.judge.specs.File.{certificate_of}
-use Rattle.judge.specs.CoverEntries.{sub_at}
-use Rattle.judge.proofs.Covering.Flags.{RaisedBelow, raised-start}
+use Rattle.judge.proofs.Covering.Flags.{raised-start}
 use Rattle.judge.proofs.Covering.Hats.{searching-at}
 use Rattle.judge.proofs.Covering.Covers.{standing-concluded, concluded-entries, entries-flags, places-more}
 use borrow.Author.Rules.{rules}

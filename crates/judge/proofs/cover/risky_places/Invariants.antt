@@ -1,15 +1,10 @@
-use mathlib.Core.Path.{refl}
 use Prim.Native.Nat.{◌≤◌, ◌-◌}
-use Rattle.blocks.proofs.KindLaws.{secret-lists}
 use Rattle.terms.specs.Entry.{term_of, size}
 use Rattle.terms.specs.PlaceEntries.{PlaceEntry}
-use Rattle.terms.proofs.PlaceEntryLaws.{first-place, next_place_lem}
 use Rattle.judge.specs.Cover.{Risky}
 use Rattle.judge.specs.File.{certificate_of}
 use Rattle.judge.specs.CoverEntries.{sub_at}
-use Rattle.judge.proofs.Covering.Flags.{RaisedBelow, raised-start}
-use Rattle.judge.proofs.Covering.Hats.{searching-at}
-use Rattle.judge.proofs.Covering.Covers.{standing-concluded, concluded-entries, entries-flags, places-more}
+use Rattle.judge.proofs.Covering.Flags.{RaisedBelow}
 use Rattle.judge.proofs.cover.risky_places.Given as goal
 
 abbrev pub invariant-loop-k : goal.invariant-loop-k

@@ -1,5 +1,4 @@
 -- `judge::cover::rule_found` meets its contract. Assumes nothing.
-use borrow.Author.Tests.{not-true, not-false}
 use mathlib.Core.Path.{sym}
 use Rattle.judge.specs.File.{rule_of}
 use Rattle.judge.proofs.Covering.Opens.{opened-within}
@@ -31,14 +30,18 @@ returns-in-At c =
 
 pub returns-then-not-asked : goal.returns-then-not-asked
 returns-then-not-asked c =
-    let pre = c.requires in let wanted = c.wanted_places-wanted.ensures in record { premise = remembered-of (sym c.first_entries-premise.ensures.part) c.open_places-opened.ensures.memo; conclusion = pre.4; answer = found-unasked _ _ _ (secret-rule pre.0 (rule_of c.args.block.now) (premise-is pre.1 c.first_entries-premise.ensures.part c.first_entries-premise.ensures.size) c.open_places-opened.ensures.flags wanted c.first_secret.ensures) c.in_default.is
-    (c.if-not-asked.true) }
+    let pre = c.requires in let wanted = c.wanted_places-wanted.ensures in record {
+      premise = remembered-of (sym c.first_entries-premise.ensures.part) c.open_places-opened.ensures.memo;
+      conclusion = pre.4;
+      answer = found-unasked _ _ _ (secret-rule pre.0 (rule_of c.args.block.now) (premise-is pre.1 c.first_entries-premise.ensures.part c.first_entries-premise.ensures.size) c.open_places-opened.ensures.flags wanted c.first_secret.ensures) c.in_default.is
+          (c.if-not-asked.true);
+    }
 
 pub bare_places-bare-requires : goal.bare_places-bare-requires
 bare_places-bare-requires c =
     let pre = c.requires in (
-    opened-within (entries-flagged (premise-is pre.1 c.first_entries-premise.ensures.part c.first_entries-premise.ensures.size).entries c.wanted_places-wanted.ensures) c.open_places-opened.ensures.flags,
-    entries-flagged (concluded-entries (conclusion-concluded pre.0 pre.1 c.second_entries-conclusion.ensures.part c.second_entries-conclusion.ensures.size)) c.asked_places-risky.ensures,
+      opened-within (entries-flagged (premise-is pre.1 c.first_entries-premise.ensures.part c.first_entries-premise.ensures.size).entries c.wanted_places-wanted.ensures) c.open_places-opened.ensures.flags,
+      entries-flagged (concluded-entries (conclusion-concluded pre.0 pre.1 c.second_entries-conclusion.ensures.part c.second_entries-conclusion.ensures.size)) c.asked_places-risky.ensures,
     )
 
 pub take_hats-requires : goal.take_hats-requires
@@ -52,14 +55,22 @@ first_on-requires c =
 
 pub returns-in-At-first_on : goal.returns-in-At-first_on
 returns-in-At-first_on c =
-    let pre = c.requires in let rule = rule_of c.args.block.now in let premise = premise-is pre.1 c.first_entries-premise.ensures.part c.first_entries-premise.ensures.size in let wanted = c.wanted_places-wanted.ensures in let on = c.if-not-asked.false in let concluded = conclusion-concluded pre.0 pre.1 c.second_entries-conclusion.ensures.part c.second_entries-conclusion.ensures.size in let whole = concluded.whole in record { premise = remembered-of (sym c.first_entries-premise.ensures.part) c.open_places-opened.ensures.memo; conclusion = remembered-of (sym c.second_entries-conclusion.ensures.part) c.take_hats.ensures.memo; answer = found-conclusion _ _ _ (secret-rule pre.0 rule premise c.open_places-opened.ensures.flags wanted c.first_secret.ensures)
-    c.in_default.is on
-    (uncovered-rule pre.0 rule premise wanted c.open_places-opened.ensures.flags concluded (conclusion-is pre.1 c.second_entries-conclusion.ensures.part) (flags-asked on c.asked_places-risky.ensures)
-    c.bare_places-bare.ensures c.take_hats.ensures.flags (search rules) c.first_on.ensures) c.in-At-first_on.is }
+    let pre = c.requires in let rule = rule_of c.args.block.now in let premise = premise-is pre.1 c.first_entries-premise.ensures.part c.first_entries-premise.ensures.size in let wanted = c.wanted_places-wanted.ensures in let on = c.if-not-asked.false in let concluded = conclusion-concluded pre.0 pre.1 c.second_entries-conclusion.ensures.part c.second_entries-conclusion.ensures.size in let whole = concluded.whole in record {
+      premise = remembered-of (sym c.first_entries-premise.ensures.part) c.open_places-opened.ensures.memo;
+      conclusion = remembered-of (sym c.second_entries-conclusion.ensures.part) c.take_hats.ensures.memo;
+      answer = found-conclusion _ _ _ (secret-rule pre.0 rule premise c.open_places-opened.ensures.flags wanted c.first_secret.ensures)
+          c.in_default.is on
+          (uncovered-rule pre.0 rule premise wanted c.open_places-opened.ensures.flags concluded (conclusion-is pre.1 c.second_entries-conclusion.ensures.part) (flags-asked on c.asked_places-risky.ensures)
+          c.bare_places-bare.ensures c.take_hats.ensures.flags (search rules) c.first_on.ensures) c.in-At-first_on.is;
+    }
 
 pub returns-in-Nothing : goal.returns-in-Nothing
 returns-in-Nothing c =
-    let pre = c.requires in let rule = rule_of c.args.block.now in let premise = premise-is pre.1 c.first_entries-premise.ensures.part c.first_entries-premise.ensures.size in let wanted = c.wanted_places-wanted.ensures in let on = c.if-not-asked.false in let concluded = conclusion-concluded pre.0 pre.1 c.second_entries-conclusion.ensures.part c.second_entries-conclusion.ensures.size in let whole = concluded.whole in record { premise = remembered-of (sym c.first_entries-premise.ensures.part) c.open_places-opened.ensures.memo; conclusion = remembered-of (sym c.second_entries-conclusion.ensures.part) c.take_hats.ensures.memo; answer = found_nowhere _ _ _ (secret-rule pre.0 rule premise c.open_places-opened.ensures.flags wanted c.first_secret.ensures)
-    c.in_default.is on
-    (uncovered-rule pre.0 rule premise wanted c.open_places-opened.ensures.flags concluded (conclusion-is pre.1 c.second_entries-conclusion.ensures.part) (flags-asked on c.asked_places-risky.ensures)
-    c.bare_places-bare.ensures c.take_hats.ensures.flags (search rules) c.first_on.ensures) c.in-Nothing.is }
+    let pre = c.requires in let rule = rule_of c.args.block.now in let premise = premise-is pre.1 c.first_entries-premise.ensures.part c.first_entries-premise.ensures.size in let wanted = c.wanted_places-wanted.ensures in let on = c.if-not-asked.false in let concluded = conclusion-concluded pre.0 pre.1 c.second_entries-conclusion.ensures.part c.second_entries-conclusion.ensures.size in let whole = concluded.whole in record {
+      premise = remembered-of (sym c.first_entries-premise.ensures.part) c.open_places-opened.ensures.memo;
+      conclusion = remembered-of (sym c.second_entries-conclusion.ensures.part) c.take_hats.ensures.memo;
+      answer = found_nowhere _ _ _ (secret-rule pre.0 rule premise c.open_places-opened.ensures.flags wanted c.first_secret.ensures)
+          c.in_default.is on
+          (uncovered-rule pre.0 rule premise wanted c.open_places-opened.ensures.flags concluded (conclusion-is pre.1 c.second_entries-conclusion.ensures.part) (flags-asked on c.asked_places-risky.ensures)
+          c.bare_places-bare.ensures c.take_hats.ensures.flags (search rules) c.first_on.ensures) c.in-Nothing.is;
+    }

@@ -3,7 +3,6 @@ use native.Mathlib.Omega.{arith}
 use Rattle.terms.specs.Decide.{variable?, term?}
 use Rattle.terms.proofs.AnswerLaws.{answer-says}
 use Rattle.judge.proofs.Covering.Covers.{begins-at, flagged-holds}
-use borrow.Author.Rules.{rules}
 use Rattle.judge.proofs.cover.same_at.Goals as goal
 
 pub same-requires : goal.same-requires

@@ -3,7 +3,6 @@ use mathlib.Core.Path.{refl}
 use Rattle.blocks.proofs.KindLaws.{secret-lists}
 use Rattle.judge.proofs.Covering.Hats.{searching-at}
 use Rattle.judge.proofs.Covering.Covers.{standing-flagged, flagged-holds}
-use borrow.Author.Rules.{rules}
 use Rattle.judge.proofs.cover.secret_at.Goals as goal
 
 pub is_secret-requires : goal.is_secret-requires

@@ -1,12 +1,6 @@
 -- `judge::cover::stands_among` meets its contract: no flagged entry before entry k is the term. Assumes nothing.
-use Prim.Native.Nat.{ℕ, ◌≤◌, ◌<◌, ◌-◌}
 use borrow.Author.Count.{below_none, below_more}
-use lib.ListN.{length}
-use Rattle.blocks.specs.Limits.{most_term_entries}
 use Rattle.terms.proofs.AnswerLaws.{says-yes, says-no}
-use mathlib.Core.Path.{◌≡◌}
-use Rattle.terms.specs.Entry.{term_of}
-use Rattle.judge.specs.CoverEntries.{FlaggedWith}
 use Rattle.judge.proofs.Covering.Covers.{flagged-found, none-flagged}
 use borrow.Author.Rules.{rules}
 use Rattle.judge.proofs.cover.stands_among.Goals as goal

@@ -1,12 +1,9 @@
 use Prim.Native.Nat.{ℕ, ◌≤◌, ◌<◌, ◌-◌}
-use borrow.Author.Count.{below_none, below_more}
 use lib.ListN.{length}
 use Rattle.blocks.specs.Limits.{most_term_entries}
-use Rattle.terms.proofs.AnswerLaws.{says-yes, says-no}
 use mathlib.Core.Path.{◌≡◌}
 use Rattle.terms.specs.Entry.{term_of}
 use Rattle.judge.specs.CoverEntries.{FlaggedWith}
-use Rattle.judge.proofs.Covering.Covers.{flagged-found, none-flagged}
 use Rattle.judge.proofs.cover.stands_among.Given as goal
 
 abbrev pub invariant-loop-k : goal.invariant-loop-k

@@ -1,7 +1,6 @@
 -- `judge::cover::take_below` meets its contract. Assumes nothing.
 use Rattle.terms.proofs.AnswerLaws.{says-no}
 use Rattle.judge.proofs.Covering.Hats.{standing-end, no-encryption, none_below}
-use borrow.Author.Rules.{rules}
 use Rattle.judge.proofs.cover.take_below.Goals as goal
 
 pub end_of-requires : goal.end_of-requires

@@ -1,10 +1,8 @@
 -- `judge::cover::take_hat` meets its contract. Assumes nothing.
 use mathlib.Core.Path.{refl}
-use borrow.Author.Tests.{not-true, not-false}
 use Rattle.blocks.proofs.KindLaws.{good-lists}
 use Rattle.terms.proofs.AnswerLaws.{says-yes, says-no}
 use Rattle.judge.proofs.Covering.Hats.{hat-taken, hat-shares}
-use borrow.Author.Rules.{rules}
 use Rattle.judge.proofs.cover.take_hat.Goals as goal
 
 pub shares_bad-requires : goal.shares_bad-requires
@@ -21,8 +19,11 @@ clear-requires c = (c.requires.2, c.drop_exceptions.ensures.long)
 
 pub returns-then-not-shares_bad : goal.returns-then-not-shares_bad
 returns-then-not-shares_bad c =
-    record { memo = c.shares_bad.ensures.memo; flags = hat-taken c.marked_places-hats.ensures c.drop_exceptions.ensures
-    (says-no c.shares_bad.result c.shares_bad.ensures.answer (c.if-not-shares_bad.true)) c.clear.ensures }
+    record {
+      memo = c.shares_bad.ensures.memo;
+      flags = hat-taken c.marked_places-hats.ensures c.drop_exceptions.ensures
+          (says-no c.shares_bad.result c.shares_bad.ensures.answer (c.if-not-shares_bad.true)) c.clear.ensures;
+    }
 
 pub returns-else-not-shares_bad : goal.returns-else-not-shares_bad
 returns-else-not-shares_bad c =

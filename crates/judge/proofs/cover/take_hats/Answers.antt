@@ -1,9 +1,4 @@
 -- `judge::cover::take_hats` meets its contract: before entry h the flags are off for which a hat stands among the first h entries. Assumes nothing.
-use Prim.Native.Nat.{◌≤◌, ◌-◌}
-use Rattle.terms.specs.Entry.{term_of, size}
-use Rattle.judge.specs.File.{certificate_of}
-use Rattle.judge.specs.Listed.{SharesUnmarked}
-use Rattle.judge.specs.CoverEntries.{Cleared, HatBelow, Remembered}
 use Rattle.judge.proofs.Covering.Hats.{hats-none, hats-more, hats-all}
 use Rattle.judge.proofs.Covering.Covers.{standing-concluded}
 use borrow.Author.Rules.{rules}

@@ -3,8 +3,6 @@ use Rattle.terms.specs.Entry.{term_of, size}
 use Rattle.judge.specs.File.{certificate_of}
 use Rattle.judge.specs.Listed.{SharesUnmarked}
 use Rattle.judge.specs.CoverEntries.{Cleared, HatBelow, Remembered}
-use Rattle.judge.proofs.Covering.Hats.{hats-none, hats-more, hats-all}
-use Rattle.judge.proofs.Covering.Covers.{standing-concluded}
 use Rattle.judge.proofs.cover.take_hats.Given as goal
 
 abbrev pub invariant-loop-h : goal.invariant-loop-h

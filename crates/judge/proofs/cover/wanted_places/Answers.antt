@@ -2,13 +2,9 @@
 -- there is a place and it is wanted. Assumes nothing.
 use native.Mathlib.Omega.{arith}
 use mathlib.Core.Path.{◌≡◌}
-use Prim.Native.Nat.{◌≤◌, ◌-◌, ◌/◌}
 use lib.ListN.{length}
-use Rattle.terms.specs.PlaceEntries.{PlaceEntry}
 use Rattle.terms.proofs.PlaceEntryLaws.{first-place, next_place_lem}
-use Rattle.judge.specs.File.{certificate_of}
-use Rattle.judge.specs.CoverEntries.{Wanted}
-use Rattle.judge.proofs.Covering.Flags.{RaisedBelow, raised-start}
+use Rattle.judge.proofs.Covering.Flags.{raised-start}
 use Rattle.judge.proofs.Covering.Covers.{standing-entries, entries-flags, places-more}
 use borrow.Author.Rules.{rules}
 use Rattle.judge.proofs.cover.wanted_places.Goals as goal

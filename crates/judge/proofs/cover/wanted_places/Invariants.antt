@@ -1,13 +1,9 @@
-use native.Mathlib.Omega.{arith}
-use mathlib.Core.Path.{◌≡◌}
 use Prim.Native.Nat.{◌≤◌, ◌-◌, ◌/◌}
 use lib.ListN.{length}
 use Rattle.terms.specs.PlaceEntries.{PlaceEntry}
-use Rattle.terms.proofs.PlaceEntryLaws.{first-place, next_place_lem}
 use Rattle.judge.specs.File.{certificate_of}
 use Rattle.judge.specs.CoverEntries.{Wanted}
-use Rattle.judge.proofs.Covering.Flags.{RaisedBelow, raised-start}
-use Rattle.judge.proofs.Covering.Covers.{standing-entries, entries-flags, places-more}
+use Rattle.judge.proofs.Covering.Flags.{RaisedBelow}
 use Rattle.judge.proofs.cover.wanted_places.Given as goal
 
 abbrev pub invariant-loop-k : goal.invariant-loop-k

@@ -1,6 +1,5 @@
 -- `judge::flag::both_on` meets its contract. Assumes nothing.
 use Rattle.judge.proofs.Covering.Flags.{both_told}
-use borrow.Author.Rules.{rules}
 use Rattle.judge.proofs.flag.both_on.Goals as goal
 
 pub returns-then-flag-eq1 : goal.returns-then-flag-eq1

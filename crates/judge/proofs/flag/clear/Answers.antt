@@ -1,8 +1,6 @@
 -- `judge::flag::clear` meets its contract: the flags before flag k are put off where they are on in the other ones. Assumes nothing.
 use native.Mathlib.Omega.{arith}
-use Prim.Native.Nat.{◌≤◌, ◌-◌}
-use Rattle.judge.specs.CoverEntries.{On}
-use Rattle.judge.proofs.Covering.Flags.{ClearedBelow, below-start, below-clear, below_all, on-small}
+use Rattle.judge.proofs.Covering.Flags.{below-start, below-clear, below_all, on-small}
 use borrow.Author.Rules.{rules}
 use Rattle.judge.proofs.flag.clear.Goals as goal
 

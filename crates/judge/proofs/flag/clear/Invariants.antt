@@ -1,7 +1,6 @@
-use native.Mathlib.Omega.{arith}
 use Prim.Native.Nat.{◌≤◌, ◌-◌}
 use Rattle.judge.specs.CoverEntries.{On}
-use Rattle.judge.proofs.Covering.Flags.{ClearedBelow, below-start, below-clear, below_all, on-small}
+use Rattle.judge.proofs.Covering.Flags.{ClearedBelow}
 use Rattle.judge.proofs.flag.clear.Given as goal
 
 abbrev pub invariant-loop-k : goal.invariant-loop-k

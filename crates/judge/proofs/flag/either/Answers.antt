@@ -1,7 +1,6 @@
 -- `judge::flag::either` meets its contract. Assumes nothing.
 use mathlib.Core.Path.{refl}
 use Rattle.judge.specs.CoverEntries.{either}
-use borrow.Author.Rules.{rules}
 use Rattle.judge.proofs.flag.either.Goals as goal
 
 pub returns-then-a : goal.returns-then-a

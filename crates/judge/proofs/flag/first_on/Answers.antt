@@ -1,10 +1,8 @@
 -- `judge::flag::first_on` meets its contract: no flag before flag k is on. Assumes nothing.
 use mathlib.Core.Path.{refl}
 use native.Mathlib.Omega.{arith}
-use Prim.Native.Nat.{ℕ, ◌≤◌, ◌<◌, ◌-◌}
 use borrow.Author.Count.{below_none, below_more}
 use Rattle.terms.specs.First.{fails, holds}
-use Rattle.judge.specs.CoverEntries.{On}
 use borrow.Author.Rules.{rules}
 use Rattle.judge.proofs.flag.first_on.Goals as goal
 

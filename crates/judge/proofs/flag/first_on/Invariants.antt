@@ -1,8 +1,4 @@
-use mathlib.Core.Path.{refl}
-use native.Mathlib.Omega.{arith}
 use Prim.Native.Nat.{ℕ, ◌≤◌, ◌<◌, ◌-◌}
-use borrow.Author.Count.{below_none, below_more}
-use Rattle.terms.specs.First.{fails, holds}
 use Rattle.judge.specs.CoverEntries.{On}
 use Rattle.judge.proofs.flag.first_on.Given as goal
 

@@ -1,7 +1,6 @@
 -- `judge::flag::flag_of` meets its contract. Assumes nothing.
 use mathlib.Core.Path.{refl}
 use Rattle.judge.specs.CoverEntries.{flag_of}
-use borrow.Author.Rules.{rules}
 use Rattle.judge.proofs.flag.flag_of.Goals as goal
 
 pub returns-then-yes : goal.returns-then-yes

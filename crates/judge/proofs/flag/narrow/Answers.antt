@@ -1,6 +1,4 @@
 -- `judge::flag::narrow` meets its contract: the flags before flag k are narrowed. Assumes nothing.
-use Prim.Native.Nat.{◌≤◌, ◌-◌}
-use Rattle.judge.specs.CoverEntries.{Narrowed}
 use Rattle.judge.proofs.Covering.Flags.{narrowed_none, narrowed-more, narrowed-all}
 use borrow.Author.Rules.{rules}
 use Rattle.judge.proofs.flag.narrow.Goals as goal

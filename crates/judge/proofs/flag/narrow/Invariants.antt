@@ -1,6 +1,5 @@
 use Prim.Native.Nat.{◌≤◌, ◌-◌}
 use Rattle.judge.specs.CoverEntries.{Narrowed}
-use Rattle.judge.proofs.Covering.Flags.{narrowed_none, narrowed-more, narrowed-all}
 use Rattle.judge.proofs.flag.narrow.Given as goal
 
 abbrev pub invariant-loop-k : goal.invariant-loop-k

@@ -1,6 +1,4 @@
 -- `judge::flag::paint` meets its contract: the flags before flag k are painted. Assumes nothing.
-use Prim.Native.Nat.{◌≤◌, ◌-◌}
-use Rattle.judge.specs.CoverEntries.{Painted}
 use Rattle.judge.proofs.Covering.Flags.{painted-none, painted-more, painted-all}
 use borrow.Author.Rules.{rules}
 use Rattle.judge.proofs.flag.paint.Goals as goal

@@ -1,6 +1,5 @@
 use Prim.Native.Nat.{◌≤◌, ◌-◌}
 use Rattle.judge.specs.CoverEntries.{Painted}
-use Rattle.judge.proofs.Covering.Flags.{painted-none, painted-more, painted-all}
 use Rattle.judge.proofs.flag.paint.Given as goal
 
 abbrev pub invariant-loop-k : goal.invariant-loop-k

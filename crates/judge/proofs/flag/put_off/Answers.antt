@@ -1,7 +1,6 @@
 -- `judge::flag::put_off` meets its contract. Assumes nothing.
 use mathlib.Core.Path.{refl}
 use Rattle.judge.specs.CoverEntries.{put_off}
-use borrow.Author.Rules.{rules}
 use Rattle.judge.proofs.flag.put_off.Goals as goal
 
 pub returns-then-off : goal.returns-then-off

@@ -1,7 +1,6 @@
 -- `judge::flag::put_on` meets its contract. Assumes nothing.
 use mathlib.Core.Path.{refl}
 use Rattle.judge.specs.CoverEntries.{put_on}
-use borrow.Author.Rules.{rules}
 use Rattle.judge.proofs.flag.put_on.Goals as goal
 
 pub returns-then-on : goal.returns-then-on

@@ -1,6 +1,5 @@
 -- `judge::flag::raise` meets its contract. Assumes nothing.
 use mathlib.Core.Path.{refl}
-use borrow.Author.Rules.{rules}
 use Rattle.judge.proofs.flag.raise.Goals as goal
 
 pub returns : goal.returns

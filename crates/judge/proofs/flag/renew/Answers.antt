@@ -1,5 +1,4 @@
 -- `judge::flag::renew` meets its contract. Assumes nothing.
-use borrow.Author.Tests.{not-true, not-false}
 use Rattle.judge.proofs.Covering.Repeats.{forgotten, renewed-gone, renewed-kept}
 use borrow.Author.Rules.{rules}
 use Rattle.judge.proofs.flag.renew.Goals as goal

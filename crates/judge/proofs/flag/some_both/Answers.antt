@@ -1,7 +1,5 @@
 -- `judge::flag::some_both` meets its contract: what is found tells of the flags before flag k. Assumes nothing.
-use Prim.Native.Nat.{◌≤◌, ◌-◌}
-use Rattle.terms.specs.Decisions.{Says}
-use Rattle.judge.proofs.Covering.Flags.{BothBelow, both-none, both-more, both-all}
+use Rattle.judge.proofs.Covering.Flags.{both-none, both-more, both-all}
 use borrow.Author.Rules.{rules}
 use Rattle.judge.proofs.flag.some_both.Goals as goal
 

@@ -1,6 +1,6 @@
 use Prim.Native.Nat.{◌≤◌, ◌-◌}
 use Rattle.terms.specs.Decisions.{Says}
-use Rattle.judge.proofs.Covering.Flags.{BothBelow, both-none, both-more, both-all}
+use Rattle.judge.proofs.Covering.Flags.{BothBelow}
 use Rattle.judge.proofs.flag.some_both.Given as goal
 
 abbrev pub invariant-loop-k : goal.invariant-loop-k

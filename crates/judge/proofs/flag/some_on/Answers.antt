@@ -1,7 +1,5 @@
 -- `judge::flag::some_on` meets its contract: no flag before flag k is on. Assumes nothing.
-use Prim.Native.Nat.{ℕ, ◌≤◌, ◌<◌, ◌-◌}
 use borrow.Author.Count.{below_more}
-use Rattle.judge.specs.CoverEntries.{On}
 use Rattle.judge.proofs.Covering.Flags.{none-on}
 use borrow.Author.Rules.{rules}
 use Rattle.judge.proofs.flag.some_on.Goals as goal

@@ -1,7 +1,5 @@
 use Prim.Native.Nat.{ℕ, ◌≤◌, ◌<◌, ◌-◌}
-use borrow.Author.Count.{below_more}
 use Rattle.judge.specs.CoverEntries.{On}
-use Rattle.judge.proofs.Covering.Flags.{none-on}
 use Rattle.judge.proofs.flag.some_on.Given as goal
 
 abbrev pub invariant-loop-k : goal.invariant-loop-k

@@ -1,7 +1,6 @@
 -- `judge::flag::told` meets its contract. Assumes nothing.
 use mathlib.Core.Path.{refl}
 use Rattle.judge.specs.CoverEntries.{told_of}
-use borrow.Author.Rules.{rules}
 use Rattle.judge.proofs.flag.told.Goals as goal
 
 pub returns-then-yes : goal.returns-then-yes

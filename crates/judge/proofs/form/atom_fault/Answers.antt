@@ -1,7 +1,6 @@
 -- `judge::form::atom_fault` meets its contract. Assumes nothing.
 use native.Mathlib.Omega.{arith}
 use Rattle.judge.proofs.Stages.FormLaws.{atom-small, atom-found, atom-fine}
-use borrow.Author.Rules.{rules}
 use Rattle.judge.proofs.form.atom_fault.Goals as goal
 
 pub overflow_cast-result : goal.overflow_cast-result

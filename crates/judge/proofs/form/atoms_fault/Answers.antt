@@ -1,7 +1,6 @@
 -- `judge::form::atoms_fault` meets its contract. Assumes nothing.
 use Rattle.terms.proofs.AnswerLaws.{says-yes, says-no}
 use Rattle.judge.proofs.Stages.FormLaws.{atoms-last, atoms-first}
-use borrow.Author.Rules.{rules}
 use Rattle.judge.proofs.form.atoms_fault.Goals as goal
 
 pub atom_fault-requires : goal.atom_fault-requires

@@ -1,7 +1,5 @@
 -- `judge::form::block_fault` meets its contract. Assumes nothing.
-use borrow.Author.Tests.{not-true, not-false}
 use Rattle.judge.proofs.Stages.FormLaws.{reach, block-check, block-kind, block-layout, block-entries}
-use borrow.Author.Rules.{rules}
 use Rattle.judge.proofs.form.block_fault.Goals as goal
 
 pub block-requires : goal.block-requires

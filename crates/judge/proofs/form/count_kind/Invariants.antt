@@ -1,10 +1,7 @@
-use mathlib.Core.Path.{◌≡◌, sym, ap, ◌∙◌}
-use mathlib.Core.Logic.{⊎_elim}
+use mathlib.Core.Path.{◌≡◌}
 use Prim.Native.Nat.{◌+◌, ◌-◌, ◌≤◌}
-use native.Mathlib.Omega.{arith}
-use Rattle.blocks.specs.Block.{kind_of}
 use Rattle.judge.specs.File.{block_count, kind_count}
-use Rattle.judge.proofs.Stages.FormLaws.{kind_left, left-all, left-none, left_one, left_other}
+use Rattle.judge.proofs.Stages.FormLaws.{kind_left}
 use Rattle.judge.proofs.form.count_kind.Given as goal
 
 abbrev pub invariant-loop-i : goal.invariant-loop-i

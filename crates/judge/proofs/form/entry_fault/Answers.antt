@@ -4,7 +4,6 @@ use Prim.Native.Nat.{◌+◌, ◌*◌, ◌-◌}
 use lib.ListN.{take, drop}
 use Rattle.judge.specs.File.{used_entries}
 use Rattle.judge.proofs.Stages.FormLaws.{used-part, entry-small, entry_found, entry-fine}
-use borrow.Author.Rules.{rules}
 use Rattle.judge.proofs.form.entry_fault.Goals as goal
 use Rattle.judge.proofs.form.entry_fault.Goals.{After-wrong_entry}
 
@@ -19,8 +18,8 @@ part c =
 pub overflow_cast-result : goal.overflow_cast-result
 overflow_cast-result c =
     record {
-    fits = entry-small _ c.args.i _ c.kind.ensures (part (goal.at.overflow_cast-result c).After-wrong_entry) c.wrong_entry.ensures c.requires
-    c.in-At.is;
+      fits = entry-small _ c.args.i _ c.kind.ensures (part (goal.at.overflow_cast-result c).After-wrong_entry) c.wrong_entry.ensures c.requires
+          c.in-At.is;
     }
 
 pub returns-in-At : goal.returns-in-At

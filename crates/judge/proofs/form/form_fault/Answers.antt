@@ -1,11 +1,7 @@
 -- `judge::form::form_fault` meets its contract: what is left answers as the whole does. Assumes nothing.
-use mathlib.Core.Path.{◌≡◌, sym, ◌∙◌}
-use Prim.Native.Nat.{ℕ, ◌-◌, ◌<◌, ◌≤◌}
+use mathlib.Core.Path.{sym, ◌∙◌}
 use borrow.Author.Count.{below_none, below_more}
 use native.Mathlib.Omega.{arith}
-use Rattle.blocks.specs.Block.{block_at, Fitting}
-use Rattle.judge.specs.File.{block_count}
-use Rattle.judge.specs.Verdict.{block_fault, first_fault, form_fault}
 use Rattle.judge.proofs.Files.LaidLaws.{long, block-fits}
 use Rattle.judge.proofs.Stages.FormLaws.{fine-none, faulty-some, judged-none, judged-some, layout-start, first-stop, first_more, first-end}
 use borrow.Author.Rules.{rules}

@@ -1,12 +1,8 @@
-use mathlib.Core.Path.{◌≡◌, sym, ◌∙◌}
+use mathlib.Core.Path.{◌≡◌}
 use Prim.Native.Nat.{ℕ, ◌-◌, ◌<◌, ◌≤◌}
-use borrow.Author.Count.{below_none, below_more}
-use native.Mathlib.Omega.{arith}
 use Rattle.blocks.specs.Block.{block_at, Fitting}
 use Rattle.judge.specs.File.{block_count}
 use Rattle.judge.specs.Verdict.{block_fault, first_fault, form_fault}
-use Rattle.judge.proofs.Files.LaidLaws.{long, block-fits}
-use Rattle.judge.proofs.Stages.FormLaws.{fine-none, faulty-some, judged-none, judged-some, layout-start, first-stop, first_more, first-end}
 use Rattle.judge.proofs.form.form_fault.Given as goal
 
 abbrev pub invariant-loop-i : goal.invariant-loop-i

@@ -1,6 +1,5 @@
 -- `judge::form::is_last` meets its contract. Assumes nothing.
 use Rattle.judge.proofs.Stages.FormLaws.{last_says}
-use borrow.Author.Rules.{rules}
 use Rattle.judge.proofs.form.is_last.Goals as goal
 
 pub returns-then-i-ne0 : goal.returns-then-i-ne0

@@ -3,7 +3,6 @@ use mathlib.Core.Path.{ap, ◌∙◌}
 use native.Mathlib.Omega.{arith}
 use Rattle.blocks.specs.Block.{kind_of}
 use Rattle.judge.proofs.Stages.FormLaws.{kind-atoms, kind-first, kind-low, kind-high, kind-after}
-use borrow.Author.Rules.{rules}
 use Rattle.judge.proofs.form.kind_right.Goals as goal
 
 pub returns-then-kind-eq-ATOMS : goal.returns-then-kind-eq-ATOMS

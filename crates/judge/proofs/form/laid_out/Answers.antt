@@ -1,9 +1,7 @@
 -- `judge::form::laid_out` meets its contract. Assumes nothing.
 use mathlib.Core.Path.{ap, ◌∙◌}
-use borrow.Author.Tests.{not-true, not-false}
 use Rattle.blocks.specs.Block.{first_count}
 use Rattle.judge.proofs.Stages.FormLaws.{laid-not, laid-other, laid-no-atoms, laid-full}
-use borrow.Author.Rules.{rules}
 use Rattle.judge.proofs.form.laid_out.Goals as goal
 
 pub returns-then-not-layout_right : goal.returns-then-not-layout_right

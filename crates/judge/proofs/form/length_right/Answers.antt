@@ -1,6 +1,5 @@
 -- `judge::form::length_right` meets its contract. Assumes nothing.
 use Rattle.judge.proofs.Stages.FormLaws.{length_none, length-broken, length_whole}
-use borrow.Author.Rules.{rules}
 use Rattle.judge.proofs.form.length_right.Goals as goal
 
 pub returns-then-n-lt1 : goal.returns-then-n-lt1

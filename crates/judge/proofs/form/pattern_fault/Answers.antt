@@ -1,5 +1,4 @@
 -- `judge::form::pattern_fault` meets its contract. Assumes nothing.
-use borrow.Author.Tests.{not-true, not-false}
 use Rattle.judge.proofs.Stages.FormLaws.{begins-one, pattern-broken, pattern-fine, pattern-root}
 use borrow.Author.Rules.{rules}
 use Rattle.judge.proofs.form.pattern_fault.Goals as goal

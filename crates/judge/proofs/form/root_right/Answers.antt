@@ -1,6 +1,5 @@
 -- `judge::form::root_right` meets its contract. Assumes nothing.
 use Rattle.judge.proofs.Stages.FormLaws.{root-low, root-high, root-pattern}
-use borrow.Author.Rules.{rules}
 use Rattle.judge.proofs.form.root_right.Goals as goal
 
 pub returns-then-kind-lt-GOOD : goal.returns-then-kind-lt-GOOD

@@ -1,6 +1,5 @@
 -- `judge::form::term_fault` meets its contract. Assumes nothing.
 use Rattle.judge.proofs.Stages.FormLaws.{term-rule, term-pattern}
-use borrow.Author.Rules.{rules}
 use Rattle.judge.proofs.form.term_fault.Goals as goal
 
 pub returns-then-kind-eq-RULE : goal.returns-then-kind-eq-RULE

@@ -3,7 +3,6 @@ use mathlib.Core.Path.{ap, ◌∙◌}
 use Rattle.judge.specs.Judgement.{judged_of}
 use Rattle.judge.proofs.Stages.FormLaws.{fine-none, faulty-some, judged-some}
 use Rattle.judge.proofs.Stages.JudgingLaws.{certificate-known, certificate-closed, certificate-key, certificate-rule}
-use borrow.Author.Rules.{rules}
 use Rattle.judge.proofs.judging.certificate_fault.Goals as goal
 
 pub returns-in-Faulty : goal.returns-in-Faulty

@@ -1,11 +1,9 @@
 -- `judge::judging::first_fault` meets its contract. Assumes nothing.
 use mathlib.Core.Path.{sym, ap, ◌∙◌}
-use borrow.Author.Tests.{not-true, not-false}
 use Rattle.judge.specs.Judgement.{judged_of}
 use Rattle.judge.proofs.Files.LaidLaws.{layout-laid}
 use Rattle.judge.proofs.Stages.FormLaws.{fine-none, faulty-some, judged-some}
 use Rattle.judge.proofs.Stages.JudgingLaws.{fault-length, fault-layout, fault-missing, fault-certificate}
-use borrow.Author.Rules.{rules}
 use Rattle.judge.proofs.judging.first_fault.Goals as goal
 
 pub returns-then-not-length_right : goal.returns-then-not-length_right

@@ -24,12 +24,12 @@ block-requires c = let exact = c.requires.0.laid.exact in search rules
 pub rule_found-requires : goal.rule_found-requires
 rule_found-requires c =
     let pre = c.requires in let same = c.block.ensures.part in (
-    pre.0.heads.laid,
-    rule-here pre.0.laid pre.1 pre.2 same,
-    pre.0.rooted,
-    remembered-of (ap first_entries same) (known-here _ _ c.repeats_premise.result c.repeats_premise.ensures pre.3 c.renew.ensures),
-    remembered-of (ap second_entries same) (known-here _ _ c.repeats_conclusion.result c.repeats_conclusion.ensures pre.4 c.renew-2.ensures),
-    pre.0.sized,
+      pre.0.heads.laid,
+      rule-here pre.0.laid pre.1 pre.2 same,
+      pre.0.rooted,
+      remembered-of (ap first_entries same) (known-here _ _ c.repeats_premise.result c.repeats_premise.ensures pre.3 c.renew.ensures),
+      remembered-of (ap second_entries same) (known-here _ _ c.repeats_conclusion.result c.repeats_conclusion.ensures pre.4 c.renew-2.ensures),
+      pre.0.sized,
     )
 
 pub returns : goal.returns

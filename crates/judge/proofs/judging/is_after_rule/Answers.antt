@@ -1,7 +1,6 @@
 -- `judge::judging::is_after_rule` meets its contract. Assumes nothing.
 use native.Mathlib.Omega.{arith}
 use Rattle.judge.proofs.Covering.Repeats.{rule-before}
-use borrow.Author.Rules.{rules}
 use Rattle.judge.proofs.judging.is_after_rule.Goals as goal
 
 pub returns-then-i-eq0 : goal.returns-then-i-eq0

@@ -1,6 +1,5 @@
 -- `judge::judging::is_fine` meets its contract. Assumes nothing.
 use Rattle.judge.proofs.Stages.JudgingLaws.{fine-is, faulty-is}
-use borrow.Author.Rules.{rules}
 use Rattle.judge.proofs.judging.is_fine.Goals as goal
 
 pub returns-in-Fine : goal.returns-in-Fine

@@ -1,7 +1,6 @@
 -- `judge::judging::judge` meets its contract. Assumes nothing.
 use Rattle.judge.proofs.Stages.FormLaws.{fine-none, faulty-some}
 use Rattle.judge.proofs.Stages.JudgingLaws.{fault-none, verdict-refused, verdict-accepted}
-use borrow.Author.Rules.{rules}
 use Rattle.judge.proofs.judging.judge.Goals as goal
 
 pub counts-requires : goal.counts-requires

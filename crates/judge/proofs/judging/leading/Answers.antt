@@ -1,10 +1,6 @@
 -- `judge::judging::leading` meets its contract: from n on there are only rules. Assumes nothing.
-use mathlib.Core.Path.{◌≡◌, sym, ap, ◌∙◌}
-use Prim.Native.Nat.{◌≤◌}
-use Rattle.blocks.specs.Kinds.{rule_kind}
-use Rattle.blocks.specs.Block.{block_at, kind_of}
-use Rattle.judge.specs.File.{block_count}
-use Rattle.terms.specs.Ending.{EachFrom}
+use mathlib.Core.Path.{sym, ap, ◌∙◌}
+use Rattle.blocks.specs.Block.{kind_of}
 use Rattle.terms.proofs.EndingLaws.{each_none, each-down}
 use borrow.Author.Rules.{rules}
 use Rattle.judge.proofs.judging.leading.Goals as goal

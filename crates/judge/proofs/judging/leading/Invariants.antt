@@ -1,10 +1,9 @@
-use mathlib.Core.Path.{◌≡◌, sym, ap, ◌∙◌}
+use mathlib.Core.Path.{◌≡◌}
 use Prim.Native.Nat.{◌≤◌}
 use Rattle.blocks.specs.Kinds.{rule_kind}
 use Rattle.blocks.specs.Block.{block_at, kind_of}
 use Rattle.judge.specs.File.{block_count}
 use Rattle.terms.specs.Ending.{EachFrom}
-use Rattle.terms.proofs.EndingLaws.{each_none, each-down}
 use Rattle.judge.proofs.judging.leading.Given as goal
 
 abbrev pub invariant-loop-n : goal.invariant-loop-n

@@ -19,11 +19,11 @@ returns-then-kind-ne-RULE c =
 pub found_in-requires : goal.found_in-requires
 found_in-requires c =
     let pre = c.requires in (
-    pre.0,
-    pre.1,
-    ap kind_of (sym c.block-block.ensures.part) ∙ sym c.kind.ensures ∙ c.if-kind-ne-RULE.false,
-    pre.2,
-    pre.3,
+      pre.0,
+      pre.1,
+      ap kind_of (sym c.block-block.ensures.part) ∙ sym c.kind.ensures ∙ c.if-kind-ne-RULE.false,
+      pre.2,
+      pre.3,
     )
 
 pub overflow_cast-result : goal.overflow_cast-result
@@ -42,15 +42,21 @@ pub overflow_add-result : goal.overflow_add-result
 overflow_add-result c =
     let same = c.block-block.ensures.part in let kind = c.kind.ensures in let is = c.if-kind-ne-RULE.false in
     let pre = c.requires in let found = told_of_lem (rule_found _ _) same c.found_in.ensures.answer in
-    omega (arith, place-small _ (rule-at pre.0.laid pre.1 same kind is) (at-conclusion pre.0.heads _ _ found c.in-ConclusionAt.is).1.1,
-        c.first_count.ensures.0)
+    omega (
+      arith,
+      place-small _ (rule-at pre.0.laid pre.1 same kind is) (at-conclusion pre.0.heads _ _ found c.in-ConclusionAt.is).1.1,
+      c.first_count.ensures.0,
+    )
 
 pub overflow_cast-result-in-ConclusionAt-2 : goal.overflow_cast-result-in-ConclusionAt-2
 overflow_cast-result-in-ConclusionAt-2 c =
     let same = c.block-block.ensures.part in let kind = c.kind.ensures in let is = c.if-kind-ne-RULE.false in
     let pre = c.requires in let found = told_of_lem (rule_found _ _) same c.found_in.ensures.answer in
-    omega (arith, place-small _ (rule-at pre.0.laid pre.1 same kind is) (at-conclusion pre.0.heads _ _ found c.in-ConclusionAt.is).1.1,
-        c.first_count.ensures.0)
+    omega (
+      arith,
+      place-small _ (rule-at pre.0.laid pre.1 same kind is) (at-conclusion pre.0.heads _ _ found c.in-ConclusionAt.is).1.1,
+      c.first_count.ensures.0,
+    )
 
 pub returns-in-PremiseAt : goal.returns-in-PremiseAt
 returns-in-PremiseAt c =

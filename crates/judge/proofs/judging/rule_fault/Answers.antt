@@ -1,14 +1,7 @@
 -- `judge::judging::rule_fault` meets its contract: what is left of 15 answers as the whole does, what is held and what is left
 -- of 12 too, and what is remembered is about the rule before. Assumes nothing.
-use mathlib.Core.Path.{◌≡◌, sym, ap, ◌∙◌}
-use Prim.Native.Nat.{◌-◌, ◌≤◌}
-use Rattle.blocks.specs.Kinds.{rule_kind}
-use Rattle.blocks.specs.Block.{first_entries, second_entries}
-use Rattle.judge.specs.Listed.{NeverHat, SharesUnmarked}
-use Rattle.judge.specs.CoverEntries.{Carried}
-use Rattle.judge.specs.File.{block_count, certificate_of}
-use Rattle.judge.specs.Judgement.{judged_of, held_or}
-use Rattle.judge.specs.Verdict.{first_fault, on_kind, open_secret_rule, open_secret_fault, uncovered_rule, uncovered_fault}
+use mathlib.Core.Path.{sym, ap, ◌∙◌}
+use Rattle.judge.specs.Judgement.{judged_of}
 use Rattle.judge.proofs.Stages.Heads.{heads}
 use Rattle.judge.proofs.Stages.FormLaws.{judged-some, first-stop, first_more, first-end}
 use Rattle.judge.proofs.Stages.JudgingLaws.{refuse-secret, hold-both, held_start, held_next, held-end, secret-start, uncovered-start, rule-secret, rule-uncovered}
@@ -35,10 +28,10 @@ loop-i-init c =
 pub rule_at-requires : goal.rule_at-requires
 rule_at-requires c =
     let laid = c.requires in (
-    record { laid = laid; heads = heads laid c.leading-n.ensures; rooted = c.secret_roots-roots.ensures; sized = c.listed_sizes-sizes.ensures },
-    c.loop-i-test.true,
-    c.loop-i.invariant.3,
-    c.loop-i.invariant.4,
+      record { laid = laid; heads = heads laid c.leading-n.ensures; rooted = c.secret_roots-roots.ensures; sized = c.listed_sizes-sizes.ensures },
+      c.loop-i-test.true,
+      c.loop-i.invariant.3,
+      c.loop-i.invariant.4,
     )
 
 pub returns-in-Refuse : goal.returns-in-Refuse
@@ -48,11 +41,11 @@ returns-in-Refuse c =
 pub loop-i-preserved : goal.loop-i-preserved
 loop-i-preserved c =
     let inv = c.loop-i.invariant in let told = hold-both _ _ _ c.rule_at.ensures.answer c.in-Hold.is in (
-    search rules,
-    first_more _ _ _ c.loop-i-test.true told.0 ∙ inv.1,
-    held_next _ _ _ c.loop-i-test.true _ told.1 inv.2,
-    c.rule_at.ensures.premise,
-    c.rule_at.ensures.conclusion,
+      search rules,
+      first_more _ _ _ c.loop-i-test.true told.0 ∙ inv.1,
+      held_next _ _ _ c.loop-i-test.true _ told.1 inv.2,
+      c.rule_at.ensures.premise,
+      c.rule_at.ensures.conclusion,
     )
 
 pub returns : goal.returns

@@ -1,4 +1,4 @@
-use mathlib.Core.Path.{◌≡◌, sym, ap, ◌∙◌}
+use mathlib.Core.Path.{◌≡◌}
 use Prim.Native.Nat.{◌-◌, ◌≤◌}
 use Rattle.blocks.specs.Kinds.{rule_kind}
 use Rattle.blocks.specs.Block.{first_entries, second_entries}
@@ -7,10 +7,6 @@ use Rattle.judge.specs.CoverEntries.{Carried}
 use Rattle.judge.specs.File.{block_count, certificate_of}
 use Rattle.judge.specs.Judgement.{judged_of, held_or}
 use Rattle.judge.specs.Verdict.{first_fault, on_kind, open_secret_rule, open_secret_fault, uncovered_rule, uncovered_fault}
-use Rattle.judge.proofs.Stages.Heads.{heads}
-use Rattle.judge.proofs.Stages.FormLaws.{judged-some, first-stop, first_more, first-end}
-use Rattle.judge.proofs.Stages.JudgingLaws.{refuse-secret, hold-both, held_start, held_next, held-end, secret-start, uncovered-start, rule-secret, rule-uncovered}
-use Rattle.judge.proofs.Covering.Repeats.{nothing-before}
 use Rattle.judge.proofs.judging.rule_fault.Given as goal
 
 abbrev pub invariant-loop-i : goal.invariant-loop-i

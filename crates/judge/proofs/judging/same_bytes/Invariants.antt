@@ -1,10 +1,6 @@
-use mathlib.Core.Path.{◌≡◌, ap}
-use mathlib.Core.List.{List}
+use mathlib.Core.Path.{◌≡◌}
 use Prim.Native.Nat.{ℕ, ◌≤◌, ◌<◌, ◌-◌}
-use native.Mathlib.Omega.{arith}
 use lib.ListN.{length, get_or}
-use borrow.Author.Count.{below_none, below_more}
-use lib.Seq.{ext_get_or}
 use Rattle.judge.proofs.judging.same_bytes.Given as goal
 
 abbrev pub invariant-loop-k : goal.invariant-loop-k

@@ -1,7 +1,6 @@
 -- `judge::line::decimal_length` meets its contract; the measure is the number. Assumes nothing.
 use Rattle.judge.proofs.Answering.Digits.{length-one, length_more, at-most-ten}
 use native.Mathlib.Omega.{arith}
-use Prim.Native.Nat.{ℕ, ◌<◌}
 use borrow.Author.Rules.{rules}
 use Rattle.judge.proofs.line.+decimal_length.Goals as goal
 

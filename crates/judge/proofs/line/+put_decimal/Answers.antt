@@ -1,7 +1,6 @@
 -- `judge::line::put_decimal` meets its contract; the measure is the number. Assumes nothing.
 use Rattle.judge.proofs.Answering.Printing.{room-digit, put-digit, room-tenth, room-last, put_last}
 use native.Mathlib.Omega.{arith}
-use Prim.Native.Nat.{ℕ, ◌<◌}
 use borrow.Author.Rules.{rules}
 use Rattle.judge.proofs.line.+put_decimal.Goals as goal
 

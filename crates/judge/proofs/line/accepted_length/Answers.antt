@@ -1,6 +1,5 @@
 -- `judge::line::accepted_length` meets its contract. Assumes nothing.
 use Rattle.judge.proofs.Answering.Printing.{length-accepted}
-use borrow.Author.Rules.{rules}
 use Rattle.judge.proofs.line.accepted_length.Goals as goal
 
 pub returns : goal.returns

@@ -2,7 +2,6 @@
 use mathlib.Core.Path.{sym, ap, ◌∙◌}
 use lib.ListN.{length}
 use Rattle.judge.proofs.Answering.Printing.{line-accepted, line_refused}
-use borrow.Author.Rules.{rules}
 use Rattle.judge.proofs.line.line_length.Goals as goal
 
 pub returns-in-Accepted : goal.returns-in-Accepted

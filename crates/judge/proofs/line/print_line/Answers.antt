@@ -1,6 +1,5 @@
 -- `judge::line::print_line` meets its contract. Assumes nothing.
 use Rattle.judge.proofs.Answering.Printing.{print-refused, print-room, print-done}
-use borrow.Author.Rules.{rules}
 use Rattle.judge.proofs.line.print_line.Goals as goal
 
 pub returns-then-buffer-line_length : goal.returns-then-buffer-line_length
@@ -12,7 +11,11 @@ put_line-requires c = print-room _ _ c.line_length.ensures c.if-buffer-line_leng
 
 pub returns : goal.returns
 returns c =
-    record { answer = (print-done _ _ c.line_length.ensures
-    c.if-buffer-line_length.false c.put_line.ensures).0; values = (print-done _ _ c.line_length.ensures
-    c.if-buffer-line_length.false c.put_line.ensures).1.0; bytes = (print-done _ _ c.line_length.ensures
-    c.if-buffer-line_length.false c.put_line.ensures).1.1 }
+    record {
+      answer = (print-done _ _ c.line_length.ensures
+          c.if-buffer-line_length.false c.put_line.ensures).0;
+      values = (print-done _ _ c.line_length.ensures
+          c.if-buffer-line_length.false c.put_line.ensures).1.0;
+      bytes = (print-done _ _ c.line_length.ensures
+          c.if-buffer-line_length.false c.put_line.ensures).1.1;
+    }

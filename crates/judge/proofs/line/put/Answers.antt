@@ -1,8 +1,6 @@
 -- `judge::line::put` meets its contract: the first i bytes of the text are written. Assumes nothing.
-use mathlib.Core.Path.{◌≡◌, refl}
-use Prim.Native.Nat.{◌-◌, ◌≤◌}
-use lib.ListN.{length, take, length-set}
-use Rattle.judge.specs.Line.{pasted}
+use mathlib.Core.Path.{refl}
+use lib.ListN.{length-set}
 use Rattle.judge.proofs.Answering.Printing.{pasted-none, pasted-more, put_all}
 use borrow.Author.Rules.{rules}
 use Rattle.judge.proofs.line.put.Goals as goal

@@ -1,8 +1,7 @@
-use mathlib.Core.Path.{◌≡◌, refl}
+use mathlib.Core.Path.{◌≡◌}
 use Prim.Native.Nat.{◌-◌, ◌≤◌}
-use lib.ListN.{length, take, length-set}
+use lib.ListN.{length, take}
 use Rattle.judge.specs.Line.{pasted}
-use Rattle.judge.proofs.Answering.Printing.{pasted-none, pasted-more, put_all}
 use Rattle.judge.proofs.line.put.Given as goal
 
 abbrev pub invariant-loop-i : goal.invariant-loop-i

@@ -1,7 +1,6 @@
 -- `judge::line::put_field` meets its contract. Assumes nothing.
 use Rattle.judge.specs.Line.{field_of}
 use Rattle.judge.proofs.Answering.Printing.{room-first, room-rest, put_then}
-use borrow.Author.Rules.{rules}
 use Rattle.judge.proofs.line.put_field.Goals as goal
 
 pub put-next-requires : goal.put-next-requires

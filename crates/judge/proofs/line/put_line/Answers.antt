@@ -1,6 +1,5 @@
 -- `judge::line::put_line` meets its contract. Assumes nothing.
 use Rattle.judge.proofs.Answering.Printing.{line-accepted, line_refused}
-use borrow.Author.Rules.{rules}
 use Rattle.judge.proofs.line.put_line.Goals as goal
 
 pub put_accepted-requires : goal.put_accepted-requires

@@ -1,6 +1,5 @@
 -- `judge::line::refused_length` meets its contract. Assumes nothing.
 use Rattle.judge.proofs.Answering.Printing.{length-refused}
-use borrow.Author.Rules.{rules}
 use Rattle.judge.proofs.line.refused_length.Goals as goal
 
 pub returns : goal.returns

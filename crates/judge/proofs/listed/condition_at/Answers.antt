@@ -1,6 +1,5 @@
 -- `judge::listed::condition_at` meets its contract. Assumes nothing.
 use mathlib.Core.Path.{sym, ap, ◌∙◌}
-use borrow.Author.Tests.{not-true, not-false}
 use Rattle.terms.proofs.AnswerLaws.{says-yes, says-no}
 use Rattle.judge.specs.declared.form.Judged.TheVariants.{Faulty}
 use Rattle.judge.specs.File.{certificate_of}

@@ -1,8 +1,5 @@
 -- `judge::listed::condition_fault` meets its contract. Assumes nothing.
-use mathlib.Core.Path.{◌≡◌, sym, ◌∙◌}
-use Prim.Native.Nat.{◌-◌, ◌≤◌}
-use Rattle.judge.specs.File.{block_count, certificate_of}
-use Rattle.judge.specs.Verdict.{first_fault, on_kind, kind_asked, condition_at, condition_fault}
+use mathlib.Core.Path.{sym, ◌∙◌}
 use Rattle.judge.proofs.Stages.FormLaws.{fine-none, faulty-some, judged-none, judged-some, first-stop, first_more, first-end}
 use Rattle.judge.proofs.Stages.JudgingLaws.{condition-start}
 use borrow.Author.Rules.{rules}

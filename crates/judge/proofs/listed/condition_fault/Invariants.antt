@@ -1,9 +1,7 @@
-use mathlib.Core.Path.{◌≡◌, sym, ◌∙◌}
+use mathlib.Core.Path.{◌≡◌}
 use Prim.Native.Nat.{◌-◌, ◌≤◌}
 use Rattle.judge.specs.File.{block_count, certificate_of}
 use Rattle.judge.specs.Verdict.{first_fault, on_kind, kind_asked, condition_at, condition_fault}
-use Rattle.judge.proofs.Stages.FormLaws.{fine-none, faulty-some, judged-none, judged-some, first-stop, first_more, first-end}
-use Rattle.judge.proofs.Stages.JudgingLaws.{condition-start}
 use Rattle.judge.proofs.listed.condition_fault.Given as goal
 
 abbrev pub invariant-loop-i : goal.invariant-loop-i

@@ -2,7 +2,6 @@
 use mathlib.Core.Path.{sym, ap}
 use Rattle.judge.specs.declared.listed.Condition.{Condition}
 use Rattle.judge.specs.Verdict.{fault_on}
-use borrow.Author.Rules.{rules}
 use Rattle.judge.proofs.listed.fault_on.Goals as goal
 
 pub returns-in-NotKnown : goal.returns-in-NotKnown

@@ -16,10 +16,10 @@ overflow_mul-i c = let few = c.requires.0.few in let inside = c.requires.1 in se
 pub fill_sizes-requires : goal.fill_sizes-requires
 fill_sizes-requires c =
     let pre = c.requires in let part = c.term_at.ensures in (
-    part.term,
-    part.short,
-    omega (arith, pre.0.few, pre.1),
-    omega (arith, pre.0.few, pre.1, pre.2.long, part.short),
+      part.term,
+      part.short,
+      omega (arith, pre.0.few, pre.1),
+      omega (arith, pre.0.few, pre.1, pre.2.long, part.short),
     )
 
 pub overflow_mul-sizes : goal.overflow_mul-sizes

@@ -26,19 +26,19 @@ returns-then-is_kind c =
     let inside : c.root_slot-n.result < length old = search rules in
     let kind = says-yes c.is_kind.result c.is_kind.ensures c.if-is_kind.true in
     record {
-    long = simp length-set pre.2;
-    kept = flag-kept old inside;
-    here = λ kind. flag-here old inside same;
-    bits = bits-set old _ 1 inside (omega arith);
-    only = λ k on. ⊎_elim inl (λ e. inr (kind, sym same ∙ e)) (flag-only old inside k on);
+      long = simp length-set pre.2;
+      kept = flag-kept old inside;
+      here = λ kind. flag-here old inside same;
+      bits = bits-set old _ 1 inside (omega arith);
+      only = λ k on. ⊎_elim inl (λ e. inr (kind, sym same ∙ e)) (flag-only old inside k on);
     }
 
 pub returns-else-is_kind : goal.returns-else-is_kind
 returns-else-is_kind c =
     let pre = c.requires in record {
-    long = pre.2;
-    kept = λ k on. on;
-    here = λ kind. absurd (says-no c.is_kind.result c.is_kind.ensures c.if-is_kind.false kind);
-    bits = λ b. b;
-    only = λ k on. inl on;
+      long = pre.2;
+      kept = λ k on. on;
+      here = λ kind. absurd (says-no c.is_kind.result c.is_kind.ensures c.if-is_kind.false kind);
+      bits = λ b. b;
+      only = λ k on. inl on;
     }

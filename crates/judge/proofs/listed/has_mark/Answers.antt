@@ -1,9 +1,6 @@
 -- `judge::listed::has_mark` meets its contract: no entry before entry k has the tag. Assumes nothing.
-use Prim.Native.Nat.{ℕ, ◌≤◌, ◌<◌, ◌*◌, ◌-◌}
-use lib.ListN.{get_or}
 use Rattle.terms.proofs.AnswerLaws.{says-yes, says-no}
 use borrow.Author.Count.{below_more}
-use Rattle.terms.specs.Tag.{MarkedTag}
 use Rattle.judge.proofs.Stages.Tables.{no-tag}
 use borrow.Author.Rules.{rules}
 use Rattle.judge.proofs.listed.has_mark.Goals as goal

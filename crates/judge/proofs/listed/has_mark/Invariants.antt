@@ -1,9 +1,6 @@
 use Prim.Native.Nat.{ℕ, ◌≤◌, ◌<◌, ◌*◌, ◌-◌}
 use lib.ListN.{get_or}
-use Rattle.terms.proofs.AnswerLaws.{says-yes, says-no}
-use borrow.Author.Count.{below_more}
 use Rattle.terms.specs.Tag.{MarkedTag}
-use Rattle.judge.proofs.Stages.Tables.{no-tag}
 use Rattle.judge.proofs.listed.has_mark.Given as goal
 
 abbrev pub invariant-loop-k : goal.invariant-loop-k

@@ -1,7 +1,6 @@
 -- `judge::listed::inverse_of` meets its contract. Assumes nothing.
 use Rattle.judge.specs.File.{certificate_of}
 use Rattle.judge.proofs.Stages.Numbers.{inverse-at}
-use borrow.Author.Rules.{rules}
 use Rattle.judge.proofs.listed.inverse_of.Goals as goal
 
 pub atom_at-requires : goal.atom_at-requires

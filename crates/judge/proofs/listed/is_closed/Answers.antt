@@ -5,7 +5,6 @@ use Rattle.terms.proofs.TagLaws.{one_tag, one-child}
 use Rattle.judge.specs.File.{certificate_of}
 use Rattle.judge.proofs.Stages.Listing.{search-part}
 use Rattle.judge.proofs.Stages.Numbers.{closed-left, closed-right, closed-content, closed-hash, closed-key, closed-atom}
-use borrow.Author.Rules.{rules}
 use Rattle.judge.proofs.listed.is_closed.Goals as goal
 
 pub is_listed_secret-requires : goal.is_listed_secret-requires

@@ -1,7 +1,6 @@
 -- `judge::listed::is_kept` meets its contract. Assumes nothing.
 use Rattle.judge.specs.File.{certificate_of}
 use Rattle.judge.proofs.Stages.Numbers.{kept-says}
-use borrow.Author.Rules.{rules}
 use Rattle.judge.proofs.listed.is_kept.Goals as goal
 
 pub returns : goal.returns

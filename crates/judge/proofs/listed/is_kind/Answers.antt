@@ -3,7 +3,6 @@ use mathlib.Core.Path.{sym, ◌∙◌}
 use lib.Dec.{eqb}
 use Rattle.terms.specs.Decisions.{says_same}
 use Rattle.terms.proofs.AnswerLaws.{says_eq}
-use borrow.Author.Rules.{rules}
 use Rattle.judge.proofs.listed.is_kind.Goals as goal
 
 pub returns : goal.returns

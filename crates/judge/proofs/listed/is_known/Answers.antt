@@ -1,7 +1,6 @@
 -- `judge::listed::is_known` meets its contract. Assumes nothing.
 use Rattle.judge.specs.File.{certificate_of}
 use Rattle.judge.proofs.Stages.Numbers.{known-other, known-says}
-use borrow.Author.Rules.{rules}
 use Rattle.judge.proofs.listed.is_known.Goals as goal
 
 pub returns-then-tag-ne1 : goal.returns-then-tag-ne1

@@ -10,10 +10,10 @@ use Rattle.judge.proofs.listed.is_listed_atom.Goals as goal
 pub is_listed_secret-requires : goal.is_listed_secret-requires
 is_listed_secret-requires c =
     record {
-    laid = c.requires.0;
-    lists = secret-lists refl;
-    term = begins (one-atom c.args.a);
-    short = search rules;
+      laid = c.requires.0;
+      lists = secret-lists refl;
+      term = begins (one-atom c.args.a);
+      short = search rules;
     }
 
 pub returns : goal.returns

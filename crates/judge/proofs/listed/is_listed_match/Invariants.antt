@@ -1,13 +1,9 @@
 use Prim.Native.Nat.{◌≤◌}
-use native.Mathlib.Omega.{arith}
 use Rattle.terms.specs.Instance.{Matches}
 use Rattle.terms.specs.Entry.{term_of}
-use Rattle.terms.proofs.AnswerLaws.{says-no}
 use Rattle.terms.specs.Ending.{EachFrom}
-use Rattle.terms.proofs.EndingLaws.{each_none, each-down}
 use Rattle.judge.specs.File.{block_count}
-use Rattle.judge.specs.Listed.{atoms_in, Everywhere, HoldsAt, matches_everywhere?}
-use Rattle.judge.proofs.Stages.Listing.{found-answer, none-answer, lower-answer}
+use Rattle.judge.specs.Listed.{atoms_in, Everywhere, HoldsAt}
 use Rattle.judge.proofs.listed.is_listed_match.Given as goal
 
 abbrev pub invariant-loop-left : goal.invariant-loop-left

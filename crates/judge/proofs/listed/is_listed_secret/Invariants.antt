@@ -1,13 +1,9 @@
 use Prim.Native.Nat.{ℕ, ◌≤◌, ◌<◌, ◌-◌}
-use native.Mathlib.Omega.{arith}
-use borrow.Author.Count.{below_none, below_more}
 use mathlib.Core.Path.{◌≡◌}
 use Rattle.blocks.specs.Kinds.{secret_kind}
 use Rattle.terms.specs.Entry.{term_of}
-use Rattle.terms.proofs.AnswerLaws.{says-no}
 use Rattle.judge.specs.File.{block_count}
-use Rattle.judge.specs.Listed.{HoldsAt, is_secret?}
-use Rattle.judge.proofs.Stages.Listing.{found-answer, none-answer, higher-answer}
+use Rattle.judge.specs.Listed.{HoldsAt}
 use Rattle.judge.proofs.listed.is_listed_secret.Given as goal
 
 abbrev pub invariant-loop-i : goal.invariant-loop-i

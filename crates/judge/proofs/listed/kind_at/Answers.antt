@@ -1,7 +1,6 @@
 -- `judge::listed::kind_at` meets its contract. Assumes nothing.
 use mathlib.Core.Path.{ap, ◌∙◌}
 use Rattle.blocks.specs.Block.{kind_of}
-use borrow.Author.Rules.{rules}
 use Rattle.judge.proofs.listed.kind_at.Goals as goal
 
 pub returns : goal.returns

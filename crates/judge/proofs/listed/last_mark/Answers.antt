@@ -1,8 +1,5 @@
 -- `judge::listed::last_mark` meets its contract: no mark stands from entry `left` on. Assumes nothing.
-use Prim.Native.Nat.{ℕ, ◌≤◌, ◌*◌, ◌/◌}
-use lib.ListN.{length, get_or}
 use Rattle.terms.proofs.AnswerLaws.{says-yes, says-no}
-use Rattle.terms.specs.Tag.{MarkedTag}
 use Rattle.judge.proofs.Stages.Tables.{last_none, past-tags, tags-down}
 use borrow.Author.Rules.{rules}
 use Rattle.judge.proofs.listed.last_mark.Goals as goal

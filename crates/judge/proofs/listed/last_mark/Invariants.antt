@@ -1,8 +1,6 @@
 use Prim.Native.Nat.{ℕ, ◌≤◌, ◌*◌, ◌/◌}
 use lib.ListN.{length, get_or}
-use Rattle.terms.proofs.AnswerLaws.{says-yes, says-no}
 use Rattle.terms.specs.Tag.{MarkedTag}
-use Rattle.judge.proofs.Stages.Tables.{last_none, past-tags, tags-down}
 use Rattle.judge.proofs.listed.last_mark.Given as goal
 
 abbrev pub invariant-loop-left : goal.invariant-loop-left

@@ -1,5 +1,4 @@
 -- `judge::listed::last_mark_of` meets its contract. Assumes nothing.
-use borrow.Author.Rules.{rules}
 use Rattle.judge.proofs.listed.last_mark_of.Goals as goal
 
 pub returns : goal.returns

@@ -1,11 +1,8 @@
 -- `judge::listed::listed_sizes` meets its contract: after i blocks their rows are filled in. Assumes nothing.
 use mathlib.Core.Path.{refl}
-use Prim.Native.Nat.{◌-◌, ◌≤◌}
 use native.Mathlib.Omega.{arith}
 use lib.ListN.{length-set}
-use Rattle.judge.specs.File.{block_count}
-use Rattle.judge.specs.Listed.{SizesBelow}
-use Rattle.judge.proofs.Stages.Tables.{SomeBelow, some-none, some_more, rows_all}
+use Rattle.judge.proofs.Stages.Tables.{some-none, some_more, rows_all}
 use borrow.Author.Rules.{rules}
 use Rattle.judge.proofs.listed.listed_sizes.Goals as goal
 

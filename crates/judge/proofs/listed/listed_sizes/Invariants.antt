@@ -1,10 +1,7 @@
-use mathlib.Core.Path.{refl}
 use Prim.Native.Nat.{◌-◌, ◌≤◌}
-use native.Mathlib.Omega.{arith}
-use lib.ListN.{length-set}
 use Rattle.judge.specs.File.{block_count}
 use Rattle.judge.specs.Listed.{SizesBelow}
-use Rattle.judge.proofs.Stages.Tables.{SomeBelow, some-none, some_more, rows_all}
+use Rattle.judge.proofs.Stages.Tables.{SomeBelow}
 use Rattle.judge.proofs.listed.listed_sizes.Given as goal
 
 abbrev pub invariant-loop-i : goal.invariant-loop-i

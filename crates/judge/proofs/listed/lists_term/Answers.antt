@@ -1,6 +1,5 @@
 -- `judge::listed::lists_term` meets its contract. Assumes nothing.
 use Rattle.judge.proofs.Files.Exact.{says-lists}
-use borrow.Author.Rules.{rules}
 use Rattle.judge.proofs.listed.lists_term.Goals as goal
 
 pub returns : goal.returns

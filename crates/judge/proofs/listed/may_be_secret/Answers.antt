@@ -21,12 +21,11 @@ pub bounds-e-4 : goal.bounds-e-4
 bounds-e-4 c = omega (arith, pair-room c.requires.1 c.if-root-eq-PAIR.true)
 
 pub returns-then-is_variable-2 : goal.returns-then-is_variable-2
-returns-then-is_variable-2 c =
-    (
-    λ e. absurd (true≢false e),
-    λ w.
-    absurd (omega (arith, left-tag c.args.e.now, w.left_symbol c.if-root-eq-PAIR.true, says-yes c.is_variable-then-root-eq-PAIR.result c.is_variable-then-root-eq-PAIR.ensures c.if-is_variable-2.true)),
-    )
+returns-then-is_variable-2 c = (
+  λ e. absurd (true≢false e),
+  λ w.
+      absurd (omega (arith, left-tag c.args.e.now, w.left_symbol c.if-root-eq-PAIR.true, says-yes c.is_variable-then-root-eq-PAIR.result c.is_variable-then-root-eq-PAIR.ensures c.if-is_variable-2.true)),
+)
 
 pub root_slot-requires : goal.root_slot-requires
 root_slot-requires c = c.requires.1
@@ -35,14 +34,14 @@ pub returns : goal.returns
 returns c =
     let low = says-no c.is_variable.result c.is_variable.ensures c.if-is_variable.false in
     let flag = ap (λ (n : ℕ). get_or c.args.roots.now n 0) c.root_slot.ensures.0 in (
-    λ e. record {
-    symbol = omega arith;
-    left_symbol = λ two.
-        elim c.if-root-eq-PAIR.branch [
-          then-root-eq-PAIR+else-is_variable-2 w ↦ omega (arith, left-tag c.args.e.now, says-no w.is_variable-then-root-eq-PAIR.result w.is_variable-then-root-eq-PAIR.ensures w.if-is_variable-2.false)
-        | else-root-eq-PAIR w ↦ absurd (w.if-root-eq-PAIR.false two)
-        ];
-    absent = sym flag ∙ absent-told e;
-    },
-    λ w. told-absent _ (flag ∙ w.absent),
+      λ e. record {
+        symbol = omega arith;
+        left_symbol = λ two.
+            elim c.if-root-eq-PAIR.branch [
+              | then-root-eq-PAIR+else-is_variable-2 w ↦ omega (arith, left-tag c.args.e.now, says-no w.is_variable-then-root-eq-PAIR.result w.is_variable-then-root-eq-PAIR.ensures w.if-is_variable-2.false)
+              | else-root-eq-PAIR w ↦ absurd (w.if-root-eq-PAIR.false two)
+            ];
+        absent = sym flag ∙ absent-told e;
+      },
+      λ w. told-absent _ (flag ∙ w.absent),
     )

@@ -1,6 +1,5 @@
 -- `judge::listed::nonces` meets its contract. Assumes nothing.
 use mathlib.Core.Path.{refl}
-use borrow.Author.Rules.{rules}
 use Rattle.judge.proofs.listed.nonces.Goals as goal
 
 pub returns : goal.returns

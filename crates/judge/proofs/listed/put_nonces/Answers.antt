@@ -1,13 +1,10 @@
 -- `judge::listed::put_nonces` meets its contract: the first k flags are in their place. Assumes nothing.
 use mathlib.Core.Path.{◌≡◌, refl}
-use Prim.Native.Nat.{◌-◌, ◌≤◌}
 use native.Mathlib.Omega.{arith}
-use lib.ListN.{length, length-set}
+use lib.ListN.{length-set}
 use Rattle.terms.specs.Nonces.{most_nonces}
-use Rattle.terms.specs.Sizes.{KeptBelow}
 use Rattle.terms.proofs.SizeLaws.{kept_more}
-use Rattle.judge.specs.Listed.{nonce_slots, listed_sizes}
-use Rattle.judge.proofs.Stages.Nonces.{Put, put-more, nonces-put, atoms-told, atoms-few}
+use Rattle.judge.proofs.Stages.Nonces.{put-more, nonces-put, atoms-told, atoms-few}
 use borrow.Author.Rules.{rules}
 use Rattle.judge.proofs.listed.put_nonces.Goals as goal
 
@@ -28,13 +25,12 @@ pub bounds-sizes-k : goal.bounds-sizes-k
 bounds-sizes-k c = let long = c.loop-k.invariant.1 in search rules
 
 pub loop-k-preserved : goal.loop-k-preserved
-loop-k-preserved c =
-    (
-    search rules,
-    simp length-set c.loop-k.invariant.1,
-    put-more c.loop-k.invariant.1 (search rules) c.loop-k.invariant.2 refl,
-    kept_more _ c.loop-k.invariant.3 (omega arith),
-    )
+loop-k-preserved c = (
+  search rules,
+  simp length-set c.loop-k.invariant.1,
+  put-more c.loop-k.invariant.1 (search rules) c.loop-k.invariant.2 refl,
+  kept_more _ c.loop-k.invariant.3 (omega arith),
+)
 
 pub returns : goal.returns
 returns c =

@@ -1,12 +1,10 @@
-use mathlib.Core.Path.{◌≡◌, refl}
+use mathlib.Core.Path.{◌≡◌}
 use Prim.Native.Nat.{◌-◌, ◌≤◌}
-use native.Mathlib.Omega.{arith}
-use lib.ListN.{length, length-set}
+use lib.ListN.{length}
 use Rattle.terms.specs.Nonces.{most_nonces}
 use Rattle.terms.specs.Sizes.{KeptBelow}
-use Rattle.terms.proofs.SizeLaws.{kept_more}
 use Rattle.judge.specs.Listed.{nonce_slots, listed_sizes}
-use Rattle.judge.proofs.Stages.Nonces.{Put, put-more, nonces-put, atoms-told, atoms-few}
+use Rattle.judge.proofs.Stages.Nonces.{Put}
 use Rattle.judge.proofs.listed.put_nonces.Given as goal
 
 abbrev pub invariant-loop-k : goal.invariant-loop-k

@@ -1,6 +1,5 @@
 -- `judge::listed::row` meets its contract. Assumes nothing.
 use mathlib.Core.Path.{refl}
-use borrow.Author.Rules.{rules}
 use Rattle.judge.proofs.listed.row.Goals as goal
 
 pub returns : goal.returns

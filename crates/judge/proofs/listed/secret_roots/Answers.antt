@@ -1,26 +1,20 @@
 -- `judge::listed::secret_roots` meets its contract: after i blocks the secrets among them are flagged. Assumes nothing.
-use mathlib.Core.Path.{◌≡◌, refl}
-use Prim.Native.Nat.{ℕ, ◌-◌, ◌<◌, ◌≤◌}
+use mathlib.Core.Path.{refl}
 use native.Mathlib.Omega.{arith}
-use lib.ListN.{length, get_or}
-use Rattle.blocks.specs.Kinds.{secret_kind}
-use Rattle.blocks.specs.Block.{block_at, kind_of, first_entries}
-use Rattle.judge.specs.File.{block_count}
-use Rattle.judge.specs.Listed.{FlaggedAt, SecretSlot, root_slots}
+use Rattle.judge.specs.Listed.{root_slots}
 use Rattle.judge.proofs.Stages.Roots.{flags-more, only-more, slots-before}
 use Rattle.judge.proofs.Covering.Flags.{zero-at}
 use borrow.Author.Rules.{rules}
 use Rattle.judge.proofs.listed.secret_roots.Goals as goal
 
 pub loop-i-init : goal.loop-i-init
-loop-i-init c =
-    (
-    search rules,
-    refl,
-    λ j below kind. absurd (omega arith),
-    λ k. omega (arith, zero-at root_slots k),
-    λ k on. absurd (omega (arith, zero-at root_slots k)),
-    )
+loop-i-init c = (
+  search rules,
+  refl,
+  λ j below kind. absurd (omega arith),
+  λ k. omega (arith, zero-at root_slots k),
+  λ k on. absurd (omega (arith, zero-at root_slots k)),
+)
 
 pub flag_root-requires : goal.flag_root-requires
 flag_root-requires c = (c.requires, c.loop-i-test.true, c.loop-i.invariant.1)
@@ -32,8 +26,8 @@ loop-i-preserved c =
 pub returns : goal.returns
 returns c =
     let inv = c.loop-i.invariant in record {
-    long = inv.1;
-    flagged = λ j inside. inv.2 j (omega arith);
-    bits = inv.3;
-    only = λ k on. slots-before inv.0 (inv.4 k on);
+      long = inv.1;
+      flagged = λ j inside. inv.2 j (omega arith);
+      bits = inv.3;
+      only = λ k on. slots-before inv.0 (inv.4 k on);
     }

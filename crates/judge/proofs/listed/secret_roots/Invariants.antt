@@ -1,13 +1,10 @@
-use mathlib.Core.Path.{◌≡◌, refl}
+use mathlib.Core.Path.{◌≡◌}
 use Prim.Native.Nat.{ℕ, ◌-◌, ◌<◌, ◌≤◌}
-use native.Mathlib.Omega.{arith}
 use lib.ListN.{length, get_or}
 use Rattle.blocks.specs.Kinds.{secret_kind}
 use Rattle.blocks.specs.Block.{block_at, kind_of, first_entries}
 use Rattle.judge.specs.File.{block_count}
 use Rattle.judge.specs.Listed.{FlaggedAt, SecretSlot, root_slots}
-use Rattle.judge.proofs.Stages.Roots.{flags-more, only-more, slots-before}
-use Rattle.judge.proofs.Covering.Flags.{zero-at}
 use Rattle.judge.proofs.listed.secret_roots.Given as goal
 
 abbrev pub invariant-loop-i : goal.invariant-loop-i

@@ -1,12 +1,10 @@
 -- `judge::listed::shares_among` meets its contract: no block from `left` on holds one. Assumes nothing.
-use Prim.Native.Nat.{◌≤◌}
 use native.Mathlib.Omega.{arith}
 use Rattle.terms.specs.Instance.{Share}
 use Rattle.terms.specs.Entry.{term_of}
 use Rattle.terms.proofs.AnswerLaws.{says-no}
-use Rattle.terms.specs.Ending.{EachFrom}
 use Rattle.terms.proofs.EndingLaws.{each_none, each-down}
-use Rattle.judge.specs.Listed.{atoms_in, HoldsAt}
+use Rattle.judge.specs.Listed.{atoms_in}
 use Rattle.judge.proofs.Stages.Listing.{among-found, among-lower, among_none}
 use borrow.Author.Rules.{rules}
 use Rattle.judge.proofs.listed.shares_among.Goals as goal

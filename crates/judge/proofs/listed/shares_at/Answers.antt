@@ -23,9 +23,9 @@ nonces-requires c = c.requires.2.rows.long
 pub shares-requires : goal.shares-requires
 shares-requires c =
     let pre = c.requires in let part = c.term_at.ensures in (
-    record { left = part.term; right = pre.0.term; left_short = part.short; right_short = pre.0.short },
-    rw c.row.ensures (term-sizes pre.2 pre.0 pre.1 (says-yes c.is_kind.result c.is_kind.ensures c.if-is_kind.true) part.part),
-    pre.3,
+      record { left = part.term; right = pre.0.term; left_short = part.short; right_short = pre.0.short },
+      rw c.row.ensures (term-sizes pre.2 pre.0 pre.1 (says-yes c.is_kind.result c.is_kind.ensures c.if-is_kind.true) part.part),
+      pre.3,
     )
 
 pub returns-then-is_kind : goal.returns-then-is_kind

@@ -3,7 +3,6 @@ use mathlib.Core.Path.{◌∙◌}
 use Rattle.terms.proofs.AnswerLaws.{says-no, answer-same}
 use Rattle.judge.specs.Listed.{shares_listed?, shares_everywhere?}
 use Rattle.judge.proofs.Stages.Tables.{all-count}
-use borrow.Author.Rules.{rules}
 use Rattle.judge.proofs.listed.shares_bad.Goals as goal
 
 pub some_marked-requires : goal.some_marked-requires

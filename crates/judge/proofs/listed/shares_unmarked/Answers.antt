@@ -1,14 +1,11 @@
 -- `judge::listed::shares_unmarked` meets its contract: no block from `left` on holds one. Assumes nothing.
-use Prim.Native.Nat.{◌≤◌}
 use native.Mathlib.Omega.{arith}
 use Rattle.blocks.specs.Kinds.{bad_kind}
 use Rattle.terms.specs.Instance.{Share}
 use Rattle.terms.specs.Entry.{term_of}
 use Rattle.terms.proofs.AnswerLaws.{says-no}
-use Rattle.terms.specs.Ending.{EachFrom}
 use Rattle.terms.proofs.EndingLaws.{each_none, each-down}
-use Rattle.judge.specs.File.{block_count}
-use Rattle.judge.specs.Listed.{atoms_in, Everywhere, HoldsAt, shares_everywhere?}
+use Rattle.judge.specs.Listed.{atoms_in, Everywhere, shares_everywhere?}
 use Rattle.judge.proofs.Stages.Listing.{found-answer, none-answer, lower-answer}
 use borrow.Author.Rules.{rules}
 use Rattle.judge.proofs.listed.shares_unmarked.Goals as goal

@@ -1,14 +1,10 @@
 use Prim.Native.Nat.{◌≤◌}
-use native.Mathlib.Omega.{arith}
 use Rattle.blocks.specs.Kinds.{bad_kind}
 use Rattle.terms.specs.Instance.{Share}
 use Rattle.terms.specs.Entry.{term_of}
-use Rattle.terms.proofs.AnswerLaws.{says-no}
 use Rattle.terms.specs.Ending.{EachFrom}
-use Rattle.terms.proofs.EndingLaws.{each_none, each-down}
 use Rattle.judge.specs.File.{block_count}
-use Rattle.judge.specs.Listed.{atoms_in, Everywhere, HoldsAt, shares_everywhere?}
-use Rattle.judge.proofs.Stages.Listing.{found-answer, none-answer, lower-answer}
+use Rattle.judge.specs.Listed.{atoms_in, Everywhere, HoldsAt}
 use Rattle.judge.proofs.listed.shares_unmarked.Given as goal
 
 abbrev pub invariant-loop-left : goal.invariant-loop-left

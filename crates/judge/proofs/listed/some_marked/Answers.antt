@@ -2,7 +2,6 @@
 use lib.ListN.{get_or}
 use Rattle.judge.specs.Listed.{listed_rows}
 use Rattle.terms.proofs.AnswerLaws.{says_eq}
-use borrow.Author.Rules.{rules}
 use Rattle.judge.proofs.listed.some_marked.Goals as goal
 
 pub returns : goal.returns

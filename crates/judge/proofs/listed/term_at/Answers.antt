@@ -4,7 +4,6 @@ use mathlib.Core.Path.{ap, ◌∙◌}
 use Prim.Native.Nat.{ℕ, ◌*◌}
 use Rattle.blocks.specs.Block.{first_entries, first_count}
 use Rattle.judge.proofs.Stages.Listing.{term-part}
-use borrow.Author.Rules.{rules}
 use Rattle.judge.proofs.listed.term_at.Goals as goal
 
 pub first_entries-requires : goal.first_entries-requires

@@ -1,7 +1,6 @@
 -- `terms::atom::atom_at` meets its contract. Assumes nothing.
 use mathlib.Core.Path.{◌∙◌}
 use Rattle.terms.proofs.AtomLaws.{joined-first, joined-second}
-use borrow.Author.Rules.{rules}
 use Rattle.terms.proofs.atom.atom_at.Goals as goal
 
 pub returns-then-n-count : goal.returns-then-n-count

@@ -5,7 +5,6 @@ use Rattle.terms.specs.Atom.{foreign_nonce}
 use native.Mathlib.Omega.{arith}
 use lib.Dec.{leb}
 use Rattle.terms.proofs.NonceLaws.{flag-says, unflagged-nonce}
-use borrow.Author.Rules.{rules}
 use Rattle.terms.proofs.atom.is_nonce.Goals as goal
 
 pub returns-then-n-nonces : goal.returns-then-n-nonces

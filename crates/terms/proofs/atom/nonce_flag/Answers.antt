@@ -1,7 +1,6 @@
 -- `terms::atom::nonce_flag` meets its contract. Assumes nothing.
 use mathlib.Core.Path.{refl}
 use native.Mathlib.Omega.{arith}
-use borrow.Author.Rules.{rules}
 use Rattle.terms.proofs.atom.nonce_flag.Goals as goal
 
 pub returns-then-kind-eq-NONCE : goal.returns-then-kind-eq-NONCE

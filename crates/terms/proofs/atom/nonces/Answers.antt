@@ -1,12 +1,12 @@
 -- `terms::atom::nonces` meets its contract. Assumes nothing.
 use mathlib.Core.Path.{◌≡◌, refl}
-use Prim.Native.Nat.{ℕ, ◌+◌, ◌<◌, ◌≤◌, ◌/◌, ◌-◌}
+use Prim.Native.Nat.{ℕ, ◌<◌, ◌≤◌}
 use native.Mathlib.Omega.{arith}
 use native.Mathlib.Decide.{dec_lt}
 use lib.ListN.{length, get_or, replicate, get_or-replicate, get_or-eq_default}
 use Rattle.terms.specs.Atom.{joined_atoms}
 use Rattle.terms.proofs.AtomLaws.{joined_length}
-use Rattle.terms.proofs.NonceLaws.{FlaggedTo, flagged-more, all-flagged}
+use Rattle.terms.proofs.NonceLaws.{flagged-more, all-flagged}
 use borrow.Author.Rules.{rules}
 use Rattle.terms.proofs.atom.nonces.Goals as goal
 
@@ -26,8 +26,8 @@ bounds-flags-n c = let long = c.loop-n.invariant.1.long in search rules
 pub loop-n-preserved : goal.loop-n-preserved
 loop-n-preserved c =
     let args = c.args in (
-    search rules,
-    flagged-more (joined_atoms args.atoms.now args.more.now) c.loop-n.invariant.1 (search rules) c.atom_at.ensures.0 c.nonce_flag.ensures,
+      search rules,
+      flagged-more (joined_atoms args.atoms.now args.more.now) c.loop-n.invariant.1 (search rules) c.atom_at.ensures.0 c.nonce_flag.ensures,
     )
 
 pub returns : goal.returns

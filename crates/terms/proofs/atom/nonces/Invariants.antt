@@ -1,11 +1,7 @@
-use mathlib.Core.Path.{◌≡◌, refl}
-use Prim.Native.Nat.{ℕ, ◌+◌, ◌<◌, ◌≤◌, ◌/◌, ◌-◌}
-use native.Mathlib.Omega.{arith}
-use native.Mathlib.Decide.{dec_lt}
-use lib.ListN.{length, get_or, replicate, get_or-replicate, get_or-eq_default}
+use Prim.Native.Nat.{◌+◌, ◌≤◌, ◌/◌, ◌-◌}
+use lib.ListN.{length}
 use Rattle.terms.specs.Atom.{joined_atoms}
-use Rattle.terms.proofs.AtomLaws.{joined_length}
-use Rattle.terms.proofs.NonceLaws.{FlaggedTo, flagged-more, all-flagged}
+use Rattle.terms.proofs.NonceLaws.{FlaggedTo}
 use Rattle.terms.proofs.atom.nonces.Given as goal
 
 abbrev pub invariant-loop-n : goal.invariant-loop-n

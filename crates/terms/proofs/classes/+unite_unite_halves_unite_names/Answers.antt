@@ -3,11 +3,9 @@
 use mathlib.Core.Path.{sym, ◌∙◌}
 use mathlib.Core.Logic.{inl, inr}
 use Rattle.terms.proofs.GraphLaws.{moved, both-answer, failed, first-clash}
-use Rattle.terms.specs.Names.{class_count}
 use Rattle.terms.proofs.ClassAnswers.{two-names, met-as, differ-answer, names-linked, names-fewer, free-answer, atoms-answer, contents-answer}
 use Rattle.terms.proofs.ClassAnswers.{halves-answer, one-class-answer, found-names, nodes-answer, turned}
 use native.Mathlib.Omega.{arith}
-use Prim.Native.Nat.{ℕ, ◌<◌, ◌*◌, ◌+◌}
 use borrow.Author.Rules.{rules}
 use Rattle.terms.proofs.classes.+unite_unite_halves_unite_names.Goals as goal
 
@@ -59,16 +57,16 @@ unite_halves-second_child-requires-then-unite t c = (c.requires.0, c.requires.1,
 pub unite_halves-unite-requires-then-unite : goal.unite_halves-unite-requires-then-unite
 unite_halves-unite-requires-then-unite t c =
     let first = c.unite.ensures in (
-    omega (arith, c.decreases, first.1),
-    (c.requires.0, c.requires.1, c.requires.2, first.0, c.second_child.ensures.1, c.second_child-then-unite.ensures.1),
+      omega (arith, c.decreases, first.1),
+      (c.requires.0, c.requires.1, c.requires.2, first.0, c.second_child.ensures.1, c.second_child-then-unite.ensures.1),
     )
 
 pub unite_halves-returns-then-unite : goal.unite_halves-returns-then-unite
 unite_halves-returns-then-unite t c =
     let first = c.unite.ensures in let then = c.unite-then-unite.ensures in let step = (moved c.first_child.ensures.0 c.first_child-2.ensures.0 first.2).stepped c.if-unite.true in (
-    then.0,
-    omega (arith, then.1, first.1),
-    both-answer step (moved c.second_child.ensures.0 c.second_child-then-unite.ensures.0 then.2),
+      then.0,
+      omega (arith, then.1, first.1),
+      both-answer step (moved c.second_child.ensures.0 c.second_child-then-unite.ensures.0 then.2),
     )
 
 pub unite_halves-returns-else-unite : goal.unite_halves-returns-else-unite
@@ -92,8 +90,8 @@ unite_names-first_child-requires-in-Wrappers t c =
 pub unite_names-unite-requires : goal.unite_names-unite-requires
 unite_names-unite-requires t c =
     let args = c.args in let w = two-names c.requires.3 c.requires.4 c.requires.5 c.requires.6 c.requires.7 c.requires.8 in (
-    omega (arith, c.decreases, names-fewer w),
-    (c.requires.0, c.requires.1, c.requires.2, names-linked w, c.first_child.ensures.1, c.first_child-in-Wrappers.ensures.1),
+      omega (arith, c.decreases, names-fewer w),
+      (c.requires.0, c.requires.1, c.requires.2, names-linked w, c.first_child.ensures.1, c.first_child-in-Wrappers.ensures.1),
     )
 
 pub unite_names-unite_halves-requires : goal.unite_names-unite_halves-requires
@@ -125,9 +123,9 @@ unite_names-returns-in-Wrappers t c =
     let args = c.args in let w = two-names c.requires.3 c.requires.4 c.requires.5 c.requires.6 c.requires.7 c.requires.8 in
     let m = met-as args.s.now args.t.now args.a args.b c.meeting-met.ensures c.in-Wrappers.is in
     let below = c.unite.ensures in (
-    below.0,
-    omega (arith, below.1, names-fewer w),
-    contents-answer w m (moved c.first_child.ensures.0 c.first_child-in-Wrappers.ensures.0 below.2),
+      below.0,
+      omega (arith, below.1, names-fewer w),
+      contents-answer w m (moved c.first_child.ensures.0 c.first_child-in-Wrappers.ensures.0 below.2),
     )
 
 pub unite_names-returns-in-Pairs : goal.unite_names-returns-in-Pairs

@@ -1,11 +1,5 @@
-use mathlib.Core.Path.{sym, ◌∙◌}
-use mathlib.Core.Logic.{inl, inr}
-use Rattle.terms.proofs.GraphLaws.{moved, both-answer, failed, first-clash}
 use Rattle.terms.specs.Names.{class_count}
-use Rattle.terms.proofs.ClassAnswers.{two-names, met-as, differ-answer, names-linked, names-fewer, free-answer, atoms-answer, contents-answer}
-use Rattle.terms.proofs.ClassAnswers.{halves-answer, one-class-answer, found-names, nodes-answer, turned}
-use native.Mathlib.Omega.{arith}
-use Prim.Native.Nat.{ℕ, ◌<◌, ◌*◌, ◌+◌}
+use Prim.Native.Nat.{◌*◌, ◌+◌}
 use Rattle.terms.proofs.classes.+unite_unite_halves_unite_names.Given as goal
 
 abbrev pub decreases-unite : goal.decreases-unite

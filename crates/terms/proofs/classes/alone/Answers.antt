@@ -1,8 +1,6 @@
 -- `terms::classes::alone` meets its contract: the nodes before node k lead to themselves. Assumes nothing.
-use lib.ListN.{length-set, length, get_or}
+use lib.ListN.{length-set}
 use Rattle.terms.proofs.NameLaws.{stored}
-use mathlib.Core.Path.{◌≡◌}
-use Prim.Native.Nat.{ℕ, ◌≤◌, ◌<◌, ◌-◌}
 use borrow.Author.Rules.{rules}
 use Rattle.terms.proofs.classes.alone.Goals as goal
 

@@ -1,5 +1,4 @@
-use lib.ListN.{length-set, length, get_or}
-use Rattle.terms.proofs.NameLaws.{stored}
+use lib.ListN.{length, get_or}
 use mathlib.Core.Path.{◌≡◌}
 use Prim.Native.Nat.{ℕ, ◌≤◌, ◌<◌, ◌-◌}
 use Rattle.terms.proofs.classes.alone.Given as goal

@@ -1,9 +1,6 @@
 -- `terms::classes::find` meets its contract: node k is on the way to the name, with `left` links at most left to follow.
 -- Assumes nothing.
-use mathlib.Core.Path.{◌≡◌}
-use Prim.Native.Nat.{◌<◌, ◌≤◌}
-use lib.ListN.{length}
-use Rattle.terms.proofs.NameLaws.{WayToName, way-starts, way-arrives, way-goes-on, way-ends}
+use Rattle.terms.proofs.NameLaws.{way-starts, way-arrives, way-goes-on, way-ends}
 use borrow.Author.Rules.{rules}
 use Rattle.terms.proofs.classes.find.Goals as goal
 

@@ -1,7 +1,7 @@
 use mathlib.Core.Path.{◌≡◌}
 use Prim.Native.Nat.{◌<◌, ◌≤◌}
 use lib.ListN.{length}
-use Rattle.terms.proofs.NameLaws.{WayToName, way-starts, way-arrives, way-goes-on, way-ends}
+use Rattle.terms.proofs.NameLaws.{WayToName}
 use Rattle.terms.proofs.classes.find.Given as goal
 
 abbrev pub invariant-loop-left : goal.invariant-loop-left

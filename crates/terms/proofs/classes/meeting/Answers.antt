@@ -7,7 +7,6 @@ use Rattle.terms.proofs.TagLaws.{one_tag, one-child}
 use Rattle.terms.proofs.ClassLaws.{both-symbols}
 use Rattle.terms.specs.TermGraph.{OwnEntry}
 use Rattle.terms.proofs.NodeLaws.{symbol-inside, home-symbol, own-tag}
-use borrow.Author.Rules.{rules}
 use Rattle.terms.proofs.classes.meeting.Goals as goal
 use Rattle.terms.proofs.classes.meeting.Goals.{Else-a-ge-VARIABLE_NODES}
 
@@ -47,12 +46,12 @@ value_at-requires-2 c = second (goal.at.value_at-requires-2 c).Else-a-ge-VARIABL
 pub returns-then-value_at : goal.returns-then-value_at
 returns-then-value_at c =
     let a-tag = c.tag_at-tag.ensures in (
-    both (goal.at.returns-then-value_at c).Else-a-ge-VARIABLE_NODES,
-    inr (
-    sym a-tag ∙ c.if-tag-tag_at.false ∙ c.tag_at.ensures,
-    (λ e. c.if-tag-eq-PAIR.false (a-tag ∙ e)),
-    (λ e. c.if-value_at.true (c.value_at.ensures ∙ e ∙ sym c.value_at-2.ensures)),
-    ),
+      both (goal.at.returns-then-value_at c).Else-a-ge-VARIABLE_NODES,
+      inr (
+        sym a-tag ∙ c.if-tag-tag_at.false ∙ c.tag_at.ensures,
+        (λ e. c.if-tag-eq-PAIR.false (a-tag ∙ e)),
+        (λ e. c.if-value_at.true (c.value_at.ensures ∙ e ∙ sym c.value_at-2.ensures)),
+      ),
     )
 
 pub children-requires : goal.children-requires
@@ -62,18 +61,18 @@ children-requires c =
 pub returns-then-children-eq1 : goal.returns-then-children-eq1
 returns-then-children-eq1 c =
     let a-tag = c.tag_at-tag.ensures in (
-    both (goal.at.returns-then-children-eq1 c).Else-a-ge-VARIABLE_NODES,
-    sym a-tag ∙ c.if-tag-tag_at.false ∙ c.tag_at.ensures,
-    rw (← a-tag) (one_tag _ (sym c.children.ensures.0 ∙ c.if-children-eq1.true)),
-    sym c.value_at.ensures ∙ c.if-value_at.false ∙ c.value_at-2.ensures,
+      both (goal.at.returns-then-children-eq1 c).Else-a-ge-VARIABLE_NODES,
+      sym a-tag ∙ c.if-tag-tag_at.false ∙ c.tag_at.ensures,
+      rw (← a-tag) (one_tag _ (sym c.children.ensures.0 ∙ c.if-children-eq1.true)),
+      sym c.value_at.ensures ∙ c.if-value_at.false ∙ c.value_at-2.ensures,
     )
 
 pub returns : goal.returns
 returns c =
     let a-tag = c.tag_at-tag.ensures in (
-    both (goal.at.returns c).Else-a-ge-VARIABLE_NODES,
-    sym a-tag ∙ c.if-tag-tag_at.false ∙ c.tag_at.ensures,
-    (λ e. c.if-tag-eq-PAIR.false (a-tag ∙ e)),
-    rw (← a-tag) (λ w. c.if-children-eq1.false (c.children.ensures.0 ∙ sym (one-child w))),
-    sym c.value_at.ensures ∙ c.if-value_at.false ∙ c.value_at-2.ensures,
+      both (goal.at.returns c).Else-a-ge-VARIABLE_NODES,
+      sym a-tag ∙ c.if-tag-tag_at.false ∙ c.tag_at.ensures,
+      (λ e. c.if-tag-eq-PAIR.false (a-tag ∙ e)),
+      rw (← a-tag) (λ w. c.if-children-eq1.false (c.children.ensures.0 ∙ sym (one-child w))),
+      sym c.value_at.ensures ∙ c.if-value_at.false ∙ c.value_at-2.ensures,
     )

@@ -6,12 +6,9 @@ use lib.ListN.{get_or, length-set}
 use Rattle.terms.proofs.TagLaws.{one_tag, one-child}
 use Rattle.terms.proofs.NodeLaws.{symbol-inside, own-tag}
 use Rattle.terms.specs.Tag.{children_of}
-use Rattle.terms.specs.Ending.{zeros}
 use Rattle.terms.proofs.EndingLaws.{fewer-zeros, yes-at-once, no_way, answer-map, past-ends, class-ends, back-again, open-sound, open-below, closed}
 use Rattle.terms.proofs.EndingLaws.{below-kept, first_below, second_below, content-below, no-children-end, content-ends, halves-walked, symbol-there}
 use native.Mathlib.Omega.{arith}
-use Prim.Native.Nat.{ℕ, ◌<◌, ◌*◌, ◌+◌}
-use borrow.Author.Rules.{rules}
 use Rattle.terms.proofs.ending.+children_end_ends.Goals as goal
 
 pub children_end-tag_at-tag-requires : goal.children_end-tag_at-tag-requires
@@ -23,17 +20,17 @@ children_end-first_child-requires t c = (c.requires.0, inl (sym c.tag_at-tag.ens
 pub children_end-ends-requires : goal.children_end-ends-requires
 children_end-ends-requires t c =
     let two = sym c.tag_at-tag.ensures ∙ c.if-tag-eq-PAIR.true in (
-    omega (arith, c.decreases),
-    (
-    c.requires.0,
-    c.requires.1,
-    c.requires.2,
-    c.requires.3,
-    c.requires.4,
-    c.first_child.ensures.1,
-    c.requires.6,
-    first_below two c.first_child.ensures.0 c.requires.7,
-    ),
+      omega (arith, c.decreases),
+      (
+        c.requires.0,
+        c.requires.1,
+        c.requires.2,
+        c.requires.3,
+        c.requires.4,
+        c.first_child.ensures.1,
+        c.requires.6,
+        first_below two c.first_child.ensures.0 c.requires.7,
+      ),
     )
 
 pub children_end-second_child-requires : goal.children_end-second_child-requires
@@ -44,17 +41,17 @@ pub children_end-ends-requires-then-ends : goal.children_end-ends-requires-then-
 children_end-ends-requires-then-ends t c =
     let two = sym c.tag_at-tag.ensures ∙ c.if-tag-eq-PAIR.true in
     let kept = (c.ends.ensures.ends c.if-ends.true).1 in (
-    omega (arith, c.decreases, kept.fewer),
-    (
-    c.requires.0,
-    c.requires.1,
-    c.requires.2,
-    c.requires.3,
-    c.ends.ensures.long,
-    c.second_child.ensures.1,
-    kept.sound,
-    below-kept kept (second_below two c.second_child.ensures.0 c.requires.7),
-    ),
+      omega (arith, c.decreases, kept.fewer),
+      (
+        c.requires.0,
+        c.requires.1,
+        c.requires.2,
+        c.requires.3,
+        c.ends.ensures.long,
+        c.second_child.ensures.1,
+        kept.sound,
+        below-kept kept (second_below two c.second_child.ensures.0 c.requires.7),
+      ),
     )
 
 pub children_end-children-requires : goal.children_end-children-requires
@@ -67,17 +64,17 @@ children_end-first_child-requires-then-children-eq1 t c =
 pub children_end-ends-requires-then-children-eq1 : goal.children_end-ends-requires-then-children-eq1
 children_end-ends-requires-then-children-eq1 t c =
     let one = rw c.tag_at-tag.ensures at (one_tag _ (sym c.children.ensures.0 ∙ c.if-children-eq1.true)) in (
-    omega (arith, c.decreases),
-    (
-    c.requires.0,
-    c.requires.1,
-    c.requires.2,
-    c.requires.3,
-    c.requires.4,
-    c.first_child-then-children-eq1.ensures.1,
-    c.requires.6,
-    content-below one c.first_child-then-children-eq1.ensures.0 c.requires.7,
-    ),
+      omega (arith, c.decreases),
+      (
+        c.requires.0,
+        c.requires.1,
+        c.requires.2,
+        c.requires.3,
+        c.requires.4,
+        c.first_child-then-children-eq1.ensures.1,
+        c.requires.6,
+        content-below one c.first_child-then-children-eq1.ensures.0 c.requires.7,
+      ),
     )
 
 pub children_end-returns-then-ends : goal.children_end-returns-then-ends
@@ -119,17 +116,17 @@ pub ends-children_end-requires : goal.ends-children_end-requires
 ends-children_end-requires t c =
     let named = c.find-a.ensures.0 in let low = c.if-a-ge-VARIABLE_NODES.false in let unmet : get_or c.args.marks.now c.find-a.result 0 ≡ 0 = omega (arith, c.if-mark-gt1.false, c.if-mark-eq1.false) in
     let fall = fewer-zeros c.args.marks.now c.find-a.result (omega (arith, low, c.requires.4)) unmet in (
-    omega (arith, c.decreases),
-    (
-    c.requires.0,
-    c.requires.1,
-    c.requires.2,
-    c.requires.3,
-    simp length-set c.requires.4,
-    symbol-there c.args.i c.requires.3 c.requires.5 named low,
-    open-sound (omega (arith, low, c.requires.4)) c.requires.6,
-    open-below (omega (arith, low, c.requires.4)) named c.requires.7,
-    ),
+      omega (arith, c.decreases),
+      (
+        c.requires.0,
+        c.requires.1,
+        c.requires.2,
+        c.requires.3,
+        simp length-set c.requires.4,
+        symbol-there c.args.i c.requires.3 c.requires.5 named low,
+        open-sound (omega (arith, low, c.requires.4)) c.requires.6,
+        open-below (omega (arith, low, c.requires.4)) named c.requires.7,
+      ),
     )
 
 pub ends-returns-then-children_end : goal.ends-returns-then-children_end

@@ -12,36 +12,36 @@ overflow_add-t c = let short = c.requires.0.right_short in search rules
 pub side_ends-requires : goal.side_ends-requires
 side_ends-requires c =
     let pre = c.requires in (
-    pre.0,
-    pre.1,
-    pre.2,
-    pre.3,
-    refl,
-    search rules,
-    right-entries _ _ pre.0,
-    start-sound _ _ _ (replicate 128 0) (λ a h. get_or-replicate 128 a 0 0 h),
-    start-below _ _ _ (replicate 128 0) (λ a h. get_or-replicate 128 a 0 0 h),
+      pre.0,
+      pre.1,
+      pre.2,
+      pre.3,
+      refl,
+      search rules,
+      right-entries _ _ pre.0,
+      start-sound _ _ _ (replicate 128 0) (λ a h. get_or-replicate 128 a 0 0 h),
+      start-below _ _ _ (replicate 128 0) (λ a h. get_or-replicate 128 a 0 0 h),
     )
 
 pub side_ends-requires-then-side_ends : goal.side_ends-requires-then-side_ends
 side_ends-requires-then-side_ends c =
     let pre = c.requires in let ended = c.side_ends.ensures.ends c.if-side_ends.true in (
-    pre.0,
-    pre.1,
-    pre.2,
-    pre.3,
-    c.side_ends.ensures.long,
-    search rules,
-    left-entries _ _ pre.0,
-    ended.1.sound,
-    (λ i. below-kept ended.1 (start-below _ _ _ (replicate 128 0) (λ a h. get_or-replicate 128 a 0 0 h) i)),
+      pre.0,
+      pre.1,
+      pre.2,
+      pre.3,
+      c.side_ends.ensures.long,
+      search rules,
+      left-entries _ _ pre.0,
+      ended.1.sound,
+      (λ i. below-kept ended.1 (start-below _ _ _ (replicate 128 0) (λ a h. get_or-replicate 128 a 0 0 h) i)),
     )
 
 pub returns-then-side_ends : goal.returns-then-side_ends
 returns-then-side_ends c =
     let pre = c.requires in (
-    (λ e. all-finite pre.0 pre.3 (c.side_ends-then-side_ends.ensures.ends e).0 (c.side_ends.ensures.ends c.if-side_ends.true).0),
-    c.side_ends-then-side_ends.ensures.never,
+      (λ e. all-finite pre.0 pre.3 (c.side_ends-then-side_ends.ensures.ends e).0 (c.side_ends.ensures.ends c.if-side_ends.true).0),
+      c.side_ends-then-side_ends.ensures.never,
     )
 
 pub returns-else-side_ends : goal.returns-else-side_ends

@@ -5,7 +5,6 @@ use Rattle.terms.proofs.TagLaws.{one_tag, one-child}
 use Rattle.terms.specs.Tag.{children_of}
 use Rattle.terms.proofs.NodeLaws.{own-tag}
 use Rattle.terms.proofs.EndingLaws.{answer-map, yes-at-once, parent-home, parent-ends, no-parent}
-use borrow.Author.Rules.{rules}
 use Rattle.terms.proofs.ending.node_ends.Goals as goal
 
 pub tag_at-tag-requires : goal.tag_at-tag-requires

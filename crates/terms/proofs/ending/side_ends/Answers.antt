@@ -1,10 +1,7 @@
 -- `terms::ending::side_ends` meets its contract: every way down from the nodes from `left` on ends, and the marks are kept. Assumes nothing.
-use Prim.Native.Nat.{◌≤◌, ◌-◌}
+use Prim.Native.Nat.{◌-◌}
 use mathlib.Core.Path.{◌≡◌}
 use native.Mathlib.Omega.{arith}
-use lib.ListN.{length}
-use borrow.Author.Tests.{not-false, not-true}
-use Rattle.terms.specs.Ending.{ParentEnds, MarksKept, EachFrom}
 use Rattle.terms.proofs.EndingLaws.{each_none, each-down, yes-kept, no_way, kept_same, kept-both, below-kept}
 use borrow.Author.Rules.{rules}
 use Rattle.terms.proofs.ending.side_ends.Goals as goal
@@ -15,14 +12,14 @@ loop-left-init c = let pre = c.requires in (search rules, search rules, pre.4, k
 pub node_ends-requires : goal.node_ends-requires
 node_ends-requires c =
     let pre = c.requires in (
-    pre.0,
-    pre.1,
-    pre.2,
-    pre.3,
-    c.loop-left.invariant.2,
-    pre.6.each (c.loop-left.left - 1) (search rules) (search rules),
-    c.loop-left.invariant.3.sound,
-    below-kept c.loop-left.invariant.3 (pre.8 (c.loop-left.left - 1)),
+      pre.0,
+      pre.1,
+      pre.2,
+      pre.3,
+      c.loop-left.invariant.2,
+      pre.6.each (c.loop-left.left - 1) (search rules) (search rules),
+      c.loop-left.invariant.3.sound,
+      below-kept c.loop-left.invariant.3 (pre.8 (c.loop-left.left - 1)),
     )
 
 pub returns-then-not-node_ends : goal.returns-then-not-node_ends

@@ -1,10 +1,7 @@
-use Prim.Native.Nat.{◌≤◌, ◌-◌}
+use Prim.Native.Nat.{◌≤◌}
 use mathlib.Core.Path.{◌≡◌}
-use native.Mathlib.Omega.{arith}
 use lib.ListN.{length}
-use borrow.Author.Tests.{not-false, not-true}
 use Rattle.terms.specs.Ending.{ParentEnds, MarksKept, EachFrom}
-use Rattle.terms.proofs.EndingLaws.{each_none, each-down, yes-kept, no_way, kept_same, kept-both, below-kept}
 use Rattle.terms.proofs.ending.side_ends.Given as goal
 
 abbrev pub invariant-loop-left : goal.invariant-loop-left

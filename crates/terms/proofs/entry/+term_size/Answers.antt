@@ -1,9 +1,7 @@
 -- `terms::entry::term_size` meets its contract; the measure is the length. Assumes nothing.
-use lib.ListN.{length}
 use Rattle.terms.proofs.EntryLaws.{begins-tag, begins, pair-first, wrapped-first, leaf_first, right-begins, pair-walked, wrapped-walked}
 use mathlib.Core.Path.{sym, ◌∙◌}
 use Rattle.terms.proofs.TagLaws.{one_tag, one-child}
-use Prim.Native.Nat.{ℕ, ◌<◌}
 use borrow.Author.Rules.{rules}
 use Rattle.terms.proofs.entry.+term_size.Goals as goal
 

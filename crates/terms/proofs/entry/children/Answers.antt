@@ -5,7 +5,6 @@ use native.Mathlib.Omega.{arith}
 use lib.ListN.{get_or}
 use Rattle.terms.specs.Tag.{children_of}
 use Rattle.terms.proofs.TagLaws.{children_table, table-children, few-children}
-use borrow.Author.Rules.{rules}
 use Rattle.terms.proofs.entry.children.Goals as goal
 
 pub returns : goal.returns

@@ -1,9 +1,7 @@
 -- `terms::entry::fill_sizes` meets its contract: the sizes from entry `left` on are there, and what stands before is kept. Assumes nothing.
-use Prim.Native.Nat.{◌≤◌, ◌*◌, ◌+◌, ◌-◌}
+use Prim.Native.Nat.{◌+◌, ◌-◌}
 use mathlib.Core.Path.{◌≡◌, refl}
 use native.Mathlib.Omega.{arith}
-use lib.ListN.{length}
-use Rattle.terms.specs.Sizes.{SizedFrom, KeptBelow}
 use Rattle.terms.proofs.SizeLaws.{sized-none, sized-more, kept_more}
 use borrow.Author.Rules.{rules}
 use Rattle.terms.proofs.entry.fill_sizes.Goals as goal
@@ -27,9 +25,9 @@ bounds-z-base c = omega (arith, c.loop-left.invariant.0, c.loop-left.invariant.1
 pub loop-left-preserved : goal.loop-left-preserved
 loop-left-preserved c =
     let up : c.loop-left.left - 1 + 1 ≡ c.loop-left.left = omega arith in (
-    omega (arith, c.loop-left.invariant.0),
-    sized-more {z = c.loop-left.z} (rw up c.loop-left.invariant.1) (omega (arith, c.loop-left.invariant.0, c.loop-left.invariant.1.room)) c.size_by_children.ensures,
-    kept_more _ c.loop-left.invariant.2 (omega arith),
+      omega (arith, c.loop-left.invariant.0),
+      sized-more {z = c.loop-left.z} (rw up c.loop-left.invariant.1) (omega (arith, c.loop-left.invariant.0, c.loop-left.invariant.1.room)) c.size_by_children.ensures,
+      kept_more _ c.loop-left.invariant.2 (omega arith),
     )
 
 pub shape_of-z : goal.shape_of-z

@@ -1,9 +1,6 @@
-use Prim.Native.Nat.{◌≤◌, ◌*◌, ◌+◌, ◌-◌}
-use mathlib.Core.Path.{◌≡◌, refl}
-use native.Mathlib.Omega.{arith}
+use Prim.Native.Nat.{◌≤◌, ◌*◌}
 use lib.ListN.{length}
 use Rattle.terms.specs.Sizes.{SizedFrom, KeptBelow}
-use Rattle.terms.proofs.SizeLaws.{sized-none, sized-more, kept_more}
 use Rattle.terms.proofs.entry.fill_sizes.Given as goal
 
 abbrev pub invariant-loop-left : goal.invariant-loop-left

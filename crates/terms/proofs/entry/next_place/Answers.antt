@@ -10,9 +10,9 @@ use Rattle.terms.proofs.entry.next_place.Goals as goal
 pub returns-then-e-k-eq-HASH : goal.returns-then-e-k-eq-HASH
 returns-then-e-k-eq-HASH c =
     let args = c.args in let is = c.term_size.ensures in (
-    past-hash args.e.now args.k c.if-e-k-eq-HASH.true is.0,
-    omega (arith, is.0, size-positive (term_of (from (4 * args.k) args.e.now))),
-    omega (arith, is.1, from-length (4 * args.k) args.e.now),
+      past-hash args.e.now args.k c.if-e-k-eq-HASH.true is.0,
+      omega (arith, is.0, size-positive (term_of (from (4 * args.k) args.e.now))),
+      omega (arith, is.1, from-length (4 * args.k) args.e.now),
     )
 
 pub returns-else-e-k-eq-HASH : goal.returns-else-e-k-eq-HASH

@@ -1,7 +1,5 @@
 -- `terms::entry::sizes` meets its contract. Assumes nothing.
-use native.Mathlib.Omega.{arith}
 use Rattle.terms.proofs.SizeLaws.{sizes-filled}
-use borrow.Author.Rules.{rules}
 use Rattle.terms.proofs.entry.sizes.Goals as goal
 
 pub returns : goal.returns

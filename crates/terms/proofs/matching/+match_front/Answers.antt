@@ -1,15 +1,12 @@
 -- `terms::matching::match_front` meets its contract; the measure is the length. Assumes nothing.
-use borrow.Author.Tests.{not-true, not-false}
 use native.Mathlib.Omega.{arith}
 use Rattle.terms.proofs.AnswerLaws.{says-yes, says-no}
-use lib.ListN.{length}
 use Rattle.terms.proofs.EntryLaws.{begins-tag}
 use Rattle.terms.proofs.FrontLaws.{front-begins}
 use Rattle.terms.proofs.SameLaws.{said, denied}
 use Rattle.terms.proofs.MatchLaws.{made_none, pattern-begins, subject-begins, comparable, variable-ready, variable-step, variable-last, variable-clash}
 use Rattle.terms.proofs.MatchLaws.{variable-nonces, variable-refused}
 use Rattle.terms.proofs.MatchLaws.{symbol-ready, symbol-step, symbol-clash}
-use Prim.Native.Nat.{ℕ, ◌<◌}
 use borrow.Author.Rules.{rules}
 use Rattle.terms.proofs.matching.+match_front.Goals as goal
 
@@ -42,11 +39,10 @@ pub term_size-requires : goal.term_size-requires
 term_size-requires t c = subject-begins c.requires c.if-need-eq0.false
 
 pub match_front-requires : goal.match_front-requires
-match_front-requires t c =
-    (
-    search rules,
-    variable-ready c.requires c.if-need-eq0.false c.slot-x.ensures c.if-x-lt-SLOTS.true (search rules) c.term_size.ensures.0 c.bind.ensures,
-    )
+match_front-requires t c = (
+  search rules,
+  variable-ready c.requires c.if-need-eq0.false c.slot-x.ensures c.if-x-lt-SLOTS.true (search rules) c.term_size.ensures.0 c.bind.ensures,
+)
 
 pub same_entry-requires : goal.same_entry-requires
 same_entry-requires t c =
@@ -56,11 +52,10 @@ pub children-requires : goal.children-requires
 children-requires t c = begins-tag (pattern-begins c.requires c.if-need-eq0.false)
 
 pub match_front-requires-then-same_entry : goal.match_front-requires-then-same_entry
-match_front-requires-then-same_entry t c =
-    (
-    search rules,
-    symbol-ready c.requires c.if-need-eq0.false c.slot-x.ensures c.if-x-lt-SLOTS.false (said c.if-same_entry.true c.same_entry.ensures) c.children.ensures.0,
-    )
+match_front-requires-then-same_entry t c = (
+  search rules,
+  symbol-ready c.requires c.if-need-eq0.false c.slot-x.ensures c.if-x-lt-SLOTS.false (said c.if-same_entry.true c.same_entry.ensures) c.children.ensures.0,
+)
 
 pub returns-else-need-eq1 : goal.returns-else-need-eq1
 returns-else-need-eq1 t c =

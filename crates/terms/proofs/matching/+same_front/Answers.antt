@@ -1,9 +1,7 @@
 -- `terms::matching::same_front` meets its contract; the measure is the length. Assumes nothing.
-use lib.ListN.{length}
 use Rattle.terms.proofs.EntryLaws.{begins-tag}
 use Rattle.terms.proofs.FrontLaws.{front-begins, none-compared}
 use Rattle.terms.proofs.SameLaws.{same-below, same_step, same-clash, said, denied}
-use Prim.Native.Nat.{ℕ, ◌<◌}
 use borrow.Author.Rules.{rules}
 use Rattle.terms.proofs.matching.+same_front.Goals as goal
 

@@ -3,7 +3,6 @@ use mathlib.Core.Path.{sym}
 use Rattle.terms.specs.Decide.{match?}
 use Rattle.terms.proofs.AnswerLaws.{answer-no}
 use Rattle.terms.proofs.InstanceLaws.{becomes, matched-common}
-use borrow.Author.Rules.{rules}
 use Rattle.terms.proofs.matching.matches.Goals as goal
 
 pub same_run-run-requires : goal.same_run-run-requires

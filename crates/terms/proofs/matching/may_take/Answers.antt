@@ -1,6 +1,5 @@
 -- `terms::matching::may_take` meets its contract. Assumes nothing.
 use Rattle.terms.proofs.NonceLaws.{free-takes, nonce-takes}
-use borrow.Author.Rules.{rules}
 use Rattle.terms.proofs.matching.may_take.Goals as goal
 
 pub returns-then-x-lt-ANY_SLOTS : goal.returns-then-x-lt-ANY_SLOTS

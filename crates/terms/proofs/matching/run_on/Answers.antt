@@ -1,10 +1,7 @@
 -- `terms::matching::run_on` meets its contract: the first k entries of both are the same symbols. Assumes nothing.
 use mathlib.Core.Path.{ap, ◌∙◌}
-use Prim.Native.Nat.{◌-◌}
-use lib.ListN.{length}
 use Rattle.terms.specs.Tag.{children_of}
 use Rattle.terms.proofs.AnswerLaws.{says-yes, says-no}
-use Rattle.terms.specs.Front.{Ran}
 use Rattle.terms.proofs.RunLaws.{ran-start, ran-more, front-room, front-tag, ran-small}
 use Rattle.terms.proofs.TermGraphLaws.{tag-from}
 use borrow.Author.Rules.{rules}

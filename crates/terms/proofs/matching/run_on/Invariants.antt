@@ -1,11 +1,6 @@
-use mathlib.Core.Path.{ap, ◌∙◌}
 use Prim.Native.Nat.{◌-◌}
 use lib.ListN.{length}
-use Rattle.terms.specs.Tag.{children_of}
-use Rattle.terms.proofs.AnswerLaws.{says-yes, says-no}
 use Rattle.terms.specs.Front.{Ran}
-use Rattle.terms.proofs.RunLaws.{ran-start, ran-more, front-room, front-tag, ran-small}
-use Rattle.terms.proofs.TermGraphLaws.{tag-from}
 use Rattle.terms.proofs.matching.run_on.Given as goal
 
 abbrev pub invariant-loop-left : goal.invariant-loop-left

@@ -1,6 +1,4 @@
 -- `terms::matching::same` meets its contract. Assumes nothing.
-use native.Mathlib.Omega.{arith}
-use borrow.Author.Tests.{not-true}
 use Rattle.terms.proofs.SameLaws.{denied}
 use Rattle.terms.proofs.RunLaws.{first-differs, run-same}
 use borrow.Author.Rules.{rules}

@@ -1,6 +1,5 @@
 -- `terms::matching::same_entry` meets its contract. Assumes nothing.
 use Rattle.terms.proofs.SameLaws.{same_word}
-use borrow.Author.Rules.{rules}
 use Rattle.terms.proofs.matching.same_entry.Goals as goal
 
 pub returns : goal.returns

@@ -1,7 +1,6 @@
 -- `terms::matching::same_run` meets its contract. Assumes nothing.
 use native.Mathlib.Omega.{arith}
 use Rattle.terms.proofs.FrontLaws.{front-few}
-use borrow.Author.Rules.{rules}
 use Rattle.terms.proofs.matching.same_run.Goals as goal
 
 pub run_on-requires : goal.run_on-requires

@@ -1,6 +1,5 @@
 -- `terms::matching::word` meets its contract. Assumes nothing.
 use native.Mathlib.Omega.{arith}
-use borrow.Author.Rules.{rules}
 use Rattle.terms.proofs.matching.word.Goals as goal
 
 pub returns : goal.returns

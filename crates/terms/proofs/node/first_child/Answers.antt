@@ -22,13 +22,13 @@ home-requires-else-i-lt-RIGHT_NODES c =
 pub returns-then-i-lt-RIGHT_NODES : goal.returns-then-i-lt-RIGHT_NODES
 returns-then-i-lt-RIGHT_NODES c =
     let pre = c.requires in let s = c.args.s.now in let t = c.args.t.now in let i = c.args.i in let here = c.if-i-lt-RIGHT_NODES.true in (
-    c.home.ensures.0 ∙ first-on-left s t i here,
-    subst (AtHome s t) (sym c.home.ensures.0) (home-left s t (i + 1) pre.0 (left-first-fits pre.0 pre.1 here)),
+      c.home.ensures.0 ∙ first-on-left s t i here,
+      subst (AtHome s t) (sym c.home.ensures.0) (home-left s t (i + 1) pre.0 (left-first-fits pre.0 pre.1 here)),
     )
 
 pub returns-else-i-lt-RIGHT_NODES : goal.returns-else-i-lt-RIGHT_NODES
 returns-else-i-lt-RIGHT_NODES c =
     let pre = c.requires in let s = c.args.s.now in let t = c.args.t.now in let i = c.args.i in let here = c.if-i-lt-RIGHT_NODES.false in let low = (child-inside pre.0 pre.1).low in (
-    c.home-else-i-lt-RIGHT_NODES.ensures.0 ∙ first-on-right s t i here low,
-    subst (AtHome s t) (sym c.home-else-i-lt-RIGHT_NODES.ensures.0) (home-right s t (i - 64 + 1) pre.0 (right-first-fits pre.0 pre.1 here low)),
+      c.home-else-i-lt-RIGHT_NODES.ensures.0 ∙ first-on-right s t i here low,
+      subst (AtHome s t) (sym c.home-else-i-lt-RIGHT_NODES.ensures.0) (home-right s t (i - 64 + 1) pre.0 (right-first-fits pre.0 pre.1 here low)),
     )

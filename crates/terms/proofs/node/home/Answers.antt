@@ -6,7 +6,6 @@ use mathlib.Core.Path.{ap, ◌∙◌}
 use Prim.Native.Nat.{ℕ, ◌+◌, ◌%◌}
 use native.Mathlib.Omega.{arith}
 use Rattle.terms.specs.Tag.{variables}
-use borrow.Author.Tests.{not-true, not-false}
 use borrow.Author.Rules.{rules}
 use Rattle.terms.proofs.node.home.Goals as goal
 
@@ -32,8 +31,8 @@ overflow_add-result-3 c =
 pub returns : goal.returns
 returns c =
     let args = c.args in let first = c.first_slot.ensures.0 in let is = c.wide.ensures.0 in let few = c.if-wide-gt-LAST.false in (
-    ap (λ (n : ℕ). args.slots + n + c.value.result % variables) first
-    ∙ home-variable args.e.now args.base args.slots args.k (says-yes c.is_variable.result c.is_variable.ensures (c.if-not-is_variable.false)) (omega (arith, few, is))
-    (value-part args.e.now args.k c.value.ensures.0),
-    search rules,
+      ap (λ (n : ℕ). args.slots + n + c.value.result % variables) first
+          ∙ home-variable args.e.now args.base args.slots args.k (says-yes c.is_variable.result c.is_variable.ensures (c.if-not-is_variable.false)) (omega (arith, few, is))
+          (value-part args.e.now args.k c.value.ensures.0),
+      search rules,
     )

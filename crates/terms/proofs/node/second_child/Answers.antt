@@ -62,14 +62,14 @@ pub returns-then-i-lt-RIGHT_NODES : goal.returns-then-i-lt-RIGHT_NODES
 returns-then-i-lt-RIGHT_NODES c =
     let s = c.args.s.now in let t = c.args.t.now in let i = c.args.i in let there = left_there (goal.at.returns-then-i-lt-RIGHT_NODES c).Then-i-lt-RIGHT_NODES in
     let is = c.home.ensures.0 ∙ ap (home s 0 variable_nodes) (left-read (goal.at.returns-then-i-lt-RIGHT_NODES c).After-wide) in (
-    is ∙ second-on-left s t i c.if-i-lt-RIGHT_NODES.true,
-    subst (AtHome s t) (sym is) (home-left s t (right_in s i) c.requires.0 there.fits),
+      is ∙ second-on-left s t i c.if-i-lt-RIGHT_NODES.true,
+      subst (AtHome s t) (sym is) (home-left s t (right_in s i) c.requires.0 there.fits),
     )
 
 pub returns-else-i-lt-RIGHT_NODES : goal.returns-else-i-lt-RIGHT_NODES
 returns-else-i-lt-RIGHT_NODES c =
     let s = c.args.s.now in let t = c.args.t.now in let i = c.args.i in let there = right_there (goal.at.returns-else-i-lt-RIGHT_NODES c).Else-i-lt-RIGHT_NODES in
     let is = c.home-else-i-lt-RIGHT_NODES.ensures.0 ∙ ap (home t right_nodes right_variables) (right-read (goal.at.returns-else-i-lt-RIGHT_NODES c).After-wide-else-i-lt-RIGHT_NODES) in (
-    is ∙ second-on-right s t i c.if-i-lt-RIGHT_NODES.false (low (goal.at.returns-else-i-lt-RIGHT_NODES c).Else-i-lt-RIGHT_NODES),
-    subst (AtHome s t) (sym is) (home-right s t (right_in t (i - 64)) c.requires.0 there.fits),
+      is ∙ second-on-right s t i c.if-i-lt-RIGHT_NODES.false (low (goal.at.returns-else-i-lt-RIGHT_NODES c).Else-i-lt-RIGHT_NODES),
+      subst (AtHome s t) (sym is) (home-right s t (right_in t (i - 64)) c.requires.0 there.fits),
     )

@@ -1,6 +1,5 @@
 -- `terms::node::tag_at` meets its contract. Assumes nothing.
 use mathlib.Core.Path.{sym}
-use native.Mathlib.Omega.{arith}
 use Rattle.terms.proofs.NodeLaws.{left-tag, right-tag}
 use borrow.Author.Rules.{rules}
 use Rattle.terms.proofs.node.tag_at.Goals as goal

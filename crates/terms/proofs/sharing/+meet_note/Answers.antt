@@ -1,7 +1,6 @@
 -- `terms::sharing::meet` and `note` meet their contracts; the measure is twice the number of entries left, one more for `meet`.
 -- Assumes nothing.
 use Rattle.terms.specs.Entry.{term_of, from}
-use borrow.Author.Tests.{not-true}
 use Rattle.terms.proofs.AnswerLaws.{says-no}
 use Rattle.terms.proofs.EntryLaws.{size-positive}
 use Rattle.terms.proofs.FrontLaws.{front-begins}
@@ -9,7 +8,7 @@ use Rattle.terms.proofs.TermGraphLaws.{tag-from}
 use Rattle.terms.proofs.SizeLaws.{size-at}
 use Rattle.terms.proofs.MeetingLaws.{walking-done, walking-room, walking-apart, walking-more}
 use native.Mathlib.Omega.{arith}
-use Prim.Native.Nat.{ℕ, ◌<◌, ◌+◌, ◌*◌, ◌-◌}
+use Prim.Native.Nat.{◌*◌}
 use borrow.Author.Rules.{rules}
 use Rattle.terms.proofs.sharing.+meet_note.Goals as goal
 
@@ -103,13 +102,13 @@ note-meet-requires t c =
     let left = size-at args.i pre.1 (front-begins pre.3.front pre.4) c.wide.ensures.0 in
     let right = size-at args.j pre.2 (front-begins pre.3.other_front pre.4) c.wide-2.ensures.0 in
     let some = size-positive (term_of (from (4 * args.i) args.s.now)) in (
-    omega (arith, c.decreases, room.0, pre.0.left_short, left.0, some),
-    (
-    pre.0,
-    pre.1,
-    pre.2,
-    walking-more pre.3 pre.4 pre.0 left.0 right.0 left.1 right.1 (omega (arith, pre.3.passed, room.0, pre.0.left_short)),
-    ),
+      omega (arith, c.decreases, room.0, pre.0.left_short, left.0, some),
+      (
+        pre.0,
+        pre.1,
+        pre.2,
+        walking-more pre.3 pre.4 pre.0 left.0 right.0 left.1 right.1 (omega (arith, pre.3.passed, room.0, pre.0.left_short)),
+      ),
     )
 
 pub note-returns : goal.note-returns

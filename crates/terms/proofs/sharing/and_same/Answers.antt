@@ -1,7 +1,6 @@
 -- `terms::sharing::and_same` meets its contract. Assumes nothing.
 use mathlib.Core.Bool.{false≢true}
 use borrow.Author.Tests.{eqb-true}
-use borrow.Author.Rules.{rules}
 use Rattle.terms.proofs.sharing.and_same.Goals as goal
 
 pub returns-then-before : goal.returns-then-before

@@ -1,15 +1,14 @@
 -- `terms::sharing::is_free_match` meets its contract: the first k noted variables are distinct, and their slots are marked. Assumes nothing.
 use mathlib.Core.Path.{◌≡◌, refl, ap, ◌∙◌}
 use mathlib.Core.Bool.{false≢true}
-use Prim.Native.Nat.{ℕ, ◌≤◌, ◌<◌, ◌*◌, ◌-◌}
+use Prim.Native.Nat.{ℕ, ◌<◌, ◌*◌}
 use native.Mathlib.Omega.{arith}
-use lib.ListN.{length, length-set}
+use lib.ListN.{length-set}
 use borrow.Author.Rules.{part_to_end}
 use Rattle.terms.specs.Entry.{term_of, from}
 use Rattle.terms.proofs.EntryLaws.{suffix}
 use Rattle.terms.specs.Slot.{any_slots, slot_of}
-use Rattle.terms.specs.Meetings.{Distinct}
-use Rattle.terms.proofs.MeetingLaws.{Seen, distinct_none, distinct_more, seen-new, seen_more}
+use Rattle.terms.proofs.MeetingLaws.{distinct_none, distinct_more, seen-new, seen_more}
 use borrow.Author.Rules.{rules}
 use Rattle.terms.proofs.sharing.is_free_match.Goals as goal
 
@@ -54,10 +53,10 @@ pub loop-k-preserved : goal.loop-k-preserved
 loop-k-preserved c =
     let inv = c.loop-k.invariant in let s = c.args.s.now in let is = c.slot-x.ensures ∙ ap (λ (a : ℕ). slot_of (term_of (from (4 * a) s))) c.wide-at.ensures.0 in
     let low : c.slot-x.result < any_slots = search rules in (
-    search rules,
-    simp length-set inv.1,
-    distinct_more inv.2 (omega (arith, is, low)) (seen-new inv.3 is c.if-seen-x-eq1.false),
-    seen_more inv.3 is (omega (arith, inv.1, low)),
+      search rules,
+      simp length-set inv.1,
+      distinct_more inv.2 (omega (arith, is, low)) (seen-new inv.3 is c.if-seen-x-eq1.false),
+      seen_more inv.3 is (omega (arith, inv.1, low)),
     )
 
 pub returns : goal.returns

@@ -1,14 +1,9 @@
-use mathlib.Core.Path.{◌≡◌, refl, ap, ◌∙◌}
-use mathlib.Core.Bool.{false≢true}
-use Prim.Native.Nat.{ℕ, ◌≤◌, ◌<◌, ◌*◌, ◌-◌}
-use native.Mathlib.Omega.{arith}
-use lib.ListN.{length, length-set}
-use borrow.Author.Rules.{part_to_end}
-use Rattle.terms.specs.Entry.{term_of, from}
-use Rattle.terms.proofs.EntryLaws.{suffix}
-use Rattle.terms.specs.Slot.{any_slots, slot_of}
+use mathlib.Core.Path.{◌≡◌}
+use Prim.Native.Nat.{◌≤◌, ◌-◌}
+use lib.ListN.{length}
+use Rattle.terms.specs.Slot.{any_slots}
 use Rattle.terms.specs.Meetings.{Distinct}
-use Rattle.terms.proofs.MeetingLaws.{Seen, distinct_none, distinct_more, seen-new, seen_more}
+use Rattle.terms.proofs.MeetingLaws.{Seen}
 use Rattle.terms.proofs.sharing.is_free_match.Given as goal
 
 abbrev pub invariant-loop-k : goal.invariant-loop-k

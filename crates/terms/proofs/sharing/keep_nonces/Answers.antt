@@ -5,7 +5,6 @@ use Rattle.terms.specs.Decisions.{says_same}
 use Rattle.terms.specs.TermGraph.{variable_nodes, right_variables}
 use Rattle.terms.proofs.AnswerLaws.{says-yes, says-no}
 use Rattle.terms.proofs.NonceLaws.{variable-node}
-use borrow.Author.Rules.{rules}
 use Rattle.terms.proofs.sharing.keep_nonces.Goals as goal
 
 pub nonces_alone-requires : goal.nonces_alone-requires
@@ -14,8 +13,8 @@ nonces_alone-requires c = c.requires.1.long
 pub returns-then-nonces_alone : goal.returns-then-nonces_alone
 returns-then-nonces_alone c =
     λ atoms told. let args = c.args in let own = c.nonces_alone.ensures c.if-nonces_alone.true in record {
-    left = λ k far near. rw (own.left k far near) (variable-node atoms args.s.now args.t.now (variable_nodes + k) (omega arith));
-    right = λ k far near. rw (own.right k far near) (variable-node atoms args.s.now args.t.now (right_variables + k) (omega arith));
+      left = λ k far near. rw (own.left k far near) (variable-node atoms args.s.now args.t.now (variable_nodes + k) (omega arith));
+      right = λ k far near. rw (own.right k far near) (variable-node atoms args.s.now args.t.now (right_variables + k) (omega arith));
     }
 
 pub side_keeps-requires : goal.side_keeps-requires

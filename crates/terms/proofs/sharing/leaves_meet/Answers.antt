@@ -2,7 +2,6 @@
 use mathlib.Core.Path.{sym, ◌∙◌}
 use mathlib.Core.Bool.{false≢true}
 use borrow.Author.Tests.{eqb-true}
-use borrow.Author.Rules.{rules}
 use Rattle.terms.proofs.sharing.leaves_meet.Goals as goal
 
 pub returns-then-not-is_variable-2 : goal.returns-then-not-is_variable-2

@@ -2,11 +2,8 @@ use mathlib.Core.Path.{◌≡◌}
 use mathlib.Core.Bool.{true}
 use Prim.Native.Nat.{ℕ, ◌+◌, ◌-◌, ◌≤◌, ◌<◌}
 use lib.ListN.{get_or}
-use native.Mathlib.Omega.{arith}
-use native.Mathlib.Decide.{ℕ_discrete}
 use Rattle.terms.specs.Slot.{any_slots, slot_count}
 use Rattle.terms.specs.TermGraph.{variable_nodes, right_variables}
-use Rattle.terms.proofs.NameLaws.{own_name}
 use Rattle.terms.proofs.sharing.nonces_alone.Given as goal
 
 abbrev pub invariant-loop-k : goal.invariant-loop-k

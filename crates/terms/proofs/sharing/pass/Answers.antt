@@ -1,9 +1,7 @@
 -- `terms::sharing::pass` meets its contract: the walk goes on at entries i and j. Assumes nothing.
-use Prim.Native.Nat.{◌≤◌, ◌*◌, ◌-◌}
+use Prim.Native.Nat.{◌*◌}
 use native.Mathlib.Omega.{arith}
-use borrow.Author.Tests.{not-false}
 use Rattle.terms.proofs.EntryLaws.{from-length}
-use Rattle.terms.specs.Meetings.{Walking}
 use Rattle.terms.proofs.RunLaws.{front-tag}
 use Rattle.terms.proofs.MeetingLaws.{walking_run, run-stops, walking-room, walking-leaves}
 use borrow.Author.Rules.{rules}

@@ -1,10 +1,5 @@
-use Prim.Native.Nat.{◌≤◌, ◌*◌, ◌-◌}
-use native.Mathlib.Omega.{arith}
-use borrow.Author.Tests.{not-false}
-use Rattle.terms.proofs.EntryLaws.{from-length}
+use Prim.Native.Nat.{◌≤◌, ◌-◌}
 use Rattle.terms.specs.Meetings.{Walking}
-use Rattle.terms.proofs.RunLaws.{front-tag}
-use Rattle.terms.proofs.MeetingLaws.{walking_run, run-stops, walking-room, walking-leaves}
 use Rattle.terms.proofs.sharing.pass.Given as goal
 
 abbrev pub invariant-loop-left : goal.invariant-loop-left

@@ -3,7 +3,6 @@ use mathlib.Core.Bool.{false≢true}
 use native.Mathlib.Omega.{arith}
 use borrow.Author.Tests.{not-true}
 use Rattle.terms.proofs.AnswerLaws.{says-no}
-use borrow.Author.Rules.{rules}
 use Rattle.terms.proofs.sharing.roots_differ.Goals as goal
 
 pub returns-then-is_variable : goal.returns-then-is_variable

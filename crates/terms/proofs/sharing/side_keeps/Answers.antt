@@ -1,16 +1,7 @@
 -- `terms::sharing::side_keeps` meets its contract. Assumes nothing.
-use borrow.Author.Tests.{not-true, not-false}
-use mathlib.Core.List.{List}
 use mathlib.Core.Logic.{inl}
-use Prim.Native.Nat.{ℕ, ◌+◌, ◌-◌, ◌≤◌, ◌<◌}
 use native.Mathlib.Omega.{arith}
 use native.Mathlib.Decide.{ℕ_discrete}
-use Rattle.terms.specs.declared.atom.Atom.{Atom}
-use Rattle.terms.specs.Nonces.{NoncesIn}
-use Rattle.terms.specs.Slot.{any_slots, slot_count}
-use Rattle.terms.specs.Graph.{NonceNode}
-use Rattle.terms.specs.TermGraph.{node_of}
-use Rattle.terms.specs.Names.{name_of}
 use Rattle.terms.proofs.AnswerLaws.{says-yes, says-no}
 use Rattle.terms.proofs.NameLaws.{name-home}
 use borrow.Author.Rules.{rules}
@@ -31,15 +22,14 @@ returns-then-not-may_be_nonce c =
     λ atoms told. λ all. says-no c.may_be_nonce.result (c.may_be_nonce.ensures atoms told) (c.if-not-may_be_nonce.true) (rw c.find.ensures.0 (all c.loop-k.k c.loop-k.invariant.1 c.loop-k-test.true))
 
 pub loop-k-preserved : goal.loop-k-preserved
-loop-k-preserved c =
-    (
-    search rules,
-    search rules,
-    λ atoms told k far near. elim (ℕ_discrete k c.loop-k.k) [
+loop-k-preserved c = (
+  search rules,
+  search rules,
+  λ atoms told k far near. elim (ℕ_discrete k c.loop-k.k) [
     | yes e ↦ rw (e, ← c.find.ensures.0) (says-yes c.may_be_nonce.result (c.may_be_nonce.ensures atoms told) (c.if-not-may_be_nonce.false))
     | no off ↦ c.loop-k.invariant.2 atoms told k far (omega arith)
-    ],
-    )
+  ],
+)
 
 pub returns : goal.returns
 returns c = λ atoms told k far near. c.loop-k.invariant.2 atoms told k far (omega arith)

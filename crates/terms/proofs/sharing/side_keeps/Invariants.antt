@@ -1,17 +1,11 @@
-use borrow.Author.Tests.{not-true, not-false}
 use mathlib.Core.List.{List}
-use mathlib.Core.Logic.{inl}
 use Prim.Native.Nat.{ℕ, ◌+◌, ◌-◌, ◌≤◌, ◌<◌}
-use native.Mathlib.Omega.{arith}
-use native.Mathlib.Decide.{ℕ_discrete}
 use Rattle.terms.specs.declared.atom.Atom.{Atom}
 use Rattle.terms.specs.Nonces.{NoncesIn}
 use Rattle.terms.specs.Slot.{any_slots, slot_count}
 use Rattle.terms.specs.Graph.{NonceNode}
 use Rattle.terms.specs.TermGraph.{node_of}
 use Rattle.terms.specs.Names.{name_of}
-use Rattle.terms.proofs.AnswerLaws.{says-yes, says-no}
-use Rattle.terms.proofs.NameLaws.{name-home}
 use Rattle.terms.proofs.sharing.side_keeps.Given as goal
 
 abbrev pub invariant-loop-k : goal.invariant-loop-k

@@ -4,7 +4,6 @@ use Rattle.terms.specs.Decisions.{says_same}
 use Rattle.terms.specs.Tag.{marked_nonce_tag}
 use lib.Dec.{eqb}
 use Rattle.terms.proofs.AnswerLaws.{says_eq}
-use borrow.Author.Rules.{rules}
 use Rattle.terms.proofs.tag.is_marked.Goals as goal
 
 pub returns-then-tag-eq-MARKED : goal.returns-then-tag-eq-MARKED

@@ -2,7 +2,6 @@
 use Prim.Native.Nat.{◌%◌}
 use Rattle.terms.specs.Tag.{plain_tag}
 use Rattle.terms.proofs.AnswerLaws.{says-le}
-use borrow.Author.Rules.{rules}
 use Rattle.terms.proofs.tag.is_variable.Goals as goal
 
 pub returns : goal.returns

@@ -1,6 +1,5 @@
 -- `terms::valid::are_terms` meets its contract; the measure is the number of entries left. Assumes nothing.
 use Rattle.terms.proofs.CountLaws.{none-left-terms, none-needed-terms, next-terms}
-use Prim.Native.Nat.{ℕ, ◌-◌, ◌<◌}
 use borrow.Author.Rules.{rules}
 use Rattle.terms.proofs.valid.+are_terms.Goals as goal
 

@@ -1,5 +1,4 @@
-use Rattle.terms.proofs.CountLaws.{none-left-terms, none-needed-terms, next-terms}
-use Prim.Native.Nat.{ℕ, ◌-◌, ◌<◌}
+use Prim.Native.Nat.{◌-◌}
 use Rattle.terms.proofs.valid.+are_terms.Given as goal
 
 abbrev pub decreases-are_terms : goal.decreases-are_terms

@@ -1,10 +1,8 @@
 -- `terms::valid::is_encryption` meets its contract. Assumes nothing.
-use Rattle.terms.specs.Term.{encryption}
 use Rattle.terms.proofs.OneTermLaws.{says-encryption}
 use Rattle.terms.specs.OneTerm.{encryption?}
 use Rattle.terms.specs.Entry.{term_of}
 use Rattle.terms.proofs.AnswerLaws.{says-answer}
-use borrow.Author.Rules.{rules}
 use Rattle.terms.proofs.valid.is_encryption.Goals as goal
 
 pub returns : goal.returns

@@ -3,7 +3,6 @@ use mathlib.Core.Path.{ap₂}
 use mathlib.Core.List.{[], ◌∷◌}
 use Prim.Native.Nat.{ℕ}
 use Rattle.terms.specs.EntryTables.{limits_of}
-use borrow.Author.Rules.{rules}
 use Rattle.terms.proofs.valid.limits.Goals as goal
 
 pub returns : goal.returns

@@ -1,7 +1,6 @@
 -- `terms::valid::listed_kind` meets its contract. Assumes nothing.
 use Rattle.terms.proofs.EntryTableLaws.{kind-low, kind-high}
 use native.Mathlib.Omega.{arith}
-use borrow.Author.Rules.{rules}
 use Rattle.terms.proofs.valid.listed_kind.Goals as goal
 
 pub returns-then-kind-le-SYMMETRIC : goal.returns-then-kind-le-SYMMETRIC

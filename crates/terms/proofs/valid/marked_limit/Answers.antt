@@ -1,6 +1,5 @@
 -- `terms::valid::marked_limit` meets its contract. Assumes nothing.
 use Rattle.terms.proofs.EntryTableLaws.{marked-good, marked-bad, marked_other}
-use borrow.Author.Rules.{rules}
 use Rattle.terms.proofs.valid.marked_limit.Goals as goal
 
 pub returns-then-kind-eq-GOOD : goal.returns-then-kind-eq-GOOD

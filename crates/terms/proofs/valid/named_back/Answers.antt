@@ -1,6 +1,5 @@
 -- `terms::valid::named_back` meets its contract. Assumes nothing.
 use Rattle.terms.proofs.AtomLaws.{back-other, back-named}
-use borrow.Author.Rules.{rules}
 use Rattle.terms.proofs.valid.named_back.Goals as goal
 
 pub returns-then-partner-other : goal.returns-then-partner-other

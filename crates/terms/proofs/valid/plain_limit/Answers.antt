@@ -1,6 +1,5 @@
 -- `terms::valid::plain_limit` meets its contract. Assumes nothing.
 use Rattle.terms.proofs.EntryTableLaws.{plain-secret, plain_other}
-use borrow.Author.Rules.{rules}
 use Rattle.terms.proofs.valid.plain_limit.Goals as goal
 
 pub returns-then-kind-eq-SECRET : goal.returns-then-kind-eq-SECRET

@@ -1,6 +1,5 @@
 -- `terms::valid::right_atom` meets its contract. Assumes nothing.
 use Rattle.terms.proofs.AtomLaws.{atom-unknown, atom-principal, atom-nonce, atom-public, atom-private, atom-symmetric, atom-no-kind}
-use borrow.Author.Rules.{rules}
 use Rattle.terms.proofs.valid.right_atom.Goals as goal
 
 pub returns-then-atom-gt1 : goal.returns-then-atom-gt1

@@ -1,8 +1,6 @@
 -- `terms::valid::tags` meets its contract: the first k tags are taken. Assumes nothing.
-use mathlib.Core.Path.{◌≡◌, refl}
-use Prim.Native.Nat.{◌≤◌, ◌-◌, ◌/◌}
-use lib.ListN.{length, length-set, take}
-use Rattle.terms.specs.Count.{tags_of}
+use mathlib.Core.Path.{refl}
+use lib.ListN.{length-set}
 use Rattle.terms.proofs.CountLaws.{tag-stored, tags-stored}
 use borrow.Author.Rules.{rules}
 use Rattle.terms.proofs.valid.tags.Goals as goal

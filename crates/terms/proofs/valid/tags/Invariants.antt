@@ -1,8 +1,7 @@
-use mathlib.Core.Path.{◌≡◌, refl}
+use mathlib.Core.Path.{◌≡◌}
 use Prim.Native.Nat.{◌≤◌, ◌-◌, ◌/◌}
-use lib.ListN.{length, length-set, take}
+use lib.ListN.{length, take}
 use Rattle.terms.specs.Count.{tags_of}
-use Rattle.terms.proofs.CountLaws.{tag-stored, tags-stored}
 use Rattle.terms.proofs.valid.tags.Given as goal
 
 abbrev pub invariant-loop-k : goal.invariant-loop-k

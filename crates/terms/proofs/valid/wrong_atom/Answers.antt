@@ -1,10 +1,7 @@
 -- `terms::valid::wrong_atom` meets its contract: the atoms before atom i are right. Assumes nothing.
 use native.Mathlib.Omega.{arith}
-use Prim.Native.Nat.{ℕ, ◌+◌, ◌≤◌, ◌<◌, ◌/◌, ◌-◌}
-use lib.ListN.{length}
 use borrow.Author.Count.{below_none, below_more}
 use Rattle.terms.proofs.AnswerLaws.{says-yes, says-no}
-use Rattle.terms.specs.Atom.{AtomRight, joined_atoms}
 use Rattle.terms.proofs.AtomLaws.{joined_length, atom-wrong, atoms-right}
 use borrow.Author.Rules.{rules}
 use Rattle.terms.proofs.valid.wrong_atom.Goals as goal

@@ -1,10 +1,6 @@
-use native.Mathlib.Omega.{arith}
 use Prim.Native.Nat.{ℕ, ◌+◌, ◌≤◌, ◌<◌, ◌/◌, ◌-◌}
 use lib.ListN.{length}
-use borrow.Author.Count.{below_none, below_more}
-use Rattle.terms.proofs.AnswerLaws.{says-yes, says-no}
 use Rattle.terms.specs.Atom.{AtomRight, joined_atoms}
-use Rattle.terms.proofs.AtomLaws.{joined_length, atom-wrong, atoms-right}
 use Rattle.terms.proofs.valid.wrong_atom.Given as goal
 
 abbrev pub invariant-loop-i : goal.invariant-loop-i

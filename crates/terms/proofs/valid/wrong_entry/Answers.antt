@@ -2,12 +2,10 @@
 use native.Mathlib.Omega.{arith}
 use mathlib.Core.Path.{◌≡◌, sym, ap, ◌∙◌}
 use mathlib.Core.List.{List}
-use Prim.Native.Nat.{ℕ, ◌+◌, ◌≤◌, ◌<◌, ◌/◌, ◌-◌}
+use Prim.Native.Nat.{ℕ, ◌+◌, ◌/◌}
 use lib.ListN.{length}
 use borrow.Author.Count.{below_none, below_more}
 use Rattle.terms.specs.Atom.{joined_atoms}
-use Rattle.terms.specs.TermEntry.{EntryRight}
-use Rattle.terms.specs.Each.{EntryIs}
 use Rattle.terms.specs.EntryTables.{limits_of}
 use Rattle.terms.proofs.AtomLaws.{joined_length}
 use Rattle.terms.proofs.EntryTableLaws.{entry-yes, entry-no, entry-wrong, entries-right}
@@ -25,9 +23,9 @@ loop-i-init c = (search rules, below_none _)
 pub loop-i-preserved : goal.loop-i-preserved
 loop-i-preserved c =
     let a = c.args in (
-    search rules,
-    below_more _ _ c.loop-i.invariant.1 (entry-yes (joined_atoms a.atoms.now a.more.now) a.kind (tables a.atoms.now a.more.now a.kind c.limits-limits.ensures) a.e.now
-    c.loop-i.i c.right_entry.result c.right_entry.ensures c.if-right_entry.true),
+      search rules,
+      below_more _ _ c.loop-i.invariant.1 (entry-yes (joined_atoms a.atoms.now a.more.now) a.kind (tables a.atoms.now a.more.now a.kind c.limits-limits.ensures) a.e.now
+          c.loop-i.i c.right_entry.result c.right_entry.ensures c.if-right_entry.true),
     )
 
 pub returns-else-right_entry : goal.returns-else-right_entry

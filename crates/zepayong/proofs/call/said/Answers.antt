@@ -1,5 +1,4 @@
 -- `zepayong::call::said` meets its contract. Assumes nothing.
-use native.Mathlib.Omega.{arith}
 use Rattle.zepayong.proofs.Calls.{nothing_said, bytes-said}
 use borrow.Author.Rules.{rules}
 use Rattle.zepayong.proofs.call.said.Goals as goal
