@@ -98,7 +98,7 @@ atoms_in file = (certificate_of file).atoms
 
 -- Block i is of this kind, and its term has P.
 pub record HoldsAt (file : List ℕ) (kind : ℕ) (P : Term Variable → Type 0) (i : ℕ) : Type 0 where
-  pub of_kind : kind_of (block_at file i) ≡ kind
+  pub has_kind : kind_of (block_at file i) ≡ kind
   pub holds : P (pattern_of (block_at file i))
 
 -- One of the blocks from `low` up to `high` is such.
@@ -167,7 +167,7 @@ pub record FlaggedMore (file : List ℕ) (i : ℕ) (old new : List ℕ) : Type 0
 pub record SecretSlot (file : List ℕ) (n slot : ℕ) : Type 0 where
   pub number : ℕ
   pub before : number < n
-  pub of_kind : kind_of (block_at file number) ≡ secret_kind
+  pub has_kind : kind_of (block_at file number) ≡ secret_kind
   pub same : slot_at (first_entries (block_at file number)) ≡ slot
 
 -- The root of every secret is flagged, and nothing else; a flag is 0 or 1.

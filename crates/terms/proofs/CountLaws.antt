@@ -144,21 +144,21 @@ length-tags (a ∷ b ∷ []) = refl
 length-tags (a ∷ b ∷ c ∷ []) = refl
 length-tags (a ∷ b ∷ c ∷ d ∷ e) = let i = length-tags e in omega arith
 
-tag_at : (e : List ℕ) (k : ℕ) → k < length e / 4 → get_or (tags_of e) k 0 ≡ get_or e (4 * k) 0
+tag_at_lem : (e : List ℕ) (k : ℕ) → k < length e / 4 → get_or (tags_of e) k 0 ≡ get_or e (4 * k) 0
 unfolding tags_of
-tag_at [] k h = absurd (omega arith)
-tag_at (a ∷ []) k h = absurd (omega arith)
-tag_at (a ∷ b ∷ []) k h = absurd (omega arith)
-tag_at (a ∷ b ∷ c ∷ []) k h = absurd (omega arith)
-tag_at (a ∷ b ∷ c ∷ d ∷ e) zero h = refl
-tag_at (a ∷ b ∷ c ∷ d ∷ e) (suc k) h =
-    let far : 4 * suc k ≡ suc (suc (suc (suc (4 * k)))) = omega arith in rw far (tag_at e k (omega arith))
+tag_at_lem [] k h = absurd (omega arith)
+tag_at_lem (a ∷ []) k h = absurd (omega arith)
+tag_at_lem (a ∷ b ∷ []) k h = absurd (omega arith)
+tag_at_lem (a ∷ b ∷ c ∷ []) k h = absurd (omega arith)
+tag_at_lem (a ∷ b ∷ c ∷ d ∷ e) zero h = refl
+tag_at_lem (a ∷ b ∷ c ∷ d ∷ e) (suc k) h =
+    let far : 4 * suc k ≡ suc (suc (suc (suc (4 * k)))) = omega arith in rw far (tag_at_lem e k (omega arith))
 
 -- One turn of the loop that takes the tags, and its end.
 pub tag-stored : (e tags : List ℕ) (k : ℕ) → k < length e / 4 → k < length tags → take k tags ≡ take k (tags_of e)
     → take (k + 1) (set tags k (get_or e (4 * k) 0)) ≡ take (k + 1) (tags_of e)
 tag-stored e tags k inside room so_far = let far : k < length (tags_of e) = omega (arith, length-tags e) in
-    rw (add-one, take-suc-set, so_far, take-suc (tags_of e) k 0, tag_at e k inside)
+    rw (add-one, take-suc-set, so_far, take-suc (tags_of e) k 0, tag_at_lem e k inside)
 
 pub tags-stored : (e tags : List ℕ) (k : ℕ) → k ≡ length e / 4 → take k tags ≡ take k (tags_of e) → take (length e / 4) tags ≡ tags_of e
 tags-stored e tags k all so_far = rw (← all) (so_far ∙ take_all k (tags_of e) (omega (arith, length-tags e)))

@@ -2,7 +2,7 @@
 
 use std::path::Path;
 
-/// Links the archives of these names, which `rt staticlib NAME` writes.
+/// Links the archives of these names, which `tools/build NAME` leaves.
 pub fn archives(names: &[&str]) {
     let here = std::env::var("CARGO_MANIFEST_DIR").expect("cargo names the folder");
     let folder = Path::new(&here).join("../../target/staticlib");
@@ -12,7 +12,7 @@ pub fn archives(names: &[&str]) {
         println!("cargo:rerun-if-changed={}", archive.display());
         assert!(
             archive.exists(),
-            "no target/staticlib/lib{name}.a: run `rt staticlib {name}` first"
+            "no target/staticlib/lib{name}.a: run `tools/build {name}` first"
         );
         println!("cargo:rustc-link-lib=static={name}");
     }

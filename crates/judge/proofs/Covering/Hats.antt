@@ -60,7 +60,7 @@ module _ {file : List ℕ} {kind i : ℕ} where
   pattern-raised P is part same r =
       let term = ap term_of part.part in
       raised-as r (λ k. (
-        λ q. record { of_kind = is; holds = subst (P k) term ((same k).0 q) },
+        λ q. record { has_kind = is; holds = subst (P k) term ((same k).0 q) },
         λ w. (same k).1 (subst (P k) (sym term) w.holds),
       ))
 
@@ -71,7 +71,7 @@ module _ {file : List ℕ} {kind i : ℕ} where
 
   pub other-raised : {P : ℕ → Term Variable → Type 0} {old : List ℕ} → length old ≡ 64 → ¬ (kind_of (block_at file i) ≡ kind)
       → Raised old old (λ k. HoldsAt file kind (P k) i)
-  other-raised long off = raised-none long (λ k w. off w.of_kind)
+  other-raised long off = raised-none long (λ k w. off w.has_kind)
 
 -- A marked bad pattern laid around the term at entry h; one that shares no instance with it, and one without marks.
 pub exception-laying : {file e y z t : List ℕ} {h i : ℕ} → Standing file e h → TermPart file i t → SizesOf t y → SizesOf e z
@@ -98,7 +98,7 @@ module _ {file : List ℕ} {i : ℕ} {u : Term Variable} {h : ℕ} where
       let term : sub_at t 0 ≡ pattern_of (block_at file i) = ap term_of (from_start t ∙ part.part) in
       let share = ((one-among (λ p. Share (atoms_in file) p u)).0 held).holds in
       cleared-as r (λ k. (
-        λ o. record { of_kind = is; holds = (share, rw term at ((f.on k).0 o)) },
+        λ o. record { has_kind = is; holds = (share, rw term at ((f.on k).0 o)) },
         λ w. (f.on k).1 (rw term w.holds.1),
       ))
 
@@ -106,7 +106,7 @@ module _ {file : List ℕ} {i : ℕ} {u : Term Variable} {h : ℕ} where
   module _ {old : List ℕ} (long : length old ≡ 64) where
     pub exception-apart : ¬ HeldAmong file bad_kind (λ p. Share (atoms_in file) p u) i (i + 1) → Cleared old old (λ k. HoldsAt file bad_kind (LaysAround (atoms_in file) u h k) i)
     exception-apart off =
-        cleared-none long (λ k o w. off ((one-among (λ p. Share (atoms_in file) p u)).1 (record { of_kind = w.of_kind; holds = w.holds.0 })))
+        cleared-none long (λ k o w. off ((one-among (λ p. Share (atoms_in file) p u)).1 (record { has_kind = w.has_kind; holds = w.holds.0 })))
 
     pub exception-beside : {t : List ℕ} → TermPart file i t → {around : List ℕ} → Flags around (MarkAround (sub_at t 0) u h) → ¬ SomeBoth old around
         → Cleared old old (λ k. HoldsAt file bad_kind (LaysAround (atoms_in file) u h k) i)
@@ -121,7 +121,7 @@ module _ {file : List ℕ} {i : ℕ} {u : Term Variable} {h : ℕ} where
         cleared-none long (λ k o w. (all.rows.marks i inside (bad-lists is)).marked.1 (is, around-marked w.holds.1) none)
 
     pub exception-other : ¬ (kind_of (block_at file i) ≡ bad_kind) → Cleared old old (λ k. HoldsAt file bad_kind (LaysAround (atoms_in file) u h k) i)
-    exception-other off = cleared-none long (λ k o w. off w.of_kind)
+    exception-other off = cleared-none long (λ k o w. off w.has_kind)
 
 -- Block after block, from the last one back: a block from number n on holds one.
 abbrev pub HeldFrom : List ℕ → ℕ → (Term Variable → Type 0) → ℕ → Type 0
@@ -144,12 +144,12 @@ module _ {file : List ℕ} {kind : ℕ} (P : Term Variable → Type 0) where
       → HeldFrom file kind P n ↔ AnyListed (certificate_of file) kind P
   held-listed laid lists from-here = (
     λ w. one_found laid kind P lists w.below w.holds,
-    λ a. (let w = held_at laid kind P a in record { number = w.0; above = from-here w.0 w.1 w.2.of_kind; below = w.1; holds = w.2 }),
+    λ a. (let w = held_at laid kind P a in record { number = w.0; above = from-here w.0 w.1 w.2.has_kind; below = w.1; holds = w.2 }),
   )
 
   held_below : {n m : ℕ} → Laid file → ListsTerm kind → n < block_count file → m ≡ kind_of (block_at file n) → m < kind
       → HeldFrom file kind P n ↔ AnyListed (certificate_of file) kind P
-  held_below {n} laid lists here of_kind lower = held-listed laid lists (λ i inside is. elim (dec_le n i) [
+  held_below {n} laid lists here has_kind lower = held-listed laid lists (λ i inside is. elim (dec_le n i) [
     | yes l ↦ l
     | no off ↦ absurd (omega (arith, laid.ordered i n (omega arith) here))
   ])
@@ -169,7 +169,7 @@ module _ {file : List ℕ} {kind : ℕ} {P : ℕ → Term Variable → Type 0} w
 
   pub held-lower : {n m : ℕ} → Laid file → ListsTerm kind → n < block_count file → m ≡ kind_of (block_at file n) → m < kind
       → {old new : List ℕ} → Raised old new (λ k. HeldFrom file kind (P k) n) → Raised old new (λ k. AnyListed (certificate_of file) kind (P k))
-  held-lower laid lists here of_kind lower r = raised-as r (λ k. held_below (P k) laid lists here of_kind lower)
+  held-lower laid lists here has_kind lower r = raised-as r (λ k. held_below (P k) laid lists here has_kind lower)
 
   -- And put off so.
   pub dropped-none : {n : ℕ} {old : List ℕ} → length old ≡ 64 → n ≡ block_count file → Cleared old old (λ k. HeldFrom file kind (P k) n)
@@ -185,7 +185,7 @@ module _ {file : List ℕ} {kind : ℕ} {P : ℕ → Term Variable → Type 0} w
 
   pub dropped-lower : {n m : ℕ} → Laid file → ListsTerm kind → n < block_count file → m ≡ kind_of (block_at file n) → m < kind
       → {old new : List ℕ} → Cleared old new (λ k. HeldFrom file kind (P k) n) → Cleared old new (λ k. AnyListed (certificate_of file) kind (P k))
-  dropped-lower laid lists here of_kind lower r = cleared-as r (λ k. held_below (P k) laid lists here of_kind lower)
+  dropped-lower laid lists here has_kind lower r = cleared-as r (λ k. held_below (P k) laid lists here has_kind lower)
 
 -- The term at entry h as a hat: what the good patterns lay and no marked bad one lies around is put off, if no bad pattern
 -- without marks shares an instance with it.
@@ -248,7 +248,7 @@ good-encryption {file} laid {good} listed = go (encryption? good)
     go : Dec (IsEncryption good) → IsEncryption good
     go (yes is) = is
     go (no off) = absurd (none_found laid good_kind (λ p. IsEncryption p → ⊥)
-        (λ i inside w. w.holds (let g = laid.goods i inside w.of_kind in record { key = g.key; content = g.content; is = g.same }))
+        (λ i inside w. w.holds (let g = laid.goods i inside w.has_kind in record { key = g.key; content = g.content; is = g.same }))
         (record { term = good; listed = listed; holds = off }))
 
 match-encryption : {good u : Term Variable} → IsEncryption good → Becomes good u → IsEncryption u

@@ -81,8 +81,8 @@ no-slot-secret {file} {roots} {t} laid flags b absent = none_found laid secret_k
   where
     apart : (i : ℕ) → i < block_count file → HoldsAt file secret_kind (λ p. p ≡ term_of t) i → ⊥
     apart i inside h =
-        let start = (laid.terms i inside (secret-lists h.of_kind)).term in
-        let on : get_or roots (slot_at t) 0 ≡ 1 = ap (λ (n : ℕ). get_or roots n 0) (sym (slot_same start b h.holds)) ∙ flags.flagged i inside h.of_kind in
+        let start = (laid.terms i inside (secret-lists h.has_kind)).term in
+        let on : get_or roots (slot_at t) 0 ≡ 1 = ap (λ (n : ℕ). get_or roots n 0) (sym (slot_same start b h.holds)) ∙ flags.flagged i inside h.has_kind in
         omega (arith, absent)
 
 -- The first number is 0, and a test tells whether the second is.

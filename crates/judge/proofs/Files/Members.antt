@@ -19,7 +19,7 @@ use Rattle.judge.specs.Meaning.{HasKind, Every}
 pub record BlockOf (file : List ℕ) (kind : ℕ) (b : List ℕ) : Type 0 where
   pub number : ℕ
   pub inside : number < block_count file
-  pub of_kind : kind_of (block_at file number) ≡ kind
+  pub has_kind : kind_of (block_at file number) ≡ kind
   pub same : b ≡ block_at file number
 
 -- The blocks of a kind are those.
@@ -33,7 +33,7 @@ module _ (file : List ℕ) {kind : ℕ} where
       go : (t : Bool) → Says t (kind_of (block_at file i) ≡ kind)
           → Memᴰ b (elim t [ true ↦ block_at file i ∷ of_kind kind (blocks_from file (suc i) left) | false ↦ of_kind kind (blocks_from file (suc i) left) ])
           → (Memᴰ b (of_kind kind (blocks_from file (suc i) left)) → BlockOf file kind b) → BlockOf file kind b
-      go true e n rest = ⊎_elim (λ (q : b ≡ block_at file i). record { number = i; inside = omega arith; of_kind = e; same = q })
+      go true e n rest = ⊎_elim (λ (q : b ≡ block_at file i). record { number = i; inside = omega arith; has_kind = e; same = q })
           rest (Memᴰ.cases_cons n)
       go false e n rest = rest n
 
@@ -71,7 +71,7 @@ module _ (kind : ℕ) (file : List ℕ) where
     where
       go : (l : List (List ℕ)) → 1 ≤ length l → ((b : List ℕ) → Memᴰ b l → BlockOf file kind b) → HasKind kind file
       go [] n find = absurd (omega arith)
-      go (b ∷ l) n find = let w = find b (Memᴰ.head refl) in record { block = w.number; inside = w.inside; same = w.of_kind }
+      go (b ∷ l) n find = let w = find b (Memᴰ.head refl) in record { block = w.number; inside = w.inside; same = w.has_kind }
 
   pub has-count : HasKind kind file → 1 ≤ kind_count kind file
   unfolding kind_count
@@ -87,7 +87,7 @@ pub listed : {A : Type 0} (file : List ℕ) (kind : ℕ) (f : List ℕ → A) (P
 listed file kind f P every a m =
     let o = Memᴰ.of_map f (of_kind kind (blocks_of file)) m in
     let w = listed-block file o.1 in
-    subst P o.2 (subst (λ (b : List ℕ). P (f b)) (sym w.same) (every w.number w.inside w.of_kind))
+    subst P o.2 (subst (λ (b : List ℕ). P (f b)) (sym w.same) (every w.number w.inside w.has_kind))
 
 -- A member of a list, by its number.
 pub member-number : {A : Type 0} {a : A} (l : List A) (d : A) → Memᴰ a l → (k : ℕ) × (k < length l) × (get_or l k d ≡ a)

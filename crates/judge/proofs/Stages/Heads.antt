@@ -98,10 +98,10 @@ same-secrets : {c d : Certificate} → Sublists c d → Sublists d c → (rule :
 unfolding open_secret
 same-secrets {c} {d} out back rule = go rule.premise
   where
-    first_of : Certificate → Option (Term Variable) → Found
-    first_of certificate premise = elim premise [ none ↦ Nothing | some t ↦ first_not (no_secret? certificate t) (size t) ]
+    first_found_of : Certificate → Option (Term Variable) → Found
+    first_found_of certificate premise = elim premise [ none ↦ Nothing | some t ↦ first_not (no_secret? certificate t) (size t) ]
 
-    go : (premise : Option (Term Variable)) → first_of c premise ≡ first_of d premise
+    go : (premise : Option (Term Variable)) → first_found_of c premise ≡ first_found_of d premise
     go none = refl
     go (some t) =
         first-only (no_secret? d t)
@@ -137,7 +137,7 @@ module _ {file : List ℕ} {n : ℕ} (laid : Laid file) (only : OnlyRulesFrom fi
       let same : block_at head w.number ≡ block_at file w.number = block w.number here in
       let inside : w.number < block_count file = omega (arith, here, only.inside) in
       subst (λ (x : List ℕ). Memᴰ x (of_kind kind (blocks_of file))) (sym (w.same ∙ same))
-      (block_listed file inside (ap kind_of (sym same) ∙ w.of_kind))
+      (block_listed file inside (ap kind_of (sym same) ∙ w.has_kind))
 
   into-head : (kind : ℕ) → (kind ≡ rule_kind → ⊥) → (b : List ℕ) → Memᴰ b (of_kind kind (blocks_of file)) → Memᴰ b (of_kind kind (blocks_of head))
   into-head kind no-rule b m =
@@ -146,8 +146,8 @@ module _ {file : List ℕ} {n : ℕ} (laid : Laid file) (only : OnlyRulesFrom fi
         | yes here ↦
             let same : block_at head w.number ≡ block_at file w.number = block w.number here in
             subst (λ (x : List ℕ). Memᴰ x (of_kind kind (blocks_of head))) (sym (w.same ∙ sym same))
-            (block_listed head (rw count here) (ap kind_of same ∙ w.of_kind))
-        | no past ↦ absurd (no-rule (sym w.of_kind ∙ only.rules w.number (omega arith) w.inside))
+            (block_listed head (rw count here) (ap kind_of same ∙ w.has_kind))
+        | no past ↦ absurd (no-rule (sym w.has_kind ∙ only.rules w.number (omega arith) w.inside))
       ]
 
   -- The first block is no rule, and neither is a second atom block.

@@ -54,17 +54,17 @@ pub block-answer : {file : List ℕ} {kind i : ℕ} (P : Term Variable → Type 
 unfolding pattern_of
 block-answer P kind part b d is =
     let same = ap term_of part.part in
-    says_same b (λ h. record { of_kind = kind; holds = subst P same h }) (λ h. subst P (sym same) h.holds) (answer-says b d is)
+    says_same b (λ h. record { has_kind = kind; holds = subst P same h }) (λ h. subst P (sym same) h.holds) (answer-says b d is)
 
 -- The same where the block's pattern counts for every place.
 pub counted-answer : {file : List ℕ} {kind i : ℕ} (P : Term Variable → Type 0) → kind_of (block_at file i) ≡ kind → Everywhere kind (pattern_of (block_at file i))
     → {e : List ℕ} → TermPart file i e → (b : Bool) (d : Dec (P (term_of e))) → b ≡ answer d → Says b (HoldsAt file kind (λ p. Everywhere kind p × P p) i)
 counted-answer P kind counts part b d is =
-    says_same b (λ w. record { of_kind = w.of_kind; holds = (counts, w.holds) }) (λ w. record { of_kind = w.of_kind; holds = w.holds.1 })
+    says_same b (λ w. record { has_kind = w.has_kind; holds = (counts, w.holds) }) (λ w. record { has_kind = w.has_kind; holds = w.holds.1 })
     (block-answer P kind part b d is)
 
 pub other-kind : {file : List ℕ} {kind i : ℕ} {P : Term Variable → Type 0} → ¬ (kind_of (block_at file i) ≡ kind) → ¬ HoldsAt file kind P i
-other-kind off h = off h.of_kind
+other-kind off h = off h.has_kind
 
 module _ {file : List ℕ} (laid : Laid file) where
   -- The term of a block of a kind that lists one is listed, and nothing else is.
@@ -81,7 +81,7 @@ module _ {file : List ℕ} (laid : Laid file) where
 
   pattern-at : (kind : ℕ) {t : Term Variable} {b : List ℕ} → BlockOf file kind b → pattern_of b ≡ t
       → (i : ℕ) × (i < block_count file) × (kind_of (block_at file i) ≡ kind) × (pattern_of (block_at file i) ≡ t)
-  pattern-at kind w e = (w.number, w.inside, w.of_kind, ap pattern_of (sym w.same) ∙ e)
+  pattern-at kind w e = (w.number, w.inside, w.has_kind, ap pattern_of (sym w.same) ∙ e)
 
   abbrev From : ℕ → Term Variable → Type 0
   From kind t = Memᴰ t (listed_of (certificate_of file) kind)
@@ -93,7 +93,7 @@ module _ {file : List ℕ} (laid : Laid file) where
       let o = Memᴰ.of_map as_term (map secret_of (of_kind secret_kind (blocks_of file))) m in
       let p = Memᴰ.of_map secret_of (of_kind secret_kind (blocks_of file)) o.1 in
       let w = listed-block file p.1 in
-      let block : SecretBlock p.0 = subst SecretBlock (sym w.same) (laid.secrets w.number w.inside w.of_kind) in
+      let block : SecretBlock p.0 = subst SecretBlock (sym w.same) (laid.secrets w.number w.inside w.has_kind) in
       pattern-at secret_kind w (secret-term block ∙ ap as_term p.2 ∙ o.2)
 
   from-goods : {t : Term Variable} → From good_kind t
@@ -121,11 +121,11 @@ module _ {file : List ℕ} (laid : Laid file) where
   module _ (kind : ℕ) (P : Term Variable → Type 0) where
     -- One is found at a block: one is listed, and the other way round. None is found at any block: none is.
     pub one_found : {i : ℕ} → ListsTerm kind → i < block_count file → HoldsAt file kind P i → AnyListed (certificate_of file) kind P
-    one_found lists inside h = record { term = _; listed = listed_at kind lists inside h.of_kind; holds = h.holds }
+    one_found lists inside h = record { term = _; listed = listed_at kind lists inside h.has_kind; holds = h.holds }
 
     pub held_at : AnyListed (certificate_of file) kind P → (i : ℕ) × (i < block_count file) × HoldsAt file kind P i
     held_at s =
-        let w = listed-from kind s.listed in (w.0, w.1, record { of_kind = w.2; holds = subst P (sym w.3) s.holds })
+        let w = listed-from kind s.listed in (w.0, w.1, record { has_kind = w.2; holds = subst P (sym w.3) s.holds })
 
     pub none_found : ((i : ℕ) → i < block_count file → ¬ HoldsAt file kind P i) → ¬ AnyListed (certificate_of file) kind P
     none_found none s = let w = held_at s in none w.0 w.1 w.2
@@ -139,7 +139,7 @@ module _ {file : List ℕ} {kind : ℕ} (P : Term Variable → Type 0) {low high
       → ((k : ℕ) → i < k → k < high → ¬ HoldsAt file kind P k) → ¬ HeldAmong file kind P low high
   among-lower {i} laid inside is lower none w = elim (dec_lt i w.number) [
     | yes past ↦ none w.number past w.below w.holds
-    | no before ↦ omega (arith, laid.ordered w.number i (omega arith) inside, w.holds.of_kind)
+    | no before ↦ omega (arith, laid.ordered w.number i (omega arith) inside, w.holds.has_kind)
   ]
 
   pub among_none : ((k : ℕ) → low ≤ k → k < high → ¬ HoldsAt file kind P k) → ¬ HeldAmong file kind P low high
@@ -176,12 +176,12 @@ module _ {file : List ℕ} {kind : ℕ} {e : List ℕ} (asked : Searching file k
       → ((k : ℕ) → i < k → k < block_count file → ¬ HoldsAt file kind P k) → (d : Dec (AnyListed (certificate_of file) kind P)) → false ≡ answer d
   lower-answer {i} inside is lower above = none-answer (λ k there held. elim (dec_lt i k) [
     | yes past ↦ above k past there held
-    | no before ↦ omega (arith, asked.laid.ordered k i (omega arith) inside, held.of_kind)
+    | no before ↦ omega (arith, asked.laid.ordered k i (omega arith) inside, held.has_kind)
   ])
 
   pub higher-answer : {i n : ℕ} → n ≡ kind_of (block_at file i) → kind < n
       → ((k : ℕ) → k < i → ¬ HoldsAt file kind P k) → (d : Dec (AnyListed (certificate_of file) kind P)) → false ≡ answer d
   higher-answer {i} is higher below = none-answer (λ k there held. elim (dec_lt k i) [
     | yes before ↦ below k before held
-    | no past ↦ omega (arith, asked.laid.ordered i k (omega arith) there, held.of_kind)
+    | no past ↦ omega (arith, asked.laid.ordered i k (omega arith) there, held.has_kind)
   ])

@@ -184,13 +184,13 @@ flags-more {file} {old} {new} {i} more all j below kind = elim (ℕ_discrete j i
 ]
 
 pub slots-before : {file : List ℕ} {i n slot : ℕ} → i ≤ n → SecretSlot file i slot → SecretSlot file n slot
-slots-before l w = record { number = w.number; before = let b = w.before in omega arith; of_kind = w.of_kind; same = w.same }
+slots-before l w = record { number = w.number; before = let b = w.before in omega arith; has_kind = w.has_kind; same = w.same }
 
 pub only-more : {file old new : List ℕ} {i : ℕ} → FlaggedMore file i old new
     → ((k : ℕ) → get_or old k 0 ≡ 1 → SecretSlot file i k) → (k : ℕ) → get_or new k 0 ≡ 1 → SecretSlot file (i + 1) k
 only-more {file} {old} {new} {i} more all k on = ⊎_elim
     (λ o. slots-before (omega arith) (all k o))
-    (λ w. record { number = i; before = omega arith; of_kind = w.0; same = w.1 })
+    (λ w. record { number = i; before = omega arith; has_kind = w.0; same = w.1 })
     (more.only k on)
 
 -- A flag that the code found to be 0.
@@ -278,13 +278,13 @@ module _ {file roots e : List ℕ} (laid : Laid file) (flags : RootsOf file root
           omega (arith, none.absent)
 
   pub no-root-shares : ¬ SharesListed (certificate_of file) secret_kind (term_of e)
-  no-root-shares = none_found laid secret_kind (λ p. Share (atoms_in file) p (term_of e)) (λ i inside h. apart i inside h.of_kind (common h.holds))
+  no-root-shares = none_found laid secret_kind (λ p. Share (atoms_in file) p (term_of e)) (λ i inside h. apart i inside h.has_kind (common h.holds))
 
   pub no-root-secret : ¬ IsSecret (certificate_of file) (term_of e)
   no-root-secret = none_found laid secret_kind (λ p. p ≡ term_of e) (λ i inside h.
-      let secret = laid.secrets i inside h.of_kind in
+      let secret = laid.secrets i inside h.has_kind in
       let itself : Becomes (pattern_of (block_at file i)) secret.message = record { by = λ x. atom 0; same = ap (replace (λ x. atom 0)) secret.same ∙ replace-as_term (λ x. atom 0) secret.message } in
-      apart i inside h.of_kind (subst (Common (pattern_of (block_at file i))) h.holds (record { message = secret.message; left = itself; right = itself })))
+      apart i inside h.has_kind (subst (Common (pattern_of (block_at file i))) h.holds (record { message = secret.message; left = itself; right = itself })))
 
 -- A secret has no variables: it shares an instance with a term of which it is one.
 pub instance-shares : (atoms : List Atom) {b : List ℕ} → SecretBlock b → {t : Term Variable} → Matches atoms t (pattern_of b) ↔ Share atoms (pattern_of b) t
@@ -318,5 +318,5 @@ unfolding pattern_of
 instance-answer atoms {file} {i} {p} {t} laid inside kind part b d is =
     let there : term_of p ≡ pattern_of (block_at file i) = ap term_of part.part in
     let secret = laid.secrets i inside kind in
-    says_same b (λ m. record { of_kind = kind; holds = (instance-shares atoms secret).0 (rw there at m) }) (λ w. rw there ((instance-shares atoms secret).1 w.holds))
+    says_same b (λ m. record { has_kind = kind; holds = (instance-shares atoms secret).0 (rw there at m) }) (λ w. rw there ((instance-shares atoms secret).1 w.holds))
     (answer-says b d is)

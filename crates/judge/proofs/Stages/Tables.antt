@@ -154,8 +154,8 @@ module _ {file sizes : List ℕ} {kind i : ℕ} (all : SizesIn file sizes) (list
 pub counted-among : (file : List ℕ) {kind : ℕ} (i : ℕ) (P : Term Variable → Type 0) → Everywhere kind (pattern_of (block_at file i)) → (b : Bool)
     → Says b (HeldAmong file kind P i (i + 1)) → Says b (HoldsAt file kind (λ p. Everywhere kind p × P p) i)
 counted-among file i P counts b says =
-    says_same b (λ w. (let h = (one-among P).0 w in record { of_kind = h.of_kind; holds = (counts, h.holds) }))
-    (λ w. (one-among P).1 (record { of_kind = w.of_kind; holds = w.holds.1 })) says
+    says_same b (λ w. (let h = (one-among P).0 w in record { has_kind = h.has_kind; holds = (counts, h.holds) }))
+    (λ w. (one-among P).1 (record { has_kind = w.has_kind; holds = w.holds.1 })) says
 
 -- No mark stands behind those of a bad block's term.
 pub marks-behind : {file sizes t : List ℕ} {i v : ℕ} → SizesIn file sizes → i < block_count file → kind_of (block_at file i) ≡ bad_kind → t ≡ first_entries (block_at file i)
@@ -176,7 +176,7 @@ other-noted off = record { marked = (λ n. absurd (n refl), λ w. absurd (off w.
 
 -- No bad pattern is marked: then all of them count for every place.
 pub none-marked : {file sizes : List ℕ} → Laid file → SizesIn file sizes → ¬ (get_or sizes listed_rows 0 ≡ 1) → ¬ AnyListed (certificate_of file) bad_kind Marked
-none-marked laid all off = none_found laid bad_kind Marked (λ i inside w. off (all.some i inside (w.of_kind, w.holds)))
+none-marked laid all off = none_found laid bad_kind Marked (λ i inside w. off (all.some i inside (w.has_kind, w.holds)))
 
 pub all-count : {file sizes : List ℕ} {t : Term Variable} → Laid file → SizesIn file sizes → ¬ (get_or sizes listed_rows 0 ≡ 1)
     → SharesListed (certificate_of file) bad_kind t ↔ SharesEverywhere (certificate_of file) bad_kind t

@@ -11,5 +11,5 @@ are_terms-requires c =
 
 pub returns : goal.returns
 returns c =
-    says-answer _ (count-one c.requires.0 (λ i. (c.shared_slice_known-1.given i).fits) c.tags-tags.ensures c.are_terms.ensures)
+    says-answer _ (count-one c.requires.0 (λ i. search rules) c.tags-tags.ensures c.are_terms.ensures)
     (one_term? c.args.e.now)
