@@ -98,8 +98,8 @@ count-tags none_left need = says_same (eqb need 0) (λ z. record { terms = []; a
     none_needed : Count (some []) need → need ≡ 0
     none_needed c = let z : length c.terms ≡ 0 = cc in let d = c.many in omega arith
 count-tags (one_more p each) zero = λ c. never-empty _ _ (c.are ∙ ap some (no-terms c.terms c.many))
-count-tags (one_more {tag} {zeroByte} {low} {high} {rest} p each) (suc need) =
-    let is : children_of (tag_of p.symbol) ≡ children_of tag = ap children_of (symbol-tag zeroByte tag (low + 256 * high) p.is) in
+count-tags (one_more {tag} {zero_byte} {low} {high} {rest} p each) (suc need) =
+    let is : children_of (tag_of p.symbol) ≡ children_of tag = ap children_of (symbol-tag zero_byte tag (low + 256 * high) p.is) in
     rw p.is (count-step p.symbol (terms_of rest) need (children_of tag) is (are_terms (tags_of rest) (need + children_of tag))
     (count-tags each (need + children_of tag)))
 
@@ -174,7 +174,7 @@ symbol-last (variable_symbol (named s x)) = omega (arith, sort-range s refl)
 each_last : {e : List ℕ} → Each HasSymbol e → (k : ℕ) → k < length e / 4 → get_or (tags_of e) k 0 ≤ signature_tag
 unfolding tags_of
 each_last none_left k h = absurd (omega arith)
-each_last (one_more {tag} {zeroByte} {low} {high} p each) zero h = rw (← symbol-tag zeroByte tag (low + 256 * high) p.is) (symbol-last p.symbol)
+each_last (one_more {tag} {zero_byte} {low} {high} p each) zero h = rw (← symbol-tag zero_byte tag (low + 256 * high) p.is) (symbol-last p.symbol)
 each_last (one_more p each) (suc k) h = each_last each k (omega arith)
 
 pub some-tags : {e : List ℕ} (tags : List ℕ) → Each HasSymbol e → take (length e / 4) tags ≡ tags_of e → SomeTags tags (length e / 4)

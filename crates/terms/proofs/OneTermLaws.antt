@@ -41,11 +41,11 @@ unfolding wrong_entry
 right-each atoms kind e whole nothing = each_of e whole (first_none (right_at? atoms kind e) nothing)
 
 -- A right entry has a symbol.
-pub entry-symbol : {atoms : List Atom} {kind tag zeroByte value : ℕ} → EntryRight atoms kind tag zeroByte value → HasSymbol tag zeroByte value
+pub entry-symbol : {atoms : List Atom} {kind tag zero_byte value : ℕ} → EntryRight atoms kind tag zero_byte value → HasSymbol tag zero_byte value
 unfolding with_zero symbol_of
-entry-symbol {atoms} {kind} {tag} {zeroByte} {value} w = go w.tagged
+entry-symbol {atoms} {kind} {tag} {zero_byte} {value} w = go w.tagged
   where
-    go : TagRight atoms kind tag value → HasSymbol tag zeroByte value
+    go : TagRight atoms kind tag value → HasSymbol tag zero_byte value
     go (atom_entry t l) = record { symbol = atom_symbol value; is = rw (w.blank, t) }
     go (pair_entry t z) = record { symbol = pair_symbol; is = rw (w.blank, t, z) }
     go (wrapping_entry wr t k) = record { symbol = wrapper_symbol wr value; is = rw (w.blank, t, wrapping-tagged wr) }
@@ -108,7 +108,7 @@ right-terms : {atoms : List Atom} {kind : ℕ} {e : List ℕ} → Each (EntryRig
 unfolding terms_of AllOf Asked
 right-terms none_left l r = let same : [] ≡ l = cc in rw (← same) tt
 right-terms (one_more p each) [] r = absurd (never-empty _ _ r.is)
-right-terms {atoms} {kind} (one_more {tag} {zeroByte} {low} {high} {rest} p each) (t ∷ l) r =
+right-terms {atoms} {kind} (one_more {tag} {zero_byte} {low} {high} {rest} p each) (t ∷ l) r =
     go (t ∷ l) (first r) (asked atoms kind (low + 256 * high) p.tagged) (right-terms each)
   where
     go : (n : List (Term Variable)) → First tag (low + 256 * high) rest n → Asked atoms kind (low + 256 * high) tag

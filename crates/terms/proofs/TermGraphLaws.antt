@@ -125,7 +125,7 @@ module _ (node : ℕ → Node) (e : List ℕ) (base slots : ℕ) (short : length
   pub home-there : Begins e → (k : ℕ) → variable_nodes ≤ slots → slots ≤ right_variables → base ≤ right_nodes → 4 * (k + 1) ≤ length e
       → (home e base slots k < all_nodes) × ((variable_nodes ≤ home e base slots k) ⊎ IsSymbol (node (home e base slots k)))
   unfolding home_by node_by
-  home-there b k from-variableNodes up_to_lem low fit = let there = suffix k b (omega arith) in go (first there.reads)
+  home-there b k from-variable_nodes up_to_lem low fit = let there = suffix k b (omega arith) in go (first there.reads)
     where
       own : {n : ℕ} → tag_in e k ≡ n → home_by n (value_in e k) slots (base + k) ≡ base + k
           → IsSymbol (node_by n (value_in e k) (home e base slots (k + 1)) (home e base slots (right_in e k)))

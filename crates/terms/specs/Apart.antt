@@ -19,10 +19,10 @@ pub record Common {X Y : Type 0} (s : Term X) (t : Term Y) : Type 0 where
 
 -- Variables of two sides, told apart.
 unfoldable pub either? : {X Y : Type 0} → Discrete X → Discrete Y → Discrete (X ⊎ Y)
-either? dX dY (inl x) (inl y) = elim (dX x y) [ yes e ↦ yes (ap inl e) | no n ↦ no (λ p. n (inl-injective x y p)) ]
-either? dX dY (inl x) (inr y) = no inl-ne-inr
-either? dX dY (inr x) (inl y) = no inr-ne-inl
-either? dX dY (inr x) (inr y) = elim (dY x y) [ yes e ↦ yes (ap inr e) | no n ↦ no (λ p. n (inr-injective x y p)) ]
+either? d_x d_y (inl x) (inl y) = elim (d_x x y) [ yes e ↦ yes (ap inl e) | no n ↦ no (λ p. n (inl-injective x y p)) ]
+either? d_x d_y (inl x) (inr y) = no inl-ne-inr
+either? d_x d_y (inr x) (inl y) = no inr-ne-inl
+either? d_x d_y (inr x) (inr y) = elim (d_y x y) [ yes e ↦ yes (ap inr e) | no n ↦ no (λ p. n (inr-injective x y p)) ]
 
 -- A term with its variables on the one side, or on the other.
 abbrev pub leftward : {X Y : Type 0} → Term X → Term (X ⊎ Y)
@@ -34,12 +34,12 @@ rightward t = replace (λ y. variable (inr y)) t
 -- Whether it is so, computed.
 unfoldable pub meet : {X Y : Type 0} → Discrete X → Discrete Y → Term X → Term Y → Bool
 unfolding either? replace unify
-meet dX dY s t = unify (either? dX dY) (leftward s) (rightward t)
+meet d_x d_y s t = unify (either? d_x d_y) (leftward s) (rightward t)
 
 -- It says truly.
-pub meet-says : {X Y : Type 0} (dX : Discrete X) (dY : Discrete Y) (s : Term X) (t : Term Y) → Says (meet dX dY s t) (Common s t)
+pub meet-says : {X Y : Type 0} (d_x : Discrete X) (d_y : Discrete Y) (s : Term X) (t : Term Y) → Says (meet d_x d_y s t) (Common s t)
 unfolding meet replace
-meet-says {X} {Y} dX dY s t = says_same (meet dX dY s t)
+meet-says {X} {Y} d_x d_y s t = says_same (meet d_x d_y s t)
     (λ r. record {
       message = replace r.by (leftward s);
       left = record { by = λ x. r.by (inl x); same = sym (replace-twice r.by (λ x. variable (inl x)) s) };
@@ -50,8 +50,8 @@ meet-says {X} {Y} dX dY s t = says_same (meet dX dY s t)
       same = replace-twice (⊎_elim r.left.by r.right.by) (λ x. variable (inl x)) s ∙ r.left.same
           ∙ sym (replace-twice (⊎_elim r.left.by r.right.by) (λ y. variable (inr y)) t ∙ r.right.same);
     })
-    (unify-says (either? dX dY) (leftward s) (rightward t))
+    (unify-says (either? d_x d_y) (leftward s) (rightward t))
 
 unfoldable pub common? : {X Y : Type 0} → Discrete X → Discrete Y → (s : Term X) (t : Term Y) → Dec (Common s t)
 unfolding meet
-common? dX dY s t = decided (meet dX dY s t) (meet-says dX dY s t)
+common? d_x d_y s t = decided (meet d_x d_y s t) (meet-says d_x d_y s t)

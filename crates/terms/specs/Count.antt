@@ -8,7 +8,7 @@ tags_of [] = []
 tags_of (a ∷ []) = []
 tags_of (a ∷ b ∷ []) = []
 tags_of (a ∷ b ∷ c ∷ []) = []
-tags_of (tag ∷ zeroByte ∷ low ∷ high ∷ rest) = tag ∷ tags_of rest
+tags_of (tag ∷ zero_byte ∷ low ∷ high ∷ rest) = tag ∷ tags_of rest
 
 -- Each of the first of them is one of the tags there are.
 abbrev pub SomeTags : List ℕ → ℕ → Type 0

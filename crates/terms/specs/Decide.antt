@@ -31,9 +31,9 @@ term? d = Term-discrete d ℕ_discrete Wrapping-discrete
 -- Is the term the pattern with its variables replaced by terms, whatever they stand for?
 becomes? : {X Y : Type 0} → Discrete X → Discrete Y → (p : Term X) (t : Term Y) → Dec (Becomes p t)
 unfolding ℕ_discrete replace found term?
-becomes? dX dY p t = elim (term? dY (replace (found dX p t) p) t) [
-  | yes e ↦ yes (record { by = found dX p t; same = e })
-  | no n ↦ no (λ m. n (found-is dX p t m))
+becomes? d_x d_y p t = elim (term? d_y (replace (found d_x p t) p) t) [
+  | yes e ↦ yes (record { by = found d_x p t; same = e })
+  | no n ↦ no (λ m. n (found-is d_x p t m))
 ]
 
 module _ (atoms : List Atom) {Y : Type 0} (range : Y → Range) {p : Term Variable} {t : Term Y} where

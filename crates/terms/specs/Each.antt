@@ -5,8 +5,8 @@ use Rattle.terms.specs.Entry.{tag_at, value_at}
 -- The bytes are whole entries, and P holds of each.
 pub data Each (P : ℕ → ℕ → ℕ → Type 0) : List ℕ → Type 0 where
   none_left : Each P []
-  one_more : {tag zeroByte low high : ℕ} {rest : List ℕ} → P tag zeroByte (low + 256 * high) → Each P rest
-      → Each P (tag ∷ zeroByte ∷ low ∷ high ∷ rest)
+  one_more : {tag zero_byte low high : ℕ} {rest : List ℕ} → P tag zero_byte (low + 256 * high) → Each P rest
+      → Each P (tag ∷ zero_byte ∷ low ∷ high ∷ rest)
 
 -- P holds of entry n: of its tag, its second byte and its value.
 abbrev pub EntryIs : (ℕ → ℕ → ℕ → Type 0) → List ℕ → ℕ → Type 0

@@ -91,7 +91,7 @@ terms_of [] = some []
 terms_of (a ∷ []) = none
 terms_of (a ∷ b ∷ []) = none
 terms_of (a ∷ b ∷ c ∷ []) = none
-terms_of (tag ∷ zeroByte ∷ low ∷ high ∷ rest) = before_all (with_zero zeroByte (symbol_of tag (low + 256 * high))) (terms_of rest)
+terms_of (tag ∷ zero_byte ∷ low ∷ high ∷ rest) = before_all (with_zero zero_byte (symbol_of tag (low + 256 * high))) (terms_of rest)
 
 abbrev pub first_of : Option (List (Term Variable)) → Term Variable
 first_of none = atom 0

@@ -21,9 +21,9 @@ pub record OneTerm (e : List ℕ) : Type 0 where
 
 -- The entry has a symbol, as number 7 asks. Where each entry has one, the numbers of the variables need not be said
 -- (`some_term` of proofs/OneTermLaws.antt).
-pub record HasSymbol (tag zeroByte value : ℕ) : Type 0 where
+pub record HasSymbol (tag zero_byte value : ℕ) : Type 0 where
   pub symbol : Symbol
-  pub is : with_zero zeroByte (symbol_of tag value) ≡ some symbol
+  pub is : with_zero zero_byte (symbol_of tag value) ≡ some symbol
 
 -- Number 8: a pattern's root is an encryption: no hash and no signature (02, No. 7).
 pub record IsEncryption {X : Type 0} (t : Term X) : Type 0 where

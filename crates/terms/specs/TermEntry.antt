@@ -36,8 +36,8 @@ pub data TagRight (atoms : List Atom) (kind tag value : ℕ) : Type 0 where
   variable_entry : (s : Sort) → tag ≡ sort_tag s → value < variables → MayStand s kind → TagRight atoms kind tag value
 
 -- Number 7: the entry is right in a block of this kind; its second byte is zero.
-pub record EntryRight (atoms : List Atom) (kind tag zeroByte value : ℕ) : Type 0 where
-  pub blank : zeroByte ≡ 0
+pub record EntryRight (atoms : List Atom) (kind tag zero_byte value : ℕ) : Type 0 where
+  pub blank : zero_byte ≡ 0
   pub tagged : TagRight atoms kind tag value
 
 -- The same, decided by the tag.
@@ -95,11 +95,11 @@ module _ (atoms : List Atom) (kind value : ℕ) where
       go (no_tag e) = no (λ h. h)
 
 -- Is the entry right?
-unfoldable pub entry_right? : (atoms : List Atom) (kind tag zeroByte value : ℕ) → Dec (EntryRight atoms kind tag zeroByte value)
+unfoldable pub entry_right? : (atoms : List Atom) (kind tag zero_byte value : ℕ) → Dec (EntryRight atoms kind tag zero_byte value)
 unfolding asked? ℕ_discrete dec_map dec_and
-entry_right? atoms kind tag zeroByte value = dec_map
+entry_right? atoms kind tag zero_byte value = dec_map
     (λ h. record { blank = h.0; tagged = tag_right atoms kind value tag h.1 }) (λ r. (r.blank, asked atoms kind value r.tagged))
-    (dec_and (ℕ_discrete zeroByte 0) (λ z. asked? atoms kind value tag))
+    (dec_and (ℕ_discrete zero_byte 0) (λ z. asked? atoms kind value tag))
 
 -- Is entry n right?
 abbrev pub right_at? : (atoms : List Atom) (kind : ℕ) (e : List ℕ) (n : ℕ) → Dec (EntryIs (EntryRight atoms kind) e n)

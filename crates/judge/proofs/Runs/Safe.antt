@@ -71,11 +71,11 @@ module _ {certificate : Certificate} where
   -- What is protected in the whole is protected in a part that has no hat above it.
   protected-from : {m n : Message} (q p : Place) → subterm_at q n ≡ some m → (HatAbove certificate n q → ⊥) →
       Protected certificate n (q ++ p) → Protected certificate m p
-  protected-from {m} {n} q p stands noHat x =
+  protected-from {m} {n} q p stands no_hat x =
       go (beginnings q x.place p (x.above.turn ∷ x.above.rest) x.above.split)
     where
       go : StrictlyAbove x.place q ⊎ AtOrAbove q x.place → Protected certificate m p
-      go (inl above) = absurd (noHat (record {
+      go (inl above) = absurd (no_hat (record {
         place = x.place;
         above = above;
         message = x.message;
@@ -97,7 +97,7 @@ module _ {certificate : Certificate} where
   -- So a part of a safe message is safe, if no hat stands above it.
   pub safe-part : {m n : Message} (q : Place) → subterm_at q n ≡ some m → IsPlace n q → (HatAbove certificate n q → ⊥) →
       Safe certificate n → Safe certificate m
-  safe-part {m} {n} q stands place noHat x = record {
+  safe-part {m} {n} q stands place no_hat x = record {
     safe = λ p s secret e is.
-        protected-from q p stands noHat (x.safe (q ++ p) s secret (subterm_at-append q p n stands ∙ e) (place-append q stands place is));
+        protected-from q p stands no_hat (x.safe (q ++ p) s secret (subterm_at-append q p n stands ∙ e) (place-append q stands place is));
   }

@@ -18,11 +18,11 @@ use Rattle.judge.proofs.Runs.Steps.{secret-unsafe, safe-conclusion}
 -- An atom that is no secret is safe.
 safe-atom : {certificate : Certificate} (a : ℕ) → (Secret certificate (atom a) → ⊥) → Safe certificate (atom a)
 unfolding subterm_at
-safe-atom {certificate} a noSecret = record { safe = go }
+safe-atom {certificate} a no_secret = record { safe = go }
   where
     go : (p : Place) (s : Message) → Secret certificate s → subterm_at p (atom a) ≡ some s → IsPlace {X = ⊥} (atom a) p →
         Protected certificate (atom a) p
-    go [] s secret e is = let same : s ≡ atom a = cc in absurd (noSecret (rw same at secret))
+    go [] s secret e is = let same : s ≡ atom a = cc in absurd (no_secret (rw same at secret))
     go (left ∷ p) s secret e is = absurd (none-ne-some s e)
     go (right ∷ p) s secret e is = absurd (none-ne-some s e)
     go (inside ∷ p) s secret e is = absurd (none-ne-some s e)

@@ -46,7 +46,7 @@ module _ {certificate : Certificate} (meets : MeetsAll certificate) (by : Variab
 
   -- What may stand above an open place becomes no hat, for the place and all below it.
   no-hat : {t good : Term Variable} {q p : Place} (r : Place) → NoHat certificate t q p → Hat certificate good (instance by t) q (p ++ r) → ⊥
-  no-hat {good = good} r (shares_no_good noGood) hat = noGood good hat.listed (shared hat.match)
+  no-hat {good = good} r (shares_no_good no_good) hat = no_good good hat.listed (shared hat.match)
   no-hat r (is_bad {bad = bad} listed match over) hat = hat.not_bad bad listed (matches-replace by nonces match) (cancels-below r over)
 
   -- So no hat stands strictly above an open place of an instance.
