@@ -11,7 +11,8 @@ use Rattle.terms.specs.Place.{Place, subterm_at}
 use Rattle.terms.specs.Decide as decide
 use Rattle.terms.specs.Instance.{Matches, Share}
 use Rattle.terms.specs.Decisions.{dec_map, dec_not, dec_and, dec_or}
-use Rattle.terms.specs.Search.{any?, all?, member?, any_above?, all_above?, at_or_above?, is_place?, any_place?}
+use Rattle.terms.specs.Search.{any?, all?, member?, any_above?, all_above?, at_or_above?, is_place?}
+use Rattle.terms.proofs.SpotLaws.{any_place?}
 use Rattle.judge.specs.Certificate.{Rule, Certificate, Secret, Good, Bad, Known, inverse}
 use Rattle.judge.specs.Hat.{mark_named, Mark, Marked, Cancels, everywhere, at_mark}
 use Rattle.judge.specs.Cover.{MarkBelow, MayCancel, cancels, below_place, SureHat, NoHat, shares_no_good, is_bad, Open, AtOpenPlace, Risky, is_variable}

@@ -2,6 +2,7 @@
 pub mod AnswerLaws
 pub mod InstanceLaws
 pub mod PlaceLaws
+pub mod SpotLaws
 pub mod TagLaws
 pub mod EntryLaws
 pub mod PlacedLaws
