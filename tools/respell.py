@@ -1,5 +1,5 @@
 #!/usr/bin/env python3
-"""Brings the repository's own names in specs/ and proofs/ to today's spelling, once, after /opt/rattle/port/port.py.
+"""Brings the repository's own names in specs/ and proofs/ to today's spelling, once, after the kit's port.py.
 
 usage: python3 tools/respell.py            at the top of the repository
 
