@@ -1,13 +1,12 @@
 -- How the code says whether a fault was found, and what the judging of a block asks for.
-use Rattle.std.specs.Prelude.{◌≡◌, Bool, true, false, cond, List, ℕ, ◌%◌, ◌<◌, ◌≤◌, length}
+use Rattle.std.specs.Prelude.{◌≡◌, Bool, true, false, cond, List, ℕ, ◌%◌, ◌<◌, ◌≤◌, length, Some, None}
 use Rattle.std.proofs.Math.Option.{Option, none, some}
 use Rattle.blocks.specs.Kinds.{rule_kind}
 use Rattle.blocks.specs.Limits.{block_size, most_blocks}
 use Rattle.blocks.specs.Block.{HasBlock, block_at, kind_of, first_entries, second_entries, Fitting}
 use Rattle.terms.specs.Each.{Each}
 use Rattle.terms.specs.OneTerm.{HasSymbol}
-use Rattle.terms.specs.declared.valid.Found.{Found}
-use Rattle.terms.specs.declared.valid.Found.TheVariants.{At, Nothing}
+use Rattle.terms.specs.First.{Found}
 use Rattle.judge.specs.declared.verdict.Fault.{Fault}
 use Rattle.judge.specs.declared.form.Judged.{Judged}
 use Rattle.judge.specs.declared.form.Judged.TheVariants.{Fine, Faulty}
@@ -29,12 +28,12 @@ judged_of (some f) = Faulty f
 
 -- What is found of a rule: what 15 finds in its premise, and else what 12 finds in its conclusion, if that is asked.
 unfoldable pub either_found : Found → Found → RuleFound
-either_found (At k) conclusion = PremiseAt k
-either_found Nothing (At k) = ConclusionAt k
-either_found Nothing Nothing = Nowhere
+either_found (Some k) conclusion = PremiseAt k
+either_found None (Some k) = ConclusionAt k
+either_found None None = Nowhere
 
 unfoldable pub rule_found : Bool → Certificate → Rule → RuleFound
-rule_found asked certificate rule = either_found (open_secret certificate rule) (cond asked (uncovered certificate rule) Nothing)
+rule_found asked certificate rule = either_found (open_secret certificate rule) (cond asked (uncovered certificate rule) None)
 
 -- The first 12 so far is held, while a later rule may get a 15: is there none yet?
 unfoldable pub is_fine : Judged → Bool

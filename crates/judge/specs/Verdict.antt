@@ -2,22 +2,20 @@
 -- rising, premise before conclusion); then 4; then 9, 10, 11, 12, each over all blocks in file order". Of two atom blocks,
 -- "number 6 is judged for both once the last atom block has passed 2, 3 and 5" (02, No. 1); 15 comes "over all rules in file
 -- order after 11 and before any 12" (02, No. 4). `none` is: no fault here.
-use Rattle.std.specs.Prelude.{Bool, true, false, ◌&&◌, List, [], ℕ, zero, suc, ◌+◌, ◌/◌, ◌%◌, eqb, leb, ltb, length, get_or}
+use Rattle.std.specs.Prelude.{Bool, true, false, ◌&&◌, List, [], ℕ, zero, suc, ◌+◌, ◌/◌, ◌%◌, eqb, leb, ltb, length, get_or, Some, None}
 use Rattle.std.proofs.Math.Option.{Option, none, some}
 use Rattle.blocks.specs.Kinds.{atoms_kind, secret_kind, good_kind, bad_kind, rule_kind}
 use Rattle.blocks.specs.Limits.{block_size, most_bytes, most_entries, most_atom_blocks}
 use Rattle.blocks.specs.Block.{block_at, kind_of, first_count, entries_of, first_entries, second_entries}
 use Rattle.blocks.specs.Check.{check_right, check_a, check_b, total, weighted}
 use Rattle.blocks.specs.Layout.{within, layout_right, counts_right, zero_from, all_zero}
-use Rattle.terms.specs.declared.valid.Found.{Found}
-use Rattle.terms.specs.declared.valid.Found.TheVariants.{At, Nothing}
+use Rattle.terms.specs.First.{Found, first_not}
 use Rattle.terms.specs.Entry.{term_of, size}
 use Rattle.terms.specs.declared.atom.Atom.{Atom}
 use Rattle.terms.specs.Atom.{atoms_of, wrong_atom}
 use Rattle.terms.specs.TermEntry.{wrong_entry}
 use Rattle.terms.specs.OneTerm.{encryption?}
 use Rattle.terms.specs.Reading.{one_term?}
-use Rattle.terms.specs.First.{first_not}
 use Rattle.terms.specs.Decisions.{dec_implies, dec_not}
 use Rattle.terms.specs.Term.{Term, Variable}
 use Rattle.terms.specs.Place.{IsPlace, Spot, spots}
@@ -76,7 +74,7 @@ abbrev pub atom_entry : ℕ → Fault
 atom_entry n = AtomEntry (n / most_entries) (n % most_entries)
 
 unfoldable pub atom_fault : List ℕ → Option Fault
-atom_fault file = elim (wrong_atom (file_atoms file)) [ At n ↦ some (atom_entry n) | Nothing ↦ none ]
+atom_fault file = elim (wrong_atom (file_atoms file)) [ Some n ↦ some (atom_entry n) | None ↦ none ]
 
 -- "Once the last atom block has passed 2, 3 and 5": not at block 0 if a second follows.
 unfoldable pub atoms_fault : List ℕ → ℕ → Option Fault
@@ -85,7 +83,7 @@ atoms_fault file i = elim (eqb i 0 && eqb (kind_of (block_at file 1)) atoms_kind
 -- 7: "tag, zero byte or value wrong, or variable not allowed here", over all entries of the block.
 unfoldable pub entry_fault : List Atom → ℕ → List ℕ → Option Fault
 entry_fault atoms i b =
-    elim (wrong_entry atoms (kind_of b) (used_entries b)) [ At n ↦ some (TermEntry i n) | Nothing ↦ none ]
+    elim (wrong_entry atoms (kind_of b) (used_entries b)) [ Some n ↦ some (TermEntry i n) | None ↦ none ]
 
 -- A pattern's root is an encryption; the patterns are of kinds 3 and 4.
 unfoldable pub root_right : ℕ → List ℕ → Bool
@@ -205,11 +203,11 @@ no_secret? certificate premise k = dec_not (secret_open? certificate premise (sp
 
 -- The first place of the premise that is open and has a listed secret.
 unfoldable pub open_secret : Certificate → Rule → Found
-open_secret certificate rule = elim rule.premise [ none ↦ Nothing | some t ↦ first_not (no_secret? certificate t) (size t) ]
+open_secret certificate rule = elim rule.premise [ none ↦ None | some t ↦ first_not (no_secret? certificate t) (size t) ]
 
 -- 15: "a rule whose premise has a listed secret at an open place; the place named is the first such entry" (02, No. 4).
 unfoldable pub open_secret_rule : Certificate → ℕ → List ℕ → Option Fault
-open_secret_rule certificate i b = elim (open_secret certificate (rule_of b)) [ At k ↦ some (OpenSecret i k) | Nothing ↦ none ]
+open_secret_rule certificate i b = elim (open_secret certificate (rule_of b)) [ Some k ↦ some (OpenSecret i k) | None ↦ none ]
 
 unfoldable pub open_secret_fault : Certificate → List ℕ → Option Fault
 open_secret_fault certificate file = kind_fault rule_kind (open_secret_rule certificate) file
@@ -234,7 +232,7 @@ uncovered certificate rule = first_not (fine? certificate rule) (size rule.concl
 -- 12: "risky place not covered"; the place is the entry's number in the block.
 unfoldable pub uncovered_rule : Certificate → ℕ → List ℕ → Option Fault
 uncovered_rule certificate i b =
-    elim (uncovered certificate (rule_of b)) [ At k ↦ some (Uncovered i (first_count b + k)) | Nothing ↦ none ]
+    elim (uncovered certificate (rule_of b)) [ Some k ↦ some (Uncovered i (first_count b + k)) | None ↦ none ]
 
 unfoldable pub uncovered_fault : Certificate → List ℕ → Option Fault
 uncovered_fault certificate file = kind_fault rule_kind (uncovered_rule certificate) file

@@ -26,7 +26,6 @@ use crate::{flag, listed};
 use blocks::{kinds, limits, wide};
 use terms::entry::SIZES;
 use terms::tag::{ENCRYPTION, PAIR, is_marked, is_variable};
-use terms::valid::Found;
 use terms::{entry, matching};
 
 // What is found of a rule: a listed secret at this open entry of the premise, or else a risky place at this entry of the
@@ -484,8 +483,13 @@ fn secret_at(
     }
 }
 
-// The first flagged entry at which a listed secret stands.
-fn first_secret(file: &[u8], roots: &[u8; ROOT_SLOTS], e: &[u8], opened: &[u8; FLAGS]) -> Found
+// The first flagged entry at which a listed secret stands, if there is one.
+fn first_secret(
+    file: &[u8],
+    roots: &[u8; ROOT_SLOTS],
+    e: &[u8],
+    opened: &[u8; FLAGS],
+) -> Option<usize>
     requires { Laid file.now × Flagged e.now opened.now × RootsOf file.now roots.now }
     ensures { FirstNot (λ k. ¬ FlaggedWith e.now opened.now (IsSecret (certificate_of file.now)) k) (length e.now / 4) result }
 {
@@ -493,11 +497,11 @@ fn first_secret(file: &[u8], roots: &[u8; ROOT_SLOTS], e: &[u8], opened: &[u8; F
     let mut k = 0;
     while k < count {
         if secret_at(file, roots, e, opened, k) {
-            return Found::At(k);
+            return Some(k);
         }
         k += 1;
     }
-    Found::Nothing
+    None
 }
 
 // Is entry k flagged, and the term t there?
@@ -757,7 +761,7 @@ pub fn rule_found(
     let risky = asked_places(file, roots, sizes, conclusion, asked);
     let wanted = wanted_places(file, roots, premise, conclusion, &risky);
     let opened = open_places(file, sizes, premise, above, wanted);
-    if let Found::At(k) = first_secret(file, roots, premise, &opened) {
+    if let Some(k) = first_secret(file, roots, premise, &opened) {
         return RuleFound::PremiseAt(k);
     }
     if !asked {
@@ -766,7 +770,7 @@ pub fn rule_found(
     let mut bare = bare_places(premise, &opened, conclusion, &risky);
     take_hats(file, sizes, conclusion, shared, &mut bare);
     match flag::first_on(&bare, conclusion.len() / 4) {
-        Found::At(k) => RuleFound::ConclusionAt(k),
-        Found::Nothing => RuleFound::Nowhere,
+        Some(k) => RuleFound::ConclusionAt(k),
+        None => RuleFound::Nowhere,
     }
 }

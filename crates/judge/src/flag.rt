@@ -4,8 +4,6 @@ ghost use Rattle.terms.specs.Decisions.{Says};
 ghost use Rattle.terms.specs.First.{FirstNot};
 ghost use Rattle.judge.specs.CoverEntries.{entry_flags, On, flag_of, either, put_on, put_off, told_of, Renewed, Painted, Cleared, Narrowed, SomeOn, SomeBoth};
 
-use terms::valid::Found;
-
 // Room for the flags of a term.
 pub const FLAGS: usize = 64;
 
@@ -118,19 +116,19 @@ pub fn narrow(flags: &mut [u8; FLAGS], low: usize, high: usize, kept: &[u8; FLAG
     }
 }
 
-// The first of `count` flags that is on.
-pub fn first_on(flags: &[u8; FLAGS], count: usize) -> Found
+// The first of `count` flags that is on, if there is one.
+pub fn first_on(flags: &[u8; FLAGS], count: usize) -> Option<usize>
     requires { (length flags.now ≡ entry_flags) × (count ≤ entry_flags) }
     ensures { FirstNot (λ k. ¬ On flags.now k) count result }
 {
     let mut k = 0;
     while k < count {
         if flags[k] == 1 {
-            return Found::At(k);
+            return Some(k);
         }
         k += 1;
     }
-    Found::Nothing
+    None
 }
 
 // What is remembered of an answer: 1 for yes and 2 for no; 0 says that it is not known.

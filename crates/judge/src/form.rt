@@ -16,7 +16,6 @@ use crate::atoms;
 use crate::verdict::{Counts, Fault};
 use blocks::{kinds, limits};
 use terms::valid;
-use terms::valid::Found;
 
 // Whether a fault was found, and which.
 #[derive(Clone, Copy)]
@@ -86,11 +85,11 @@ fn atom_fault(file: &[u8]) -> Judged
     ensures { result ≡ judged_of (atom_fault file.now) }
 {
     match valid::wrong_atom(atoms::first(file), atoms::more(file)) {
-        Found::At(n) => Judged::Faulty(Fault::AtomEntry(
+        Some(n) => Judged::Faulty(Fault::AtomEntry(
             (n / limits::MOST_ENTRIES) as u8,
             (n % limits::MOST_ENTRIES) as u8,
         )),
-        Found::Nothing => Judged::Fine,
+        None => Judged::Fine,
     }
 }
 
@@ -124,8 +123,8 @@ fn entry_fault(atoms: &[u8], more: &[u8], i: u8, block: &[u8]) -> Judged
 {
     let end = 4 + 4 * (blocks::first_count(block) + blocks::second_count(block));
     match valid::wrong_entry(atoms, more, blocks::kind(block), &block[4..end]) {
-        Found::At(n) => Judged::Faulty(Fault::TermEntry(i, n as u8)),
-        Found::Nothing => Judged::Fine,
+        Some(n) => Judged::Faulty(Fault::TermEntry(i, n as u8)),
+        None => Judged::Fine,
     }
 }
 

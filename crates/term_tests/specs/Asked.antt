@@ -1,6 +1,6 @@
 -- What the tests ask of two lists of bytes, over given atoms: 1 yes, 0 no, 2 if one of them is no term or
 -- there are more than 252 atoms.
-use Rattle.std.specs.Prelude.{◌≡◌, Bool, List, [], ℕ, ◌%◌, ◌≤◌, ◌<◌, eqb, length}
+use Rattle.std.specs.Prelude.{◌≡◌, Bool, List, [], ℕ, ◌%◌, ◌≤◌, ◌<◌, eqb, length, Some, None}
 use Rattle.std.proofs.Math.Path.{refl, sym, ap}
 use Rattle.std.proofs.Common.{◌∙◌}
 use Rattle.std.proofs.Math.Bool.{true, false}
@@ -9,8 +9,7 @@ use Rattle.std.proofs.Math.Dec.{leb}
 use borrow.Author.Tests.{leb-true, lt-leb, le-leb, eq-eqb, ne_eqb}
 use Rattle.blocks.specs.Kinds.{good_kind}
 use Rattle.blocks.specs.Limits.{most_term_bytes}
-use Rattle.terms.specs.declared.valid.Found.{Found}
-use Rattle.terms.specs.declared.valid.Found.TheVariants.{At, Nothing}
+use Rattle.terms.specs.First.{Found}
 use Rattle.terms.specs.Entry.{term_of, Begins}
 use Rattle.terms.specs.declared.atom.Atom.{Atom}
 use Rattle.terms.specs.Atom.{joined_atoms}
@@ -34,8 +33,8 @@ then true b = b
 then false b = false
 
 abbrev pub nothing_found : Found → Bool
-nothing_found (At n) = false
-nothing_found Nothing = true
+nothing_found (Some n) = false
+nothing_found None = true
 
 -- One term of at most 63 entries, over these atoms, with variables of all sorts (as in a good pattern, kind 3).
 unfoldable pub is_term : List ℕ → List ℕ → Bool
@@ -79,7 +78,7 @@ module _ (atoms e : List ℕ) where
       go false a b c f l q = absurd (false≢true q)
 
   -- Entries that are right have symbols.
-  pub found_symbols : {f : Found} → length e % 4 ≡ 0 → f ≡ wrong_entry (atoms_by atoms) good_kind e → f ≡ Nothing → Each HasSymbol e
+  pub found_symbols : {f : Found} → length e % 4 ≡ 0 → f ≡ wrong_entry (atoms_by atoms) good_kind e → f ≡ None → Each HasSymbol e
   found_symbols whole is none = right-symbols (right-each (atoms_by atoms) 3 e whole (sym is ∙ none))
 
   -- The answers, branch by branch.

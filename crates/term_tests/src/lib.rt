@@ -10,7 +10,7 @@ use terms::atom::nonces;
 use terms::entry::sizes;
 use terms::matching::{matches, same};
 use terms::sharing::shares;
-use terms::valid::{Found, is_one_term, wrong_entry};
+use terms::valid::{is_one_term, wrong_entry};
 
 // The bytes are one term of at most 63 entries, over these atoms, at most 252, with variables of all sorts.
 fn is_term(atoms: &[u8], e: &[u8]) -> bool
@@ -27,8 +27,8 @@ fn is_term(atoms: &[u8], e: &[u8]) -> bool
     }
     let found = wrong_entry(atoms, &atoms[0..0], 3, e);
     match found {
-        Found::At(_) => false,
-        Found::Nothing => is_one_term(e),
+        Some(_) => false,
+        None => is_one_term(e),
     }
 }
 

@@ -9,7 +9,7 @@ use lib.ListN.{length, get_or, drop, length-append, get_or-append, get_or-eq_def
 use lib.Seq.{get_or-append-add}
 use lib.Dec.{eqb}
 use borrow.Author.Rules.{part_to_end}
-use Rattle.terms.specs.declared.valid.Found.TheVariants.{Nothing, At}
+use Rattle.std.specs.Prelude.{None, Some}
 use Rattle.terms.specs.declared.atom.Atom.{Atom}
 use Rattle.terms.specs.Atom.{principal_kind, nonce_kind, public_kind, private_kind, symmetric_kind, atoms_of, joined_atoms, atom_at, atom_kind, known_of, partner_of, IsKey}
 use Rattle.terms.specs.Atom.{key-kind, NamedBack, PartnerRight, principal, nonce, public_key, private_key, symmetric_key, AtomRight, PartnerWanted, partner_wanted}
@@ -157,10 +157,10 @@ module _ (atoms : List Atom) (n : ℕ) {a : Atom} (is : a ≡ atom_at atoms n) w
 
 -- The first atom entry that is not right.
 module _ (atoms : List Atom) where
-  pub atom-wrong : (n : ℕ) → n < length atoms → ((k : ℕ) → k < n → AtomRight atoms k) → ¬ AtomRight atoms n → At n ≡ wrong_atom atoms
+  pub atom-wrong : (n : ℕ) → n < length atoms → ((k : ℕ) → k < n → AtomRight atoms k) → ¬ AtomRight atoms n → Some n ≡ wrong_atom atoms
   unfolding wrong_atom
   atom-wrong n inside all off = first-only (atom_right? atoms) {count = length atoms} (fails refl inside off all)
 
-  pub atoms-right : ((k : ℕ) → k < length atoms → AtomRight atoms k) → Nothing ≡ wrong_atom atoms
+  pub atoms-right : ((k : ℕ) → k < length atoms → AtomRight atoms k) → None ≡ wrong_atom atoms
   unfolding wrong_atom
   atoms-right all = first-only (atom_right? atoms) {count = length atoms} (holds refl all)

@@ -11,7 +11,7 @@ use lib.ListN.{length, get_or, get_or-eq_default}
 use borrow.Author.Tests.{ltb-true, lt-ltb, le-ltb, eq-eqb, ne_eqb}
 use borrow.Author.Rules.{part_to_end}
 use Rattle.blocks.specs.Kinds.{secret_kind, good_kind, bad_kind}
-use Rattle.terms.specs.declared.valid.Found.TheVariants.{At, Nothing}
+use Rattle.std.specs.Prelude.{Some, None}
 use Rattle.terms.specs.Term.{Sort, sort, plain, marked, Range, any_message, one_nonce, Wrapping, encryption, hash, signature}
 use Rattle.terms.specs.declared.atom.Atom.{Atom}
 use Rattle.terms.specs.Atom.{public_kind, private_kind, atom_at, atom_kind, IsKey, key-kind, kind-key}
@@ -221,10 +221,10 @@ module _ (atoms : List Atom) (limits e : List ℕ) where
 -- The first entry that is not right.
 module _ (atoms : List Atom) (kind : ℕ) (e : List ℕ) where
   pub entry-wrong : (n : ℕ) → n < length e / 4
-      → ((k : ℕ) → k < n → EntryIs (EntryRight atoms kind) e k) → ¬ EntryIs (EntryRight atoms kind) e n → At n ≡ wrong_entry atoms kind e
+      → ((k : ℕ) → k < n → EntryIs (EntryRight atoms kind) e k) → ¬ EntryIs (EntryRight atoms kind) e n → Some n ≡ wrong_entry atoms kind e
   unfolding wrong_entry
   entry-wrong n inside all off = first-only (right_at? atoms kind e) (fails refl inside off all)
 
-  pub entries-right : ((k : ℕ) → k < length e / 4 → EntryIs (EntryRight atoms kind) e k) → Nothing ≡ wrong_entry atoms kind e
+  pub entries-right : ((k : ℕ) → k < length e / 4 → EntryIs (EntryRight atoms kind) e k) → None ≡ wrong_entry atoms kind e
   unfolding wrong_entry
   entries-right all = first-only (right_at? atoms kind e) (holds refl all)

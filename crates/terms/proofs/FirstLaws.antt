@@ -4,9 +4,8 @@ use mathlib.Core.Logic.{◌↔◌}
 use Prim.Native.Nat.{ℕ, zero, suc, ◌+◌, ◌<◌}
 use native.Mathlib.Omega.{arith}
 use native.Mathlib.Decide.{dec_lt, ℕ_discrete}
-use Rattle.terms.specs.declared.valid.Found.{Found}
-use Rattle.terms.specs.declared.valid.Found.TheVariants.{At, Nothing}
-use Rattle.terms.specs.First.{FirstNot, fails, holds, first_from, first_not}
+use Rattle.terms.specs.First.{Found, FirstNot, fails, holds, first_from, first_not}
+use Rattle.std.specs.Prelude.{Some, None}
 
 -- A claim that holds of the same numbers has the same first.
 pub first-along : {P Q : ℕ → Type 0} {count : ℕ} → ((k : ℕ) → k < count → P k ↔ Q k) → {f : Found} → FirstNot P count f → FirstNot Q count f
@@ -24,7 +23,7 @@ module _ {P : ℕ → Type 0} (P? : (n : ℕ) → Dec (P n)) where
       more p k h = elim (ℕ_discrete k i) [ yes q ↦ rw q p | no n ↦ all k (omega arith) ]
 
       go : (d : Dec (P i)) → (P i → FirstNot P (suc i + left) (first_from P? (suc i) left))
-          → FirstNot P (i + suc left) (elim d [ yes p ↦ first_from P? (suc i) left | no n ↦ At i ])
+          → FirstNot P (i + suc left) (elim d [ yes p ↦ first_from P? (suc i) left | no n ↦ Some i ])
       go (yes p) rest = let same : suc i + left ≡ i + suc left = omega arith in rw same at (rest p)
       go (no n) rest = fails refl (omega arith) n all
 
@@ -49,7 +48,7 @@ module _ {P : ℕ → Type 0} (P? : (n : ℕ) → Dec (P n)) where
       go (holds e all) (holds e' all') = cc
 
   -- Nothing found: it holds of all.
-  pub first_none : {count : ℕ} → first_not P? count ≡ Nothing → (k : ℕ) → k < count → P k
+  pub first_none : {count : ℕ} → first_not P? count ≡ None → (k : ℕ) → k < count → P k
   first_none {count} nothing = go (first-is count)
     where
       go : FirstNot P count (first_not P? count) → (k : ℕ) → k < count → P k

@@ -10,7 +10,7 @@ use lib.ListN.{get_or, length, length-append}
 use lib.Dec.{ltb, eqb}
 use borrow.Author.Tests.{lt-ltb, ltb-true}
 use Rattle.blocks.specs.Kinds.{secret_kind}
-use Rattle.terms.specs.declared.valid.Found.TheVariants.{Nothing}
+use Rattle.std.specs.Prelude.{None}
 use Rattle.terms.specs.Term.{Term, variable, atom, pair, encrypted, Message, Sort, sort, plain, marked, Variable, named, replace, as_term, wrapped, Wrapping, encryption}
 use Rattle.terms.specs.declared.atom.Atom.{Atom}
 use Rattle.terms.specs.Tag.{encryption_tag, wrapping_tag, variables, wrapping-tagged, sort-tagged}
@@ -36,7 +36,7 @@ reads-one {e} {t} r all =
 
 -- Nothing found: each entry is right.
 pub right-each : (atoms : List Atom) (kind : ℕ) (e : List ℕ) → length e % 4 ≡ 0
-    → wrong_entry atoms kind e ≡ Nothing → Each (EntryRight atoms kind) e
+    → wrong_entry atoms kind e ≡ None → Each (EntryRight atoms kind) e
 unfolding wrong_entry
 right-each atoms kind e whole nothing = each_of e whole (first_none (right_at? atoms kind e) nothing)
 

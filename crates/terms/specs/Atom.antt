@@ -4,8 +4,7 @@ use Rattle.std.proofs.Math.Path.{refl}
 use Rattle.std.proofs.Common.{◌∙◌, inl, inr, arith}
 use Rattle.std.proofs.Math.Decide.{ℕ_discrete, dec_le, dec_lt}
 use Rattle.terms.specs.declared.atom.Atom.{Atom}
-use Rattle.terms.specs.declared.valid.Found.{Found}
-use Rattle.terms.specs.First.{first_not}
+use Rattle.terms.specs.First.{Found, first_not}
 use Rattle.terms.specs.Decisions.{dec_map, dec_and, dec_or}
 use Rattle.terms.specs.Term.{Foreign}
 

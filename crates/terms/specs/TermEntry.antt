@@ -2,7 +2,7 @@
 use Rattle.std.specs.Prelude.{◌≡◌, List, ◌⊎◌, ℕ, ◌*◌, ◌/◌, ◌<◌, length, get_or, drop}
 use Rattle.std.proofs.Math.Decide.{ℕ_discrete, dec_lt}
 use Rattle.blocks.specs.Kinds.{secret_kind, good_kind, bad_kind}
-use Rattle.terms.specs.declared.valid.Found.{Found}
+use Rattle.terms.specs.First.{Found, first_not}
 use Rattle.terms.specs.Term.{Sort, sort, plain, marked, Wrapping, encryption, hash, signature}
 use Rattle.terms.specs.Tag.{atom_tag, pair_tag, wrapping_tag, sort_tag, variables, Tagged, an_atom, a_pair, a_wrapping, a_variable, no_tag, tagged}
 use Rattle.terms.specs.Tag.{wrapping-tagged, sort-tagged}
@@ -10,7 +10,6 @@ use Rattle.terms.specs.Entry.{tag_at, value_at}
 use Rattle.terms.specs.declared.atom.Atom.{Atom}
 use Rattle.terms.specs.Atom.{private_kind, atom_at, atom_kind, IsKey, is_key?}
 use Rattle.terms.specs.Decisions.{dec_map, dec_not, dec_and, dec_or}
-use Rattle.terms.specs.First.{first_not}
 use Rattle.terms.specs.Each.{EntryIs}
 
 -- Where a variable of this sort may stand. "Secrets have no variables"; 5, a marked variable, is for good patterns, and for

@@ -18,13 +18,6 @@ use crate::tag::{ENCRYPTION, LAST, SIGNATURE, VARIABLES};
 use blocks::kinds::{BAD, GOOD, SECRET};
 use blocks::wide;
 
-// The first entry that is not right, or none.
-#[derive(Clone, Copy)]
-pub enum Found {
-    At(usize),
-    Nothing,
-}
-
 // The partner of atom n is an atom of the other kind whose partner field is n.
 fn named_back(atoms: &[u8], more: &[u8], n: usize, other: u8) -> bool
     requires { 0 < other }
@@ -62,8 +55,8 @@ fn right_atom(atoms: &[u8], more: &[u8], n: usize) -> bool
     }
 }
 
-// Number 6: the first atom entry that is not right.
-pub fn wrong_atom(atoms: &[u8], more: &[u8]) -> Found
+// Number 6: the first atom entry that is not right, if there is one.
+pub fn wrong_atom(atoms: &[u8], more: &[u8]) -> Option<usize>
     ensures { result ≡ wrong_atom (joined_atoms atoms.now more.now) }
 {
     let count = atoms.len() / 4 + more.len() / 4;
@@ -72,10 +65,10 @@ pub fn wrong_atom(atoms: &[u8], more: &[u8]) -> Found
         if right_atom(atoms, more, i) {
             i += 1;
         } else {
-            return Found::At(i);
+            return Some(i);
         }
     }
-    Found::Nothing
+    None
 }
 
 // The kind of atom n, 1 to 5; 0 for no atom and for no kind.
@@ -141,8 +134,8 @@ fn right_entry(atoms: &[u8], more: &[u8], limits: &[usize; LAST + 1], e: &[u8]) 
     true
 }
 
-// Number 7: the first entry that is not right.
-pub fn wrong_entry(atoms: &[u8], more: &[u8], kind: u8, e: &[u8]) -> Found
+// Number 7: the first entry that is not right, if there is one.
+pub fn wrong_entry(atoms: &[u8], more: &[u8], kind: u8, e: &[u8]) -> Option<usize>
     ensures { result ≡ wrong_entry (joined_atoms atoms.now more.now) kind e.now }
 {
     let count = e.len() / 4;
@@ -152,10 +145,10 @@ pub fn wrong_entry(atoms: &[u8], more: &[u8], kind: u8, e: &[u8]) -> Found
         if right_entry(atoms, more, &limits, &e[4 * i..]) {
             i += 1;
         } else {
-            return Found::At(i);
+            return Some(i);
         }
     }
-    Found::Nothing
+    None
 }
 
 // Room for the tags of a block's entries.

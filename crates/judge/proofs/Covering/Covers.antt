@@ -13,8 +13,8 @@ use borrow.Author.Tests.{eq-eqb, ne_eqb}
 use lib.ListN.{length, get_or, set, drop, replicate}
 use Rattle.blocks.specs.Kinds.{secret_kind}
 use Rattle.blocks.specs.Block.{first_count, second_count, first_entries, second_entries}
-use Rattle.terms.specs.declared.valid.Found.{Found}
-use Rattle.terms.specs.declared.valid.Found.TheVariants.{Nothing}
+use Rattle.terms.specs.First.{Found, FirstNot, fails, holds}
+use Rattle.std.specs.Prelude.{None}
 use Rattle.terms.specs.Term.{Term, Variable, variable, named, as_term}
 use Rattle.terms.specs.Tag.{VariableTag, SymbolTag, wrapping-symbol, sort-tag}
 use Rattle.terms.specs.Place.{Place, IsPlace}
@@ -23,7 +23,6 @@ use Rattle.terms.specs.Entry.{size, term_of, tag_at, value_at, Reads, Begins, fr
 use Rattle.terms.specs.Reading.{First, first_atom, first_pair, first_wrapped, first_variable, first}
 use Rattle.terms.proofs.EntryLaws.{term_of-reads, suffix, reads-variable, term-reads}
 use Rattle.terms.specs.Decisions.{Says, says_same}
-use Rattle.terms.specs.First.{FirstNot, fails, holds}
 use Rattle.terms.proofs.FirstLaws.{first-only, first-along}
 use Rattle.terms.proofs.PlacedLaws.{placed, spotted, subterm-at, spot-placed}
 use Rattle.terms.proofs.PlaceEntryLaws.{place-entry}
@@ -268,7 +267,7 @@ module _ {file : List ℕ} (laid : Laid file) (rule : Rule) {e : List ℕ} (is :
     unfolding open_secret
     secret-rule {r} found = go (ℕ_discrete (length e) 0)
       where
-        nothing : length e ≡ 0 → FirstNot (λ k. ¬ FlaggedSecret k) (length e / 4) r → r ≡ Nothing
+        nothing : length e ≡ 0 → FirstNot (λ k. ¬ FlaggedSecret k) (length e / 4) r → r ≡ None
         nothing z (fails e l off all) = absurd (omega arith)
         nothing z (holds e all) = e
 

@@ -10,9 +10,8 @@ use lib.Dec.{leb}
 use borrow.Author.Tests.{leb-true, le-leb}
 use Rattle.blocks.specs.Kinds.{secret_kind, bad_kind, ListsTerm}
 use Rattle.blocks.specs.Layout.{within}
-use Rattle.terms.specs.declared.valid.Found.{Found}
-use Rattle.terms.specs.declared.valid.Found.TheVariants.{At, Nothing}
-use Rattle.terms.specs.First.{FirstNot, fails, holds, first_not}
+use Rattle.terms.specs.First.{Found, FirstNot, fails, holds, first_not}
+use Rattle.std.specs.Prelude.{Some, None}
 use Rattle.terms.proofs.FirstLaws.{first-is, first-only}
 use Rattle.terms.specs.Decide.{answer}
 use Rattle.terms.specs.Decisions.{Says, says_same}
@@ -143,26 +142,26 @@ pub data FirstPlace (P : ℕ → Type 0) (count : ℕ) (F : ℕ → Fault) (f : 
   at : {n : ℕ} → f ≡ F n → n < count → ¬ P n → ((k : ℕ) → k < n → P k) → FirstPlace P count F f
 
 pub first-place : {P : ℕ → Type 0} (P? : (n : ℕ) → Dec (P n)) (count : ℕ) (F : ℕ → Fault)
-    → Exact ((n : ℕ) → n < count → P n) (FirstPlace P count F) (elim (first_not P? count) [ At n ↦ some (F n) | Nothing ↦ none ])
+    → Exact ((n : ℕ) → n < count → P n) (FirstPlace P count F) (elim (first_not P? count) [ Some n ↦ some (F n) | None ↦ none ])
 first-place {P} P? count F = go (first_not P? count) (first-is P? count) refl
   where
-    alike : {f : Fault} (c : Found) → c ≡ first_not P? count → FirstPlace P count F f → (n : ℕ) × (c ≡ At n) × (f ≡ F n)
+    alike : {f : Fault} (c : Found) → c ≡ first_not P? count → FirstPlace P count F f → (n : ℕ) × (c ≡ Some n) × (f ≡ F n)
     alike c e (at {n} q l off all) = (n, e ∙ sym (first-only P? (fails refl l off all)), q)
 
     go : (c : Found) → FirstNot P count c → c ≡ first_not P? count
-        → Exact ((n : ℕ) → n < count → P n) (FirstPlace P count F) (elim c [ At n ↦ some (F n) | Nothing ↦ none ])
-    go Nothing (holds e all) q = found_none all (λ f w. none-at f w)
+        → Exact ((n : ℕ) → n < count → P n) (FirstPlace P count F) (elim c [ Some n ↦ some (F n) | None ↦ none ])
+    go None (holds e all) q = found_none all (λ f w. none-at f w)
       where
         none-at : (f : Fault) → ¬ FirstPlace P count F f
         none-at f (at {n} r l off before) = off (all n l)
-    go Nothing (fails e l off all) q = let z : ◌≡◌ {A = ℕ} 0 1 = cc in absurd (omega arith)
-    go (At n) (holds e all) q = let z : ◌≡◌ {A = ℕ} 0 1 = cc in absurd (omega arith)
-    go (At n) (fails {n = m} e l off all) q =
+    go None (fails e l off all) q = let z : ◌≡◌ {A = ℕ} 0 1 = cc in absurd (omega arith)
+    go (Some n) (holds e all) q = let z : ◌≡◌ {A = ℕ} 0 1 = cc in absurd (omega arith)
+    go (Some n) (fails {n = m} e l off all) q =
         let same : m ≡ n = cc in
         found_some (F n) (λ every. off (every m l)) (at (ap F (sym same)) l off all) only
       where
         only : (g : Fault) → FirstPlace P count F g → g ≡ F n
-        only g w = let a = alike (At n) q w in let s : a.0 ≡ n = cc a.1 in a.2 ∙ ap F s
+        only g w = let a = alike (Some n) q w in let s : a.0 ≡ n = cc a.1 in a.2 ∙ ap F s
 
 -- The first block at which something is found.
 pub data FirstBlock (R : ℕ → Type 0) (W : ℕ → Fault → Type 0) (from count : ℕ) (f : Fault) : Type 0 where

@@ -10,14 +10,13 @@ use native.Mathlib.Decide.{dec_lt}
 use lib.Dec.{eqb, leb}
 use Rattle.blocks.specs.Kinds.{secret_kind, good_kind, rule_kind}
 use Rattle.blocks.specs.Block.{block_at, kind_of, first_count}
-use Rattle.terms.specs.declared.valid.Found.{Found}
-use Rattle.terms.specs.declared.valid.Found.TheVariants.{At, Nothing}
+use Rattle.terms.specs.First.{Found, first_not}
+use Rattle.std.specs.Prelude.{Some, None}
 use Rattle.terms.specs.Term.{Term, Message, Variable}
 use Rattle.terms.specs.Place.{Place}
 use Rattle.terms.specs.Search.{is_place?}
 use Rattle.terms.specs.Entry.{size, entry_at}
 use Rattle.terms.proofs.PlacedLaws.{placed, placed-within, one_place}
-use Rattle.terms.specs.First.{first_not}
 use Rattle.terms.specs.Decide.{answer}
 use Rattle.terms.proofs.AnswerLaws.{says_eq}
 use Rattle.terms.specs.Decisions.{Says, says_same}
@@ -147,15 +146,15 @@ module _ (certificate : Certificate) (rule : Rule) (F : ℕ → Fault) where
         at e inside (λ off. off (subst (λ (n : ℕ). SecretOpenAt certificate t (spot_at t n).0) entry o.1))
         (λ m low w. omega (arith, first _ w, (spot-stands t m (omega arith)).number))
 
-  secret-judged : Exact (¬ HasOpenSecret certificate rule) SecretFound (elim (open_secret certificate rule) [ At k ↦ some (F k) | Nothing ↦ none ])
+  secret-judged : Exact (¬ HasOpenSecret certificate rule) SecretFound (elim (open_secret certificate rule) [ Some k ↦ some (F k) | None ↦ none ])
   unfolding open_secret
   secret-judged = go rule.premise refl
     where
       found : Option (Term Variable) → Found
-      found premise = elim premise [ none ↦ Nothing | some t ↦ first_not (no_secret? certificate t) (size t) ]
+      found premise = elim premise [ none ↦ None | some t ↦ first_not (no_secret? certificate t) (size t) ]
 
       go : (premise : Option (Term Variable)) → rule.premise ≡ premise
-          → Exact (¬ HasOpenSecret certificate rule) SecretFound (elim (found premise) [ At k ↦ some (F k) | Nothing ↦ none ])
+          → Exact (¬ HasOpenSecret certificate rule) SecretFound (elim (found premise) [ Some k ↦ some (F k) | None ↦ none ])
       go none e = found_none (λ h. none-ne-some _ (sym e ∙ h.given)) (λ g w. none-ne-some _ (sym e ∙ w.2.given))
       go (some t) e = reworded (no-secrets t e) (each-spot t e) (first-secret t e) (first-spot t e) (first-place (no_secret? certificate t) (size t) F)
 
@@ -165,7 +164,7 @@ module _ (certificate : Certificate) (rule : Rule) where
   abbrev RuleOpen : (ℕ → Fault) → Fault → Type 0
   RuleOpen F g = (k : ℕ) × (g ≡ F k) × FirstUncovered certificate rule k
 
-  passes-judged : (F : ℕ → Fault) → Exact (Passes certificate rule) (RuleOpen F) (elim (uncovered certificate rule) [ At k ↦ some (F k) | Nothing ↦ none ])
+  passes-judged : (F : ℕ → Fault) → Exact (Passes certificate rule) (RuleOpen F) (elim (uncovered certificate rule) [ Some k ↦ some (F k) | None ↦ none ])
   unfolding uncovered
   passes-judged F = reworded (λ all. record { covered = all-places certificate rule all }) (λ w. each-entry certificate rule w.covered) wrong-to wrong-back
       (first-place (fine? certificate rule) (size rule.conclusion) F)

@@ -18,14 +18,13 @@ use Rattle.blocks.specs.Check.{check_right}
 use Rattle.blocks.specs.Layout.{layout_right}
 use Rattle.blocks.proofs.Layouts.{layout-fits}
 use Rattle.blocks.proofs.Parts.{first-length}
-use Rattle.terms.specs.declared.valid.Found.{Found}
-use Rattle.terms.specs.declared.valid.Found.TheVariants.{At, Nothing}
+use Rattle.terms.specs.First.{Found, FirstNot, fails, holds}
+use Rattle.std.specs.Prelude.{Some, None}
 use Rattle.terms.specs.Entry.{Begins, term_of}
 use Rattle.terms.specs.declared.atom.Atom.{Atom}
 use Rattle.terms.specs.Atom.{joined_atoms, atom_right?, wrong_atom}
 use Rattle.terms.specs.TermEntry.{right_at?, wrong_entry}
 use Rattle.terms.proofs.EachLaws.{each_take, each-drop}
-use Rattle.terms.specs.First.{FirstNot, fails, holds}
 use Rattle.terms.proofs.FirstLaws.{first-is}
 use Rattle.terms.specs.OneTerm.{encryption?}
 use Rattle.terms.specs.Reading.{one_term?}
@@ -167,10 +166,10 @@ module _ (file : List ℕ) (i : ℕ) {b : List ℕ} (same : b ≡ block_at file 
 -- ---- number 6
 
 -- What is found is one of those looked at.
-pub found_below : {P : ℕ → Type 0} {count n : ℕ} {f : Found} → FirstNot P count f → f ≡ At n → n < count
+pub found_below : {P : ℕ → Type 0} {count n : ℕ} {f : Found} → FirstNot P count f → f ≡ Some n → n < count
 found_below (fails e l off all) h = let same = sym e ∙ h in go same l
   where
-    go : {m n count : ℕ} → At m ≡ At n → m < count → n < count
+    go : {m n count : ℕ} → Some m ≡ Some n → m < count → n < count
     go {m} {n} e l = let same : m ≡ n = cc in omega arith
 found_below (holds e all) h = let z : ◌≡◌ {A = ℕ} 0 1 = cc in absurd (omega arith)
 
@@ -184,17 +183,17 @@ module _ (file : List ℕ) {e d : List ℕ} (first : e ≡ first_entries (block_
     found : f ≡ wrong_atom (file_atoms file)
     found = said ∙ ap wrong_atom parts_are
 
-    pub atom-small : AtomsFit file → {n : ℕ} → f ≡ At n → n < most_atoms
+    pub atom-small : AtomsFit file → {n : ℕ} → f ≡ Some n → n < most_atoms
     unfolding wrong_atom
     atom-small fits {n} h =
         let below = found_below (first-is (atom_right? (file_atoms file)) (length (file_atoms file))) (sym found ∙ h) in
         omega (arith, few-atoms file fits)
 
-    pub atom-found : {n : ℕ} → f ≡ At n → Faulty (atom_entry n) ≡ judged_of (atom_fault file)
+    pub atom-found : {n : ℕ} → f ≡ Some n → Faulty (atom_entry n) ≡ judged_of (atom_fault file)
     unfolding judged_of atom_fault
     atom-found h = rw (← found, h, atom_fault)
 
-    pub atom-fine : f ≡ Nothing → Fine ≡ judged_of (atom_fault file)
+    pub atom-fine : f ≡ None → Fine ≡ judged_of (atom_fault file)
     unfolding judged_of atom_fault
     atom-fine h = rw (← found, h, atom_fault)
 
@@ -232,29 +231,29 @@ used-part b fits {n} {m} e f =
 
 module _ (atoms : List Atom) (i : ℕ) (b : List ℕ) {k : ℕ} (kind : k ≡ kind_of b) {e : List ℕ} (part : e ≡ used_entries b)
     {f : Found} (said : f ≡ wrong_entry atoms k e) where
-  pub entry-small : Fitting b → {n : ℕ} → f ≡ At n → n < 256
+  pub entry-small : Fitting b → {n : ℕ} → f ≡ Some n → n < 256
   unfolding wrong_entry
   entry-small fits {n} h =
       let below = found_below (first-is (right_at? atoms k e) (length e / 4)) (sym said ∙ h) in
       let room = fits.room in
       omega (arith, ap length part, used-length b fits)
 
-  pub entry_found : {n : ℕ} → f ≡ At n → Faulty (TermEntry i n) ≡ judged_of (entry_fault atoms i b)
+  pub entry_found : {n : ℕ} → f ≡ Some n → Faulty (TermEntry i n) ≡ judged_of (entry_fault atoms i b)
   unfolding judged_of entry_fault
   entry_found h = rw (← part, ← kind, ← said, h, entry_fault)
 
-  pub entry-fine : f ≡ Nothing → Fine ≡ judged_of (entry_fault atoms i b)
+  pub entry-fine : f ≡ None → Fine ≡ judged_of (entry_fault atoms i b)
   unfolding judged_of entry_fault
   entry-fine h = rw (← part, ← kind, ← said, h, entry_fault)
 
 -- No fault: each entry in use is right, and so has a symbol.
-entry-none : (atoms : List Atom) (i : ℕ) (b : List ℕ) → entry_fault atoms i b ≡ none → wrong_entry atoms (kind_of b) (used_entries b) ≡ Nothing
+entry-none : (atoms : List Atom) (i : ℕ) (b : List ℕ) → entry_fault atoms i b ≡ none → wrong_entry atoms (kind_of b) (used_entries b) ≡ None
 unfolding entry_fault
 entry-none atoms i b h = go (wrong_entry atoms (kind_of b) (used_entries b)) h
   where
-    go : (f : Found) → ◌≡◌ {A = Option Fault} (elim f [ At n ↦ some (TermEntry i n) | Nothing ↦ none ]) none → f ≡ Nothing
-    go Nothing e = refl
-    go (At n) e = let z : ◌≡◌ {A = ℕ} 0 1 = cc in absurd (omega arith)
+    go : (f : Found) → ◌≡◌ {A = Option Fault} (elim f [ Some n ↦ some (TermEntry i n) | None ↦ none ]) none → f ≡ None
+    go None e = refl
+    go (Some n) e = let z : ◌≡◌ {A = ℕ} 0 1 = cc in absurd (omega arith)
 
 pub spelled : (atoms : List Atom) (i : ℕ) (b : List ℕ) → Fitting b → entry_fault atoms i b ≡ none → Spelled b
 spelled atoms i b fits h =

@@ -13,14 +13,13 @@ use Rattle.blocks.specs.Kinds.{atoms_kind, secret_kind, good_kind, bad_kind, rul
 use Rattle.blocks.specs.Limits.{block_size}
 use Rattle.blocks.specs.Block.{block_at, kind_of, first_entries, Fitting}
 use Rattle.blocks.proofs.Parts.{block-before}
-use Rattle.terms.specs.declared.valid.Found.{Found}
-use Rattle.terms.specs.declared.valid.Found.TheVariants.{Nothing}
+use Rattle.terms.specs.First.{Found, first_not}
+use Rattle.std.specs.Prelude.{None}
 use Rattle.terms.specs.Term.{Term, Message, Variable}
 use Rattle.terms.specs.Place.{Place}
 use Rattle.terms.specs.Atom.{joined_atoms}
 use Rattle.terms.specs.Instance.{Matches, Share}
 use Rattle.terms.specs.Entry.{size}
-use Rattle.terms.specs.First.{first_not}
 use Rattle.terms.proofs.FirstLaws.{first-is, first-only, first-along}
 use Rattle.judge.specs.Certificate.{Certificate, Rule, Secret, Good, Bad}
 use Rattle.judge.specs.File.{block_count, TwoAtomBlocks, more_entries, file_atoms, blocks_of, of_kind, pattern_of, secret_of, certificate_of}
@@ -99,7 +98,7 @@ unfolding open_secret
 same-secrets {c} {d} out back rule = go rule.premise
   where
     first_found_of : Certificate → Option (Term Variable) → Found
-    first_found_of certificate premise = elim premise [ none ↦ Nothing | some t ↦ first_not (no_secret? certificate t) (size t) ]
+    first_found_of certificate premise = elim premise [ none ↦ None | some t ↦ first_not (no_secret? certificate t) (size t) ]
 
     go : (premise : Option (Term Variable)) → first_found_of c premise ≡ first_found_of d premise
     go none = refl

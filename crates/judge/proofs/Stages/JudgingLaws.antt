@@ -12,8 +12,8 @@ use borrow.Author.Tests.{eq-eqb, ne_eqb}
 use Rattle.blocks.specs.Kinds.{rule_kind}
 use Rattle.blocks.specs.Block.{block_at, kind_of, first_count, first_entries}
 use Rattle.blocks.proofs.Parts.{first-length, second-length}
-use Rattle.terms.specs.declared.valid.Found.{Found}
-use Rattle.terms.specs.declared.valid.Found.TheVariants.{At, Nothing}
+use Rattle.terms.specs.First.{Found}
+use Rattle.std.specs.Prelude.{Some, None}
 use Rattle.terms.specs.Term.{Term, Variable}
 use Rattle.terms.specs.Entry.{Begins, term_of, size}
 use Rattle.terms.proofs.EntryLaws.{fits, term_of-reads}
@@ -46,60 +46,60 @@ use Rattle.judge.proofs.Stages.FormLaws.{found_below, first-end}
 
 -- What is found of a rule, by what is found of its premise and its conclusion.
 module _ (asked : Bool) (c : Certificate) (rule : Rule) {premise : Found} (said : premise ≡ open_secret c rule) where
-  pub found-premise : {n : ℕ} → premise ≡ At n → PremiseAt n ≡ rule_found asked c rule
+  pub found-premise : {n : ℕ} → premise ≡ Some n → PremiseAt n ≡ rule_found asked c rule
   unfolding rule_found either_found
   found-premise h = rw (← said, h)
 
-  module _ (fine : premise ≡ Nothing) where
+  module _ (fine : premise ≡ None) where
     pub found-unasked : asked ≡ false → Nowhere ≡ rule_found asked c rule
     unfolding rule_found either_found
     found-unasked off = rw (← said, fine, off)
 
     module _ (on : asked ≡ true) {conclusion : Found} (told : conclusion ≡ uncovered c rule) where
-      pub found-conclusion : {n : ℕ} → conclusion ≡ At n → ConclusionAt n ≡ rule_found asked c rule
+      pub found-conclusion : {n : ℕ} → conclusion ≡ Some n → ConclusionAt n ≡ rule_found asked c rule
       unfolding rule_found either_found
       found-conclusion h = rw (← said, fine, on, ← told, h)
 
-      pub found_nowhere : conclusion ≡ Nothing → Nowhere ≡ rule_found asked c rule
+      pub found_nowhere : conclusion ≡ None → Nowhere ≡ rule_found asked c rule
       unfolding rule_found either_found
       found_nowhere h = rw (← said, fine, on, ← told, h)
 
 -- And back, for the file by what is found for its head.
 module _ {head file : List ℕ} (h : Heads head file) (asked : Bool) (rule : Rule) {r : RuleFound} (said : r ≡ rule_found asked (certificate_of head) rule) where
-  pub at-premise : {n : ℕ} → r ≡ PremiseAt n → open_secret (certificate_of file) rule ≡ At n
+  pub at-premise : {n : ℕ} → r ≡ PremiseAt n → open_secret (certificate_of file) rule ≡ Some n
   unfolding rule_found either_found
-  at-premise {n} is = sym (h.open_secrets rule) ∙ go (open_secret (certificate_of head) rule) (cond asked (uncovered (certificate_of head) rule) Nothing) said
+  at-premise {n} is = sym (h.open_secrets rule) ∙ go (open_secret (certificate_of head) rule) (cond asked (uncovered (certificate_of head) rule) None) said
     where
-      go : (s u : Found) → r ≡ either_found s u → s ≡ At n
-      go (At k) u e = cc
-      go Nothing (At k) e = let z : ◌≡◌ {A = ℕ} 0 1 = cc in absurd (omega arith)
-      go Nothing Nothing e = let z : ◌≡◌ {A = ℕ} 0 1 = cc in absurd (omega arith)
+      go : (s u : Found) → r ≡ either_found s u → s ≡ Some n
+      go (Some k) u e = cc
+      go None (Some k) e = let z : ◌≡◌ {A = ℕ} 0 1 = cc in absurd (omega arith)
+      go None None e = let z : ◌≡◌ {A = ℕ} 0 1 = cc in absurd (omega arith)
 
-  pub at-conclusion : {n : ℕ} → r ≡ ConclusionAt n → (open_secret (certificate_of file) rule ≡ Nothing) × ((asked ≡ true) × (uncovered (certificate_of file) rule ≡ At n))
+  pub at-conclusion : {n : ℕ} → r ≡ ConclusionAt n → (open_secret (certificate_of file) rule ≡ None) × ((asked ≡ true) × (uncovered (certificate_of file) rule ≡ Some n))
   unfolding rule_found either_found
   at-conclusion {n} is =
       let w = go asked (open_secret (certificate_of head) rule) (uncovered (certificate_of head) rule) said in
       (sym (h.open_secrets rule) ∙ w.0, (w.1, sym (h.places rule) ∙ w.2))
     where
-      go : (b : Bool) (s u : Found) → r ≡ either_found s (cond b u Nothing) → (s ≡ Nothing) × (b ≡ true) × (u ≡ At n)
-      go true (At k) u e = let z : ◌≡◌ {A = ℕ} 0 1 = cc in absurd (omega arith)
-      go true Nothing (At k) e = (refl, refl, cc)
-      go true Nothing Nothing e = let z : ◌≡◌ {A = ℕ} 0 1 = cc in absurd (omega arith)
-      go false (At k) u e = let z : ◌≡◌ {A = ℕ} 0 1 = cc in absurd (omega arith)
-      go false Nothing u e = let z : ◌≡◌ {A = ℕ} 0 1 = cc in absurd (omega arith)
+      go : (b : Bool) (s u : Found) → r ≡ either_found s (cond b u None) → (s ≡ None) × (b ≡ true) × (u ≡ Some n)
+      go true (Some k) u e = let z : ◌≡◌ {A = ℕ} 0 1 = cc in absurd (omega arith)
+      go true None (Some k) e = (refl, refl, cc)
+      go true None None e = let z : ◌≡◌ {A = ℕ} 0 1 = cc in absurd (omega arith)
+      go false (Some k) u e = let z : ◌≡◌ {A = ℕ} 0 1 = cc in absurd (omega arith)
+      go false None u e = let z : ◌≡◌ {A = ℕ} 0 1 = cc in absurd (omega arith)
 
-  pub at-nowhere : r ≡ Nowhere → (open_secret (certificate_of file) rule ≡ Nothing) × (asked ≡ true → uncovered (certificate_of file) rule ≡ Nothing)
+  pub at-nowhere : r ≡ Nowhere → (open_secret (certificate_of file) rule ≡ None) × (asked ≡ true → uncovered (certificate_of file) rule ≡ None)
   unfolding rule_found either_found
   at-nowhere is =
       let w = go asked (open_secret (certificate_of head) rule) (uncovered (certificate_of head) rule) said in
       (sym (h.open_secrets rule) ∙ w.0, λ on. sym (h.places rule) ∙ w.1 on)
     where
-      go : (b : Bool) (s u : Found) → r ≡ either_found s (cond b u Nothing) → (s ≡ Nothing) × (b ≡ true → u ≡ Nothing)
-      go true (At k) u e = let z : ◌≡◌ {A = ℕ} 0 1 = cc in absurd (omega arith)
-      go true Nothing (At k) e = let z : ◌≡◌ {A = ℕ} 0 1 = cc in absurd (omega arith)
-      go true Nothing Nothing e = (refl, λ on. refl)
-      go false (At k) u e = let z : ◌≡◌ {A = ℕ} 0 1 = cc in absurd (omega arith)
-      go false Nothing u e = (refl, λ on. absurd (false≢true on))
+      go : (b : Bool) (s u : Found) → r ≡ either_found s (cond b u None) → (s ≡ None) × (b ≡ true → u ≡ None)
+      go true (Some k) u e = let z : ◌≡◌ {A = ℕ} 0 1 = cc in absurd (omega arith)
+      go true None (Some k) e = let z : ◌≡◌ {A = ℕ} 0 1 = cc in absurd (omega arith)
+      go true None None e = (refl, λ on. refl)
+      go false (Some k) u e = let z : ◌≡◌ {A = ℕ} 0 1 = cc in absurd (omega arith)
+      go false None u e = (refl, λ on. absurd (false≢true on))
 
 -- The first 12 so far: whether there is one, and as it is held behind a block.
 pub fine-is : {j : Judged} → j ≡ Fine → true ≡ is_fine j
@@ -173,22 +173,22 @@ module _ (judged : ℕ → Option Fault) (count i : ℕ) where
   held-end l held before = sym (held_none held) ∙ ap (held_or held) (sym (first-end judged count i l)) ∙ before
 
 -- The place that is found is an entry of the conclusion, or of the premise.
-place_inside : (c : Certificate) (rule : Rule) {n : ℕ} → uncovered c rule ≡ At n → n < size rule.conclusion
+place_inside : (c : Certificate) (rule : Rule) {n : ℕ} → uncovered c rule ≡ Some n → n < size rule.conclusion
 unfolding uncovered
 place_inside c rule h = found_below (first-is (fine? c rule) (size rule.conclusion)) h
 
-secret-inside : (c : Certificate) (rule : Rule) (t : Term Variable) → rule.premise ≡ some t → {n : ℕ} → open_secret c rule ≡ At n → n < size t
+secret-inside : (c : Certificate) (rule : Rule) (t : Term Variable) → rule.premise ≡ some t → {n : ℕ} → open_secret c rule ≡ Some n → n < size t
 unfolding open_secret
 secret-inside c rule t given h = found_below (first-is (no_secret? c t) (size t)) (rw given at h)
 
-no-premise : (c : Certificate) (rule : Rule) → rule.premise ≡ none → {n : ℕ} → ¬ (open_secret c rule ≡ At n)
+no-premise : (c : Certificate) (rule : Rule) → rule.premise ≡ none → {n : ℕ} → ¬ (open_secret c rule ≡ Some n)
 unfolding open_secret
 no-premise c rule given h = let f = rw given at h in let z : ◌≡◌ {A = ℕ} 0 1 = cc in omega arith
 
 begins-size : {e : List ℕ} → Begins e → 4 * size (term_of e) ≤ length e
 begins-size w = rw (term_of-reads w.reads) (fits w.term w.reads)
 
-pub place-small : (c : Certificate) {b : List ℕ} → RuleBlock b → {n : ℕ} → uncovered c (rule_of b) ≡ At n → first_count b + n < 256
+pub place-small : (c : Certificate) {b : List ℕ} → RuleBlock b → {n : ℕ} → uncovered c (rule_of b) ≡ Some n → first_count b + n < 256
 unfolding rule_of
 place-small c {b} w h =
     let inside = place_inside c (rule_of b) h in
@@ -196,7 +196,7 @@ place-small c {b} w h =
     let first = w.premise_short in
     omega (arith, begins-size w.conclusion, second-length b w.fitting)
 
-pub secret-small : (c : Certificate) {b : List ℕ} → RuleBlock b → {n : ℕ} → open_secret c (rule_of b) ≡ At n → n < 256
+pub secret-small : (c : Certificate) {b : List ℕ} → RuleBlock b → {n : ℕ} → open_secret c (rule_of b) ≡ Some n → n < 256
 unfolding rule_of
 secret-small c {b} w {n} h = go (ℕ_discrete (first_count b) 0)
   where
@@ -222,19 +222,19 @@ module _ (file : List ℕ) (i : ℕ) {b : List ℕ} (same : b ≡ block_at file 
     unfolding on_kind
     on-rule judged = rw (← same, eq-eqb (kind_of b) rule_kind (sym kind ∙ rule), ← same, on_kind)
 
-    pub secret-found : {n : ℕ} → open_secret c (rule_of b) ≡ At n → on_kind rule_kind (open_secret_rule c) file i ≡ some (OpenSecret i n)
+    pub secret-found : {n : ℕ} → open_secret c (rule_of b) ≡ Some n → on_kind rule_kind (open_secret_rule c) file i ≡ some (OpenSecret i n)
     unfolding open_secret_rule
     secret-found h = on-rule (open_secret_rule c) ∙ rw (h, open_secret_rule)
 
-    pub secret-fine : open_secret c (rule_of b) ≡ Nothing → on_kind rule_kind (open_secret_rule c) file i ≡ none
+    pub secret-fine : open_secret c (rule_of b) ≡ None → on_kind rule_kind (open_secret_rule c) file i ≡ none
     unfolding open_secret_rule
     secret-fine h = on-rule (open_secret_rule c) ∙ rw (h, open_secret_rule)
 
-    pub place_found : {n m : ℕ} → uncovered c (rule_of b) ≡ At n → m ≡ first_count b → on_kind rule_kind (uncovered_rule c) file i ≡ some (Uncovered i (m + n))
+    pub place_found : {n m : ℕ} → uncovered c (rule_of b) ≡ Some n → m ≡ first_count b → on_kind rule_kind (uncovered_rule c) file i ≡ some (Uncovered i (m + n))
     unfolding uncovered_rule
     place_found h count = on-rule (uncovered_rule c) ∙ rw (h, count, uncovered_rule)
 
-    pub place-fine : uncovered c (rule_of b) ≡ Nothing → on_kind rule_kind (uncovered_rule c) file i ≡ none
+    pub place-fine : uncovered c (rule_of b) ≡ None → on_kind rule_kind (uncovered_rule c) file i ≡ none
     unfolding uncovered_rule
     place-fine h = on-rule (uncovered_rule c) ∙ rw (h, uncovered_rule)
 

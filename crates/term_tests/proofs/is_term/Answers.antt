@@ -20,14 +20,14 @@ returns-then-e-ne0 c =
 
 pub is_one_term-requires : goal.is_one_term-requires
 is_one_term-requires c =
-    let args = c.args in (found_symbols args.atoms.now args.e.now c.if-e-ne0.false c.wrong_entry-found.ensures c.in-Nothing.is, search rules)
+    let args = c.args in (found_symbols args.atoms.now args.e.now c.if-e-ne0.false c.wrong_entry-found.ensures c.in-None.is, search rules)
 
-pub returns-in-At : goal.returns-in-At
-returns-in-At c =
+pub returns-in-Some : goal.returns-in-Some
+returns-in-Some c =
     let args = c.args in by_entries args.atoms.now args.e.now c.if-atoms-gt1008.false c.if-e-gt252.false false c.if-e-ne0.false c.wrong_entry-found.ensures
-    (sym (ap (λ g. then (nothing_found g) (answer (one_term? args.e.now))) c.in-At.is))
+    (sym (ap (λ g. then (nothing_found g) (answer (one_term? args.e.now))) c.in-Some.is))
 
-pub returns-in-Nothing : goal.returns-in-Nothing
-returns-in-Nothing c =
+pub returns-in-None : goal.returns-in-None
+returns-in-None c =
     let args = c.args in by_entries args.atoms.now args.e.now c.if-atoms-gt1008.false c.if-e-gt252.false c.is_one_term.result c.if-e-ne0.false c.wrong_entry-found.ensures
-    (c.is_one_term.ensures ∙ sym (ap (λ g. then (nothing_found g) (answer (one_term? args.e.now))) c.in-Nothing.is))
+    (c.is_one_term.ensures ∙ sym (ap (λ g. then (nothing_found g) (answer (one_term? args.e.now))) c.in-None.is))

@@ -24,9 +24,9 @@ pub first_secret-requires : goal.first_secret-requires
 first_secret-requires c =
     let pre = c.requires in (pre.0, opened-within (entries-flagged (premise-is pre.1 c.first_entries-premise.ensures.part c.first_entries-premise.ensures.size).entries c.wanted_places-wanted.ensures) c.open_places-opened.ensures.flags, pre.2)
 
-pub returns-in-At : goal.returns-in-At
-returns-in-At c =
-    let pre = c.requires in let wanted = c.wanted_places-wanted.ensures in record { premise = remembered-of (sym c.first_entries-premise.ensures.part) c.open_places-opened.ensures.memo; conclusion = pre.4; answer = found-premise _ _ _ (secret-rule pre.0 (rule_of c.args.block.now) (premise-is pre.1 c.first_entries-premise.ensures.part c.first_entries-premise.ensures.size) c.open_places-opened.ensures.flags wanted c.first_secret.ensures) c.in-At.is }
+pub returns-in-Some : goal.returns-in-Some
+returns-in-Some c =
+    let pre = c.requires in let wanted = c.wanted_places-wanted.ensures in record { premise = remembered-of (sym c.first_entries-premise.ensures.part) c.open_places-opened.ensures.memo; conclusion = pre.4; answer = found-premise _ _ _ (secret-rule pre.0 (rule_of c.args.block.now) (premise-is pre.1 c.first_entries-premise.ensures.part c.first_entries-premise.ensures.size) c.open_places-opened.ensures.flags wanted c.first_secret.ensures) c.in-Some.is }
 
 pub returns-then-not-asked : goal.returns-then-not-asked
 returns-then-not-asked c =
@@ -53,24 +53,24 @@ first_on-requires c =
     let pre = c.requires in let short = (conclusion-concluded pre.0 pre.1 c.second_entries-conclusion.ensures.part c.second_entries-conclusion.ensures.size).short in
     (c.take_hats.ensures.flags.long, search rules)
 
-pub returns-in-At-first_on : goal.returns-in-At-first_on
-returns-in-At-first_on c =
+pub returns-in-Some-first_on : goal.returns-in-Some-first_on
+returns-in-Some-first_on c =
     let pre = c.requires in let rule = rule_of c.args.block.now in let premise = premise-is pre.1 c.first_entries-premise.ensures.part c.first_entries-premise.ensures.size in let wanted = c.wanted_places-wanted.ensures in let on = c.if-not-asked.false in let concluded = conclusion-concluded pre.0 pre.1 c.second_entries-conclusion.ensures.part c.second_entries-conclusion.ensures.size in let whole = concluded.whole in record {
       premise = remembered-of (sym c.first_entries-premise.ensures.part) c.open_places-opened.ensures.memo;
       conclusion = remembered-of (sym c.second_entries-conclusion.ensures.part) c.take_hats.ensures.memo;
       answer = found-conclusion _ _ _ (secret-rule pre.0 rule premise c.open_places-opened.ensures.flags wanted c.first_secret.ensures)
           c.in_default.is on
           (uncovered-rule pre.0 rule premise wanted c.open_places-opened.ensures.flags concluded (conclusion-is pre.1 c.second_entries-conclusion.ensures.part) (flags-asked on c.asked_places-risky.ensures)
-          c.bare_places-bare.ensures c.take_hats.ensures.flags (search rules) c.first_on.ensures) c.in-At-first_on.is;
+          c.bare_places-bare.ensures c.take_hats.ensures.flags (search rules) c.first_on.ensures) c.in-Some-first_on.is;
     }
 
-pub returns-in-Nothing : goal.returns-in-Nothing
-returns-in-Nothing c =
+pub returns-in-None : goal.returns-in-None
+returns-in-None c =
     let pre = c.requires in let rule = rule_of c.args.block.now in let premise = premise-is pre.1 c.first_entries-premise.ensures.part c.first_entries-premise.ensures.size in let wanted = c.wanted_places-wanted.ensures in let on = c.if-not-asked.false in let concluded = conclusion-concluded pre.0 pre.1 c.second_entries-conclusion.ensures.part c.second_entries-conclusion.ensures.size in let whole = concluded.whole in record {
       premise = remembered-of (sym c.first_entries-premise.ensures.part) c.open_places-opened.ensures.memo;
       conclusion = remembered-of (sym c.second_entries-conclusion.ensures.part) c.take_hats.ensures.memo;
       answer = found_nowhere _ _ _ (secret-rule pre.0 rule premise c.open_places-opened.ensures.flags wanted c.first_secret.ensures)
           c.in_default.is on
           (uncovered-rule pre.0 rule premise wanted c.open_places-opened.ensures.flags concluded (conclusion-is pre.1 c.second_entries-conclusion.ensures.part) (flags-asked on c.asked_places-risky.ensures)
-          c.bare_places-bare.ensures c.take_hats.ensures.flags (search rules) c.first_on.ensures) c.in-Nothing.is;
+          c.bare_places-bare.ensures c.take_hats.ensures.flags (search rules) c.first_on.ensures) c.in-None.is;
     }

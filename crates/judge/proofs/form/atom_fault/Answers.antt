@@ -5,14 +5,14 @@ use Rattle.judge.proofs.form.atom_fault.Goals as goal
 
 pub overflow_cast-result : goal.overflow_cast-result
 overflow_cast-result c =
-    let small = atom-small _ c.first.ensures c.more.ensures c.wrong_atom.ensures c.requires c.in-At.is in
+    let small = atom-small _ c.first.ensures c.more.ensures c.wrong_atom.ensures c.requires c.in-Some.is in
     record { fits = omega arith }
 
-pub overflow_cast-result-in-At : goal.overflow_cast-result-in-At
-overflow_cast-result-in-At c = record { fits = omega arith }
+pub overflow_cast-result-in-Some : goal.overflow_cast-result-in-Some
+overflow_cast-result-in-Some c = record { fits = omega arith }
 
-pub returns-in-At : goal.returns-in-At
-returns-in-At c = atom-found _ c.first.ensures c.more.ensures c.wrong_atom.ensures c.in-At.is
+pub returns-in-Some : goal.returns-in-Some
+returns-in-Some c = atom-found _ c.first.ensures c.more.ensures c.wrong_atom.ensures c.in-Some.is
 
-pub returns-in-Nothing : goal.returns-in-Nothing
-returns-in-Nothing c = atom-fine _ c.first.ensures c.more.ensures c.wrong_atom.ensures c.in-Nothing.is
+pub returns-in-None : goal.returns-in-None
+returns-in-None c = atom-fine _ c.first.ensures c.more.ensures c.wrong_atom.ensures c.in-None.is

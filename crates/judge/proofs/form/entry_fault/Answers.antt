@@ -19,13 +19,13 @@ pub overflow_cast-result : goal.overflow_cast-result
 overflow_cast-result c =
     record {
       fits = entry-small _ c.args.i _ c.kind.ensures (part (goal.at.overflow_cast-result c).After-wrong_entry) c.wrong_entry.ensures c.requires
-          c.in-At.is;
+          c.in-Some.is;
     }
 
-pub returns-in-At : goal.returns-in-At
-returns-in-At c =
-    entry_found _ _ _ c.kind.ensures (part (goal.at.returns-in-At c).After-wrong_entry) c.wrong_entry.ensures c.in-At.is
+pub returns-in-Some : goal.returns-in-Some
+returns-in-Some c =
+    entry_found _ _ _ c.kind.ensures (part (goal.at.returns-in-Some c).After-wrong_entry) c.wrong_entry.ensures c.in-Some.is
 
-pub returns-in-Nothing : goal.returns-in-Nothing
-returns-in-Nothing c =
-    entry-fine _ _ _ c.kind.ensures (part (goal.at.returns-in-Nothing c).After-wrong_entry) c.wrong_entry.ensures c.in-Nothing.is
+pub returns-in-None : goal.returns-in-None
+returns-in-None c =
+    entry-fine _ _ _ c.kind.ensures (part (goal.at.returns-in-None c).After-wrong_entry) c.wrong_entry.ensures c.in-None.is
