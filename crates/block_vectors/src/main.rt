@@ -9,7 +9,7 @@ fn line(rt: &impl Print, label: &str, n: u64) -> io::Result<()> {
 }
 
 fn byte(rt: &impl Print, label: &str, x: u8) -> io::Result<()> {
-    line(rt, label, x as u64)
+    line(rt, label, u64::from(x))
 }
 
 // Byte 0 is 1 and the rest is zero.
@@ -22,8 +22,8 @@ fn example() -> [u8; 512] {
 fn sums(rt: &impl Print) -> io::Result<()> {
     let block = example();
     let check = blocks::check_of(&block);
-    line(rt, "A ", check.a as u64)?;
-    line(rt, "B ", check.b as u64)
+    line(rt, "A ", u64::from(check.a))?;
+    line(rt, "B ", u64::from(check.b))
 }
 
 fn sealing(rt: &impl Print) -> io::Result<()> {
@@ -35,24 +35,24 @@ fn sealing(rt: &impl Print) -> io::Result<()> {
     byte(rt, "byte 509 ", block[509])?;
     byte(rt, "byte 510 ", block[510])?;
     byte(rt, "byte 511 ", block[511])?;
-    line(rt, "right ", blocks::check_right(&block) as u64)
+    line(rt, "right ", u64::from(blocks::check_right(&block)))
 }
 
 fn damage(rt: &impl Print) -> io::Result<()> {
     let mut block = example();
-    blocks::seal(&mut block);
+    let _ = blocks::seal(&mut block);
     block[300] = 7;
     line(
         rt,
         "right with byte 300 changed ",
-        blocks::check_right(&block) as u64,
+        u64::from(blocks::check_right(&block)),
     )?;
     block[300] = 1;
     block[0] = 0;
     line(
         rt,
         "right with bytes 0 and 300 exchanged ",
-        blocks::check_right(&block) as u64,
+        u64::from(blocks::check_right(&block)),
     )
 }
 
@@ -63,26 +63,30 @@ fn refusals(rt: &impl Print) -> io::Result<()> {
         "seal 511 number ",
         blocks::number(blocks::seal(&mut short)) as u64,
     )?;
-    line(rt, "seal 511 unaltered ", (short == [7u8; 511]) as u64)?;
+    line(rt, "seal 511 unaltered ", u64::from(short == [7u8; 511]))?;
     let mut long = [7u8; 513];
     line(
         rt,
         "seal 513 number ",
         blocks::number(blocks::seal(&mut long)) as u64,
     )?;
-    line(rt, "seal 513 unaltered ", (long == [7u8; 513]) as u64)
+    line(rt, "seal 513 unaltered ", u64::from(long == [7u8; 513]))
 }
 
 // Zeros carry their own check; 65,521 in the place of A, which is 0, does not.
 fn remainders(rt: &impl Print) -> io::Result<()> {
     let mut block = [0u8; 512];
-    line(rt, "right with A 0 ", blocks::check_right(&block) as u64)?;
+    line(
+        rt,
+        "right with A 0 ",
+        u64::from(blocks::check_right(&block)),
+    )?;
     block[508] = 241;
     block[509] = 255;
     line(
         rt,
         "right with A 65521 ",
-        blocks::check_right(&block) as u64,
+        u64::from(blocks::check_right(&block)),
     )
 }
 
@@ -91,7 +95,7 @@ fn layout(rt: &impl Print, label: &str, kind: u8, first: u8, second: u8) -> io::
     block[0] = kind;
     block[1] = first;
     block[2] = second;
-    line(rt, label, blocks::layout_right(&block) as u64)
+    line(rt, label, u64::from(blocks::layout_right(&block)))
 }
 
 fn layouts(rt: &impl Print) -> io::Result<()> {

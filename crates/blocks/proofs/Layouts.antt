@@ -1,15 +1,14 @@
 -- Number 5: the test of a layout is true just where the layout is right. Assumes nothing.
-use mathlib.Core.Path.{◌≡◌, refl, sym, ap, ◌∙◌}
+use mathlib.Core.Path.{◌≡◌, refl, sym, ◌∙◌}
 use mathlib.Core.Bool.{Bool, true, false, ◌&&◌, cond}
 use mathlib.Core.List.{List, [], ◌∷◌}
-use Prim.Native.Nat.{ℕ, zero, suc, ◌+◌, ◌-◌, ◌*◌, ◌≤◌, ◌<◌}
-use native.Mathlib.Numerals.{add-one}
+use Prim.Native.Nat.{ℕ, zero, suc, ◌+◌, ◌-◌, ◌≤◌, ◌<◌}
 use native.Mathlib.Decide.{dec_lt}
 use native.Mathlib.Omega.{arith}
 use lib.Dec.{eqb, leb}
-use lib.ListN.{length, get_or, take, drop, length-take, get_or-eq_default, drop_of_length-le}
-use lib.Seq.{get_or-take, get_or-drop, drop-cons, length-take-le}
-use borrow.Author.Tests.{eq-eqb, ne_eqb, eqb-true, le-leb, lt-leb, leb-true}
+use lib.ListN.{length, get_or, take, drop, length-take, get_or-eq_default}
+use lib.Seq.{get_or-take, get_or-drop}
+use borrow.Author.Tests.{eq-eqb, ne_eqb, eqb-true, le-leb, leb-true}
 use Rattle.blocks.specs.Kinds.{atoms_kind, secret_kind, bad_kind, rule_kind}
 use Rattle.blocks.specs.Limits.{block_size, most_entries, most_term_entries}
 use Rattle.blocks.specs.Block.{byte_at, kind_of, first_count, second_count, Fitting}
@@ -50,35 +49,7 @@ from_zero b from h = zero-all (drop from (take 508 b)) (λ k. go k (dec_lt (from
         let most : length (take 508 b) ≤ from + k = rw length-take (omega arith) in
         get_or-drop from (take 508 b) k 0 ∙ get_or-eq_default (take 508 b) 0 most
 
--- The loop of the code: one byte more, the first that is not zero, and the end.
-module _ (b : List ℕ) (size : length b ≡ block_size) (i : ℕ) where
-  next : i < 508 → drop i (take 508 b) ≡ byte_at b i ∷ drop (i + 1) (take 508 b)
-  next l =
-      let inside : i < length (take 508 b) = rw (length-take-le 508 b (omega arith)) l in
-      rw (add-one, drop-cons (take 508 b) i 0, get_or-take 508 b i 0 l)
-
-  pub zero_more : i < 508 → byte_at b i ≡ 0 → zero_from b i ≡ zero_from b (i + 1)
-  unfolding zero_from all_zero
-  zero_more l z = ap all_zero (next l) ∙ ap (λ (t : Bool). t && all_zero (drop (i + 1) (take 508 b))) (eq-eqb _ _ z)
-
-  pub zero-stop : i < 508 → (byte_at b i ≡ 0 → ⊥) → zero_from b i ≡ false
-  unfolding zero_from all_zero
-  zero-stop l n = ap all_zero (next l) ∙ ap (λ (t : Bool). t && all_zero (drop (i + 1) (take 508 b))) (ne_eqb _ _ n)
-
-  pub zero-end : 508 ≤ i → zero_from b i ≡ true
-  unfolding zero_from all_zero
-  zero-end g =
-      let most : length (take 508 b) ≤ i = rw length-take (omega arith) in
-      ap all_zero (drop_of_length-le (take 508 b) most)
-
 -- ---- counts
-
--- What `low <= x && x <= high` answers: the second test where the first is true, and else the first.
-pub within-above : (low high x : ℕ) → low ≤ x → leb x high ≡ within low high x
-within-above low high x l = ap (λ (t : Bool). t && leb x high) (sym (le-leb low x l))
-
-pub within-below : (low high x : ℕ) → x < low → leb low x ≡ within low high x
-within-below low high x l = let off = lt-leb low x l in off ∙ ap (λ (t : Bool). t && leb x high) (sym off)
 
 in-range : (low high x : ℕ) → within low high x ≡ true → (low ≤ x) × (x ≤ high)
 in-range low high x h = (leb-true low x (both_left (leb low x) (leb x high) h), leb-true x high (both_right (leb low x) (leb x high) h))
@@ -166,24 +137,3 @@ counts-room (rule k h l h') = omega arith
 -- A right layout has room for its entries: what the parts of a block ask.
 pub layout-fits : (b : List ℕ) → LayoutRight b → Fitting b
 layout-fits b h = record { size = h.size; room = counts-room h.counts }
-
--- ---- the answers of the code
-
-pub layout-short : (b : List ℕ) → (length b ≡ block_size → ⊥) → false ≡ layout_right b
-unfolding layout_right
-layout-short b n = rw (ne_eqb (length b) block_size n)
-
-module _ (b : List ℕ) (size : length b ≡ block_size) {right : Bool} (counted : right ≡ counts_right (kind_of b) (first_count b) (second_count b)) where
-  pub layout-counts : right ≡ false → false ≡ layout_right b
-  unfolding layout_right
-  layout-counts h = rw (eq-eqb (length b) block_size size, ← counted, h)
-
-  pub layout-byte3 : right ≡ true → (byte_at b 3 ≡ 0 → ⊥) → false ≡ layout_right b
-  unfolding layout_right
-  layout-byte3 h n = rw (eq-eqb (length b) block_size size, ← counted, h, ne_eqb (byte_at b 3) 0 n)
-
-  -- With f and s the counts that the code has read.
-  pub layout-unused : {f s : ℕ} {zeros : Bool} → right ≡ true → byte_at b 3 ≡ 0 → f ≡ first_count b → s ≡ second_count b
-      → zeros ≡ zero_from b (4 + 4 * (f + s)) → zeros ≡ layout_right b
-  unfolding layout_right
-  layout-unused h z p q e = rw (eq-eqb (length b) block_size size, ← counted, h, eq-eqb (byte_at b 3) 0 z, ← p, ← q) e

@@ -1,16 +1,13 @@
 -- Laws of specs/Block.antt: the parts of a file and of a block. Assumes nothing.
-use mathlib.Core.Path.{◌≡◌, ◌∙◌, sym}
+use mathlib.Core.Path.{◌≡◌, sym}
 use mathlib.Core.List.{List, [], ◌∷◌, ◌++◌}
-use Prim.Native.Nat.{ℕ, zero, suc, ◌+◌, ◌-◌, ◌*◌, ◌/◌, ◌≤◌, ◌<◌}
+use Prim.Native.Nat.{ℕ, zero, suc, ◌+◌, ◌-◌, ◌*◌, ◌≤◌}
 use native.Mathlib.Nat.{sub-zero, zero-sub, suc-sub-suc}
 use native.Mathlib.Omega.{arith}
-use native.Mathlib.Decide.{dec_le}
-use lib.Dec.{ltb}
-use borrow.Author.Tests.{lt-ltb, le-ltb, le-leb, lt-leb}
 use lib.ListN.{length, take, drop, length-drop}
 use lib.Seq.{take-nil, take-take, drop-drop, take-add, length-take-le}
 use Rattle.blocks.specs.Limits.{block_size, most_entries}
-use Rattle.blocks.specs.Block.{HasBlock, has_block, block_at, entries_of, first_entries, second_entries, first_count, second_count, Fitting}
+use Rattle.blocks.specs.Block.{HasBlock, block_at, entries_of, first_entries, second_entries, first_count, second_count, Fitting}
 
 -- What is left of the first m elements after n are dropped.
 drop-take : (n m : ℕ) (l : List ℕ) → drop n (take m l) ≡ take (m - n) (drop n l)
@@ -34,19 +31,6 @@ unfolding block_at
 block-part file i =
     let count : block_size * i + block_size - block_size * i ≡ block_size = omega arith in
     rw count
-
--- The test that the code makes.
-pub has_block_lem : (file : List ℕ) (i : ℕ) → ltb i (length file / block_size) ≡ has_block file i
-has_block_lem file i = go (dec_le (block_size * i + block_size) (length file))
-  where
-    go : Dec (block_size * i + block_size ≤ length file) → ltb i (length file / block_size) ≡ has_block file i
-    go (yes h) =
-        let below : i < length file / block_size = omega arith in
-        lt-ltb _ _ below ∙ sym (le-leb _ _ h)
-    go (no g) =
-        let above : length file / block_size ≤ i = omega arith in
-        let more : length file < block_size * i + block_size = omega arith in
-        le-ltb _ _ above ∙ sym (lt-leb _ _ more)
 
 -- The first entries of a block of 512 bytes.
 pub first-long : (b : List ℕ) → length b ≡ block_size → first_count b ≤ most_entries → length (first_entries b) ≡ 4 * first_count b

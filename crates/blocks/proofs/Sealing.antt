@@ -1,18 +1,19 @@
 -- The check of a block: its test, and what sealing writes. Assumes nothing.
 use mathlib.Core.Path.{◌≡◌, refl, sym, ap, ◌∙◌, subst}
-use mathlib.Core.Bool.{Bool, true, false, ◌&&◌}
-use mathlib.Core.List.{List, [], ◌∷◌, ◌++◌, append-nil}
-use Prim.Native.Nat.{ℕ, ◌+◌, ◌/◌, ◌%◌, ◌≤◌}
+use mathlib.Core.Bool.{Bool, true, ◌&&◌}
+use mathlib.Core.List.{List, [], ◌++◌, append-nil, append_assoc}
+use Prim.Native.Nat.{ℕ, ◌+◌, ◌≤◌}
 use native.Mathlib.Decide.{ℕ_discrete}
 use native.Mathlib.Omega.{arith}
 use lib.Dec.{eqb}
-use lib.ListN.{length, get_or, take, set, length-append, drop_of_length-le}
-use lib.Seq.{length-take-le, take_at, get_or-append-add, sets-eq}
+use lib.ListN.{length, get_or, take, drop, length-append, drop_of_length-le}
+use lib.Seq.{length-take-le, take_at, get_or-append-add, drop-drop}
 use borrow.Author.Tests.{eq-eqb, ne_eqb, eqb-true}
+use borrow.Rule.Slice.PartMut.{put_mid}
+use Rattle.std.proofs.lemmas.Slice.{take-put_mid, drop-put_mid}
 use Rattle.blocks.specs.Limits.{block_size}
 use Rattle.blocks.specs.Block.{byte_at, word_at}
-use Rattle.blocks.specs.Check.{check_a, check_b, CheckRight, check_right, bytes_of, sealed, values_of, sealing, sealing_values, after_sealing}
-use Rattle.blocks.specs.declared.Writing.TheVariants.{Wrote, WrongLength}
+use Rattle.blocks.specs.Check.{check_a, check_b, CheckRight, check_right, bytes_of, sealed, after_sealing}
 use Rattle.blocks.proofs.Tests.{both_left, both_right, both}
 
 -- ---- the test is true just where the check is right
@@ -33,21 +34,6 @@ check-right b h = go (eqb (length b) block_size) (eqb (word_at b 508) (check_a b
 pub right-check : (b : List ℕ) → CheckRight b → check_right b ≡ true
 unfolding check_right
 right-check b h = both (eq-eqb _ _ h.size) (both (eq-eqb _ _ h.holds_a) (eq-eqb _ _ h.holds_b))
-
--- The answers of the code, w and v being the stored words and x and y the computed ones.
-pub check-short : (b : List ℕ) → (length b ≡ block_size → ⊥) → false ≡ check_right b
-unfolding check_right
-check-short b n = rw (ne_eqb (length b) block_size n)
-
-pub check-wrong : (b : List ℕ) {w x : ℕ} → length b ≡ block_size → w ≡ word_at b 508 → x ≡ check_a b → (w ≡ x → ⊥)
-    → false ≡ check_right b
-unfolding check_right
-check-wrong b size e f n = rw (eq-eqb (length b) block_size size, ne_eqb (word_at b 508) (check_a b) (λ h. n (e ∙ h ∙ sym f)))
-
-pub check-last : (b : List ℕ) {w x v y : ℕ} → length b ≡ block_size → w ≡ word_at b 508 → x ≡ check_a b → w ≡ x
-    → v ≡ word_at b 510 → y ≡ check_b b → eqb v y ≡ check_right b
-unfolding check_right
-check-last b size e f h g k = rw (eq-eqb (length b) block_size size, eq-eqb (word_at b 508) (check_a b) (sym e ∙ h ∙ f), g, k)
 
 -- ---- sealing
 
@@ -83,24 +69,22 @@ module _ (b : List ℕ) (size : length b ≡ block_size) where
   unfolding sealed
   sealed-length = rw (length-append, head-length)
 
-  -- The four stores of the code are a sealed block.
-  pub stores : (x y z w : ℕ) → set (set (set (set b 508 x) 509 y) 510 z) 511 w ≡ take 508 b ++ (x ∷ y ∷ z ∷ w ∷ [])
-  stores x y z w =
-      let whole : 508 + 4 ≤ length b = omega arith in
-      let few : length b ≤ block_size = omega arith in
-      sets-eq (x ∷ y ∷ z ∷ w ∷ []) b 508 whole
-      ∙ ap (λ (l : List ℕ). (take 508 b ++ (x ∷ y ∷ z ∷ w ∷ [])) ++ l) (drop_of_length-le b few)
-      ∙ append-nil (take 508 b ++ (x ∷ y ∷ z ∷ w ∷ []))
+  -- The two words of the code are written behind the bytes that stay.
+  stores : (x y : List ℕ) → length x ≡ 2 → length y ≡ 2 → put_mid 510 2 (put_mid 508 2 b x) y ≡ take 508 b ++ (x ++ y)
+  stores x y hx hy =
+      let few : length b ≤ 512 = omega arith in
+      let half : List ℕ = put_mid 508 2 b x in
+      let front : take 510 half ≡ take 508 b ++ x = take-put_mid 508 2 b x 510 (omega arith) (omega arith) in
+      let rest : drop 2 (drop 510 half) ≡ [] =
+      drop-drop 2 510 half ∙ drop-put_mid 508 2 b x 512 (omega arith) (omega arith) hx ∙ drop_of_length-le b few in
+      ap (λ (l : List ℕ). l ++ (y ++ drop 2 (drop 510 half))) front ∙ append_assoc (take 508 b) x (y ++ drop 2 (drop 510 half))
+      ∙ ap (λ (l : List ℕ). take 508 b ++ (x ++ (y ++ l))) rest ∙ rw append-nil refl
 
-  -- The answer of the code, x and y being the computed words.
-  pub seal-done : {x y : ℕ} → x ≡ check_a b → y ≡ check_b b
-      → (Wrote 4 ≡ sealing b)
-      × ((values_of (Wrote 4) ≡ sealing_values b)
-      × (set (set (set (set b 508 (x % 256)) 509 (x / 256 % 256)) 510 (y % 256)) 511 (y / 256 % 256) ≡ after_sealing b))
-  unfolding sealing sealing_values after_sealing sealed
-  seal-done e f =
-      let here = eq-eqb (length b) block_size size in
-      (rw here, (rw here, rw (here, e, f) (stores _ _ _ _)))
+  -- They make a sealed block, if they are the two sums.
+  pub words-put : {x y : List ℕ} → x ≡ bytes_of (check_a b) → y ≡ bytes_of (check_b b)
+      → put_mid 510 2 (put_mid 508 2 b x) y ≡ after_sealing b
+  unfolding after_sealing sealed
+  words-put {x} {y} e f = rw (eq-eqb (length b) block_size size, e, f) (stores (bytes_of (check_a b)) (bytes_of (check_b b)) refl refl)
 
   -- A sealed block carries exactly the check that `check_right` compares.
   pub sealed-right : check_right (sealed b) ≡ true
@@ -122,11 +106,3 @@ sealing-twice b = go (ℕ_discrete (length b) block_size)
     go : Dec (length b ≡ block_size) → after_sealing (after_sealing b) ≡ after_sealing b
     go (yes size) = rw (eq-eqb _ _ size, eq-eqb _ _ (sealed-length b size)) (sealed-again b size)
     go (no other) = rw (ne_eqb _ _ other, ne_eqb _ _ other) refl
-
--- The answer of the code for other than 512 bytes.
-pub seal-refused : (b : List ℕ) → (length b ≡ block_size → ⊥)
-    → (WrongLength ≡ sealing b) × ((values_of WrongLength ≡ sealing_values b) × (b ≡ after_sealing b))
-unfolding sealing sealing_values after_sealing
-seal-refused b n =
-    let other = ne_eqb (length b) block_size n in
-    (rw other, (rw other, rw other))

@@ -1,5 +1,5 @@
 -- Tests joined by `&&`, taken apart, and a test computed below a bound. Assumes nothing.
-use mathlib.Core.Path.{◌≡◌, refl, sym, ap, ◌∙◌}
+use mathlib.Core.Path.{◌≡◌, refl, ap, ◌∙◌}
 use mathlib.Core.Bool.{Bool, true, false, ◌&&◌}
 use mathlib.Core.Logic.{⊎_elim}
 use Prim.Native.Nat.{ℕ, zero, suc, ◌<◌}
@@ -16,13 +16,6 @@ both_right false false h = h
 
 pub both : {s t : Bool} → s ≡ true → t ≡ true → s && t ≡ true
 both {s} {t} p q = ap (λ (x : Bool). x && t) p ∙ q
-
--- What a function that computes `s && t` returns: t where s was true, and s where it was not.
-pub and-taken : {r s t : Bool} → r ≡ s → r ≡ true → t ≡ (s && t)
-and-taken {r} {s} {t} e h = ap (λ (x : Bool). x && t) (sym h ∙ e)
-
-pub and_left : {r s : Bool} (t : Bool) → r ≡ s → r ≡ false → r ≡ (s && t)
-and_left t e h = h ∙ ap (λ (x : Bool). x && t) (sym h ∙ e)
 
 -- The test f holds of every number below n: antt computes it.
 abbrev pub all_below : (ℕ → Bool) → ℕ → Bool

@@ -1,8 +1,8 @@
 -- The check of a block, and sealing (document 01, "Blocks of 512 bytes" and "Verdicts").
-use Rattle.std.specs.Prelude.{◌≡◌, Bool, ◌&&◌, cond, List, [], ◌∷◌, ◌++◌, ℕ, suc, ◌+◌, ◌-◌, ◌*◌, ◌/◌, ◌%◌, length, take, set, eqb}
+use Rattle.std.specs.Prelude.{◌≡◌, Bool, ◌&&◌, cond, List, [], ◌∷◌, ◌++◌, ℕ, suc, ◌+◌, ◌-◌, ◌*◌, ◌/◌, ◌%◌, length, take, set, eqb, Result, Ok, Err}
 use Rattle.blocks.specs.Limits.{block_size}
-use Rattle.blocks.specs.declared.Writing.{Writing}
-use Rattle.blocks.specs.declared.Writing.TheVariants.{Wrote, WrongLength, ShortBuffer}
+use Rattle.blocks.specs.declared.Unwritten.{Unwritten}
+use Rattle.blocks.specs.declared.Unwritten.TheVariants.{WrongLength, ShortBuffer}
 use Rattle.blocks.specs.Block.{byte_at, word_at}
 
 -- The sum of the bytes.
@@ -62,14 +62,14 @@ pub record Values : Type 0 where
 
 -- "A sealing or printing call that succeeds answers so, with the count of bytes written"; 13 is "sealing other than 512
 -- bytes", 14 "line buffer shorter than the line".
-abbrev pub values_of : Writing → Values
-values_of (Wrote n) = record { number = 0; written = n }
-values_of WrongLength = record { number = 13; written = 0 }
-values_of ShortBuffer = record { number = 14; written = 0 }
+abbrev pub values_of : Result ℕ Unwritten → Values
+values_of (Ok n) = record { number = 0; written = n }
+values_of (Err WrongLength) = record { number = 13; written = 0 }
+values_of (Err ShortBuffer) = record { number = 14; written = 0 }
 
 -- What sealing answers: 4 bytes written, or number 13.
-unfoldable pub sealing : List ℕ → Writing
-sealing b = cond (eqb (length b) block_size) (Wrote 4) WrongLength
+unfoldable pub sealing : List ℕ → Result ℕ Unwritten
+sealing b = cond (eqb (length b) block_size) (Ok 4) (Err WrongLength)
 
 -- Its number and count: 0 and 4, or 13 and 0.
 unfoldable pub sealing_values : List ℕ → Values

@@ -1,5 +1,6 @@
 -- Number 5: "a count, byte 3 or an unused entry wrong" (document 01, "Blocks of 512 bytes" and "Verdicts").
-use Rattle.std.specs.Prelude.{◌≡◌, Bool, true, ◌&&◌, cond, List, [], ◌∷◌, ℕ, ◌+◌, ◌*◌, ◌≤◌, ◌<◌, length, take, drop, eqb, leb}
+use Rattle.std.specs.Prelude.{◌≡◌, Bool, ◌&&◌, cond, List, ℕ, ◌+◌, ◌*◌, ◌≤◌, ◌<◌, length, take, drop, eqb, leb}
+use Rattle.std.specs.List.{list_all}
 use Rattle.blocks.specs.Kinds.{atoms_kind, secret_kind, bad_kind, rule_kind, ListsTerm}
 use Rattle.blocks.specs.Limits.{block_size, most_entries, most_term_entries}
 use Rattle.blocks.specs.Block.{byte_at, kind_of, first_count, second_count}
@@ -41,8 +42,7 @@ counts_right kind first second =
 
 -- Every byte is zero.
 unfoldable pub all_zero : List ℕ → Bool
-all_zero [] = true
-all_zero (x ∷ xs) = eqb x 0 && all_zero xs
+all_zero = list_all (λ x. eqb x 0)
 
 -- The bytes from byte i up to byte 507 are all zero.
 unfoldable pub zero_from : List ℕ → ℕ → Bool

@@ -6,8 +6,6 @@ ghost use Rattle.blocks.specs.Block.{byte_at};
 ghost use Rattle.blocks.specs.Check.{weight_of};
 ghost use Rattle.blocks.specs.Columns.{sum_of, FirstOf, column_sum, column_below, column_weighted};
 
-use crate::wide;
-
 #[derive(Clone, Copy)]
 pub struct ColumnSums {
     // The sum of its bytes.
@@ -36,18 +34,13 @@ pub fn column(block: &[u8], k: usize) -> ColumnSums
     ensures sum { result.sum ≡ column_sum block.now k }
     ensures below { result.below ≡ column_below block.now k }
 {
-    let mut sum: u16 = 0;
-    let mut below: u16 = 0;
-    let mut row = 0;
-    while row < 21 {
-        below = below + sum;
-        sum = sum + wide(block[4 + 24 * row + k]) as u16;
-        row = row + 1;
+    let mut sum = 0;
+    let mut below = 0;
+    for row in 0..21 {
+        below += sum;
+        sum += u16::from(block[4 + 24 * row + k]);
     }
-    ColumnSums {
-        sum: sum,
-        below: below,
-    }
+    ColumnSums { sum, below }
 }
 
 // The eight columns from `from` on.
@@ -58,17 +51,12 @@ pub fn eight_columns(block: &[u8], from: usize) -> EightColumns
 {
     let mut sums = [0u16; 8];
     let mut below = [0u16; 8];
-    let mut k = 0;
-    while k < 8 {
+    for k in 0..8 {
         let one = column(block, from + k);
         sums[k] = one.sum;
         below[k] = one.below;
-        k = k + 1;
     }
-    EightColumns {
-        sums: sums,
-        below: below,
-    }
+    EightColumns { sums, below }
 }
 
 // The sums of the eight columns from `from` on: each is weighed as if they were the last eight, and all of them
@@ -80,17 +68,15 @@ pub fn eight_sums(block: &[u8], from: usize) -> Sums
     ensures small { (result.a ≤ 524280) × (result.b ≤ 25165440) }
 {
     let columns = eight_columns(block, from);
-    let mut a: u32 = 0;
-    let mut b: u32 = 0;
-    let mut k = 0;
-    while k < 8 {
-        let sum = columns.sums[k] as u32;
-        a = a + sum;
-        b = b + 24 * columns.below[k] as u32 + (8 - k) as u32 * sum;
-        k = k + 1;
+    let mut a = 0;
+    let mut b = 0;
+    for k in 0..8 {
+        let sum = u32::from(columns.sums[k]);
+        a += sum;
+        b += 24 * u32::from(columns.below[k]) + (8 - k) as u32 * sum;
     }
     Sums {
-        a: a,
+        a,
         b: b + (16 - from) as u32 * a,
     }
 }
@@ -102,10 +88,10 @@ pub fn header_sums(block: &[u8]) -> Sums
     ensures b { result.b ≡ sum_of (λ i. weight_of i * byte_at block.now i) 4 }
     ensures small { (result.a ≤ 1020) × (result.b ≤ 516630) }
 {
-    let kind = wide(block[0]) as u32;
-    let first = wide(block[1]) as u32;
-    let second = wide(block[2]) as u32;
-    let zero = wide(block[3]) as u32;
+    let kind = u32::from(block[0]);
+    let first = u32::from(block[1]);
+    let second = u32::from(block[2]);
+    let zero = u32::from(block[3]);
     Sums {
         a: kind + first + second + zero,
         b: 508 * kind + 507 * first + 506 * second + 505 * zero,

@@ -6,8 +6,8 @@ mod columns;
 pub mod kinds;
 pub mod limits;
 
-ghost use Rattle.std.specs.Prelude.{◌≡◌, ◌+◌, ◌*◌, ◌≤◌, ◌<◌, length};
-ghost use Rattle.blocks.specs.Kinds.{secret_kind, bad_kind};
+ghost use Rattle.std.specs.Prelude.{◌≡◌, ◌↔◌, IsTrue, ◌+◌, ◌*◌, ◌≤◌, ◌<◌, length};
+ghost use Rattle.blocks.specs.Kinds.{secret_kind, bad_kind, byte_of};
 ghost use Rattle.blocks.specs.Limits.{block_size};
 ghost use Rattle.blocks.specs.Block.{HasBlock, has_block, block_at, word_at, kind_of, first_count, second_count};
 ghost use Rattle.blocks.specs.Block.{first_entries, second_entries, behind, Fitting};
@@ -15,11 +15,11 @@ ghost use Rattle.blocks.specs.Check.{check_a, check_b, check_right, values_of, s
 ghost use Rattle.blocks.specs.Layout.{within, counts_right, zero_from, layout_right};
 
 use columns::{eight_sums, header_sums};
+use kinds::Kind;
 
-// What a call that seals or prints answers: how many bytes it wrote, or why it wrote none.
-#[derive(Clone, Copy)]
-pub enum Writing {
-    Wrote(usize),
+// Why a call that seals or prints wrote nothing; one that succeeds answers how many bytes it wrote.
+#[derive(Clone, Copy, Debug, PartialEq, Eq)]
+pub enum Unwritten {
     WrongLength,
     ShortBuffer,
 }
@@ -32,32 +32,28 @@ pub struct Check {
 }
 
 // Document 01's number of an answer, 0 where the call succeeded.
-pub fn number(answer: Writing) -> usize
+pub fn number(answer: Result<usize, Unwritten>) -> usize
     ensures { result ≡ (values_of answer).number }
 {
     match answer {
-        Writing::Wrote(_) => 0,
-        Writing::WrongLength => 13,
-        Writing::ShortBuffer => 14,
+        Ok(_) => 0,
+        Err(Unwritten::WrongLength) => 13,
+        Err(Unwritten::ShortBuffer) => 14,
     }
 }
 
 // How many bytes the call wrote.
-pub fn written(answer: Writing) -> usize
+pub fn written(answer: Result<usize, Unwritten>) -> usize
     ensures { result ≡ (values_of answer).written }
 {
-    match answer {
-        Writing::Wrote(n) => n,
-        Writing::WrongLength => 0,
-        Writing::ShortBuffer => 0,
-    }
+    answer.unwrap_or(0)
 }
 
 // A byte, wider.
 pub fn wide(x: u8) -> usize
     ensures { (result ≡ x) × (result ≤ 255) }
 {
-    x as usize
+    usize::from(x)
 }
 
 // Whether the file has block i.
@@ -82,15 +78,24 @@ pub fn word(b: &[u8], i: usize) -> usize
     requires { i + 1 < length b.now }
     ensures { (result ≡ word_at b.now i) × (result ≤ 65535) }
 {
-    wide(b[i]) + 256 * wide(b[i + 1])
+    usize::from(u16::from_le_bytes([b[i], b[i + 1]]))
 }
 
-// Byte 0.
+// Byte 0. That a block has 512 bytes stands in the clauses and in no type: it is lent as a part of a file, and a type would ask
+// more of callers.
 pub fn kind(block: &[u8]) -> u8
     requires { length block.now ≡ block_size }
     ensures { result ≡ kind_of block.now }
 {
     block[0]
+}
+
+// Whether byte 0 names this kind.
+pub fn is_kind(block: &[u8], kind: Kind) -> bool
+    requires { length block.now ≡ block_size }
+    ensures { IsTrue result ↔ (kind_of block.now ≡ byte_of kind) }
+{
+    u8::from(kind) == block[0]
 }
 
 // Byte 1.
@@ -142,12 +147,10 @@ pub fn check_of(block: &[u8]) -> Check
     let header = header_sums(block);
     let mut a = header.a;
     let mut b = header.b;
-    let mut from = 0;
-    while from < 24 {
-        let eight = eight_sums(block, from);
-        a = a + eight.a;
-        b = b + eight.b;
-        from = from + 8;
+    for turn in 0..3 {
+        let eight = eight_sums(block, 8 * turn);
+        a += eight.a;
+        b += eight.b;
     }
     Check {
         a: a % 65521,
@@ -156,6 +159,7 @@ pub fn check_of(block: &[u8]) -> Check
 }
 
 // Whether the block has 512 bytes and carries its own check: number 2 where it does not.
+#[tactic(auto, unfolding(crate::specs::Check::check_right))]
 pub fn check_right(block: &[u8]) -> bool
     ensures { result ≡ check_right block.now }
 {
@@ -172,70 +176,63 @@ pub fn check_right(block: &[u8]) -> bool
 }
 
 // Writes the check of a block into its last four bytes; refuses other than 512 bytes, and then alters none.
-pub fn seal(block: &mut [u8]) -> Writing
+#[tactic(auto, unfolding(crate::specs::Check::sealing, crate::specs::Check::sealing_values, crate::specs::Check::after_sealing))]
+pub fn seal(block: &mut [u8]) -> Result<usize, Unwritten>
     ensures answer { result ≡ sealing block.old }
     ensures values { values_of result ≡ sealing_values block.old }
     ensures bytes { block.new ≡ after_sealing block.old }
 {
     if block.len() != limits::BLOCK_SIZE {
-        return Writing::WrongLength;
+        return Err(Unwritten::WrongLength);
     }
     let check = check_of(block);
-    let a = check.a;
-    let b = check.b;
-    block[508] = (a % 256) as u8;
-    block[509] = (a / 256 % 256) as u8;
-    block[510] = (b % 256) as u8;
-    block[511] = (b / 256 % 256) as u8;
-    Writing::Wrote(4)
+    block[508..510].copy_from_slice(&(check.a as u16).to_le_bytes());
+    block[510..512].copy_from_slice(&(check.b as u16).to_le_bytes());
+    Ok(4)
 }
 
 fn is_within(low: usize, high: usize, x: usize) -> bool
     ensures { result ≡ within low high x }
 {
-    low <= x && x <= high
+    (low..=high).contains(&x)
 }
 
 // Whether blocks of this kind list one term each.
 pub fn lists_term(kind: u8) -> bool
     ensures { result ≡ within secret_kind bad_kind kind }
 {
-    kinds::SECRET <= kind && kind <= kinds::BAD
+    matches!(
+        Kind::try_from(kind),
+        Ok(Kind::Secret | Kind::Good | Kind::Bad)
+    )
 }
 
 // Whether the kind allows the two counts.
+#[tactic(auto, unfolding(crate::specs::Layout::counts_right))]
 fn counts_right(kind: u8, first: usize, second: usize) -> bool
     ensures { result ≡ counts_right kind first second }
 {
-    if kind == kinds::ATOMS {
-        return is_within(1, limits::MOST_ENTRIES, first) && second == 0;
+    match Kind::try_from(kind) {
+        Ok(Kind::Atoms) => is_within(1, limits::MOST_ENTRIES, first) && second == 0,
+        Ok(Kind::Rule) => {
+            first <= limits::MOST_TERM_ENTRIES && is_within(1, limits::MOST_TERM_ENTRIES, second)
+        }
+        Ok(_) => is_within(1, limits::MOST_TERM_ENTRIES, first) && second == 0,
+        Err(_) => false,
     }
-    if kind == kinds::RULE {
-        return is_within(0, limits::MOST_TERM_ENTRIES, first)
-            && is_within(1, limits::MOST_TERM_ENTRIES, second);
-    }
-    if !lists_term(kind) {
-        return false;
-    }
-    is_within(1, limits::MOST_TERM_ENTRIES, first) && second == 0
 }
 
 // Whether the bytes from `from` up to byte 507 are zero.
+#[tactic(auto, unfolding(crate::specs::Layout::zero_from, crate::specs::Layout::all_zero))]
 fn zero_from(block: &[u8], from: usize) -> bool
     requires { length block.now ≡ block_size }
     ensures { result ≡ zero_from block.now from }
 {
-    let mut i = from;
-    while i < 508 {
-        if block[i] != 0 {
-            return false;
-        }
-        i = i + 1;
-    }
-    true
+    block[..508].iter().skip(from).all(|x| *x == 0)
 }
 
 // Whether the counts, byte 3 and the unused entries are right: number 5.
+#[tactic(auto, unfolding(crate::specs::Layout::layout_right))]
 pub fn layout_right(block: &[u8]) -> bool
     ensures { result ≡ layout_right block.now }
 {

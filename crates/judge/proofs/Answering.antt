@@ -1,7 +1,6 @@
--- Laws of what is made of a verdict: number, block and place, the packed answer, the line, the tally.
+-- Laws of what is made of a verdict: number, block and place, the packed answer, the line.
 pub mod Answers
 pub mod Packed
 pub mod Digits
 pub mod Printing
-pub mod Tallies
 pub mod Loaders

@@ -1,6 +1,6 @@
 -- Cover on the entries of a rule: what the walks over them promise. The subterm at entry k is what the entries from k on begin
 -- with (terms/proofs/PlacedLaws.antt); it stands at a place if no hash stands above it (terms/proofs/PlaceEntryLaws.antt).
-use Rattle.std.specs.Prelude.{◌≡◌, Bool, true, false, List, ◌++◌, ◌⊎◌, ◌↔◌, ℕ, ◌+◌, ◌*◌, ◌-◌, ◌<◌, ◌≤◌, length, get_or}
+use Rattle.std.specs.Prelude.{◌≡◌, Bool, true, false, Option, Some, None, List, ◌++◌, ◌⊎◌, ◌↔◌, ℕ, ◌+◌, ◌*◌, ◌-◌, ◌<◌, ◌≤◌, length, get_or}
 use Rattle.std.proofs.Math.Option.{some}
 use Rattle.blocks.specs.Kinds.{rule_kind}
 use Rattle.blocks.specs.Limits.{most_term_bytes}
@@ -28,87 +28,57 @@ sub_at e k = term_of (from (4 * k) e)
 abbrev pub entry_flags : ℕ
 entry_flags = 64
 
--- A flag for each of 64 entries; it is on if it is 1.
-abbrev pub On : List ℕ → ℕ → Type 0
-On flags k = get_or flags k 0 ≡ 1
-
--- Every flag is 0 or 1: what says which are on then says them all.
-abbrev pub Bits : List ℕ → Type 0
-Bits flags = (k : ℕ) → get_or flags k 0 ≤ 1
-
--- The flag of an answer; and a flag, put on or off, or as it is.
-unfoldable pub flag_of : Bool → ℕ
-flag_of true = 1
-flag_of false = 0
-
-unfoldable pub put_on : ℕ → Bool → ℕ
-put_on flag true = 1
-put_on flag false = flag
-
-unfoldable pub put_off : ℕ → Bool → ℕ
-put_off flag true = 0
-put_off flag false = flag
-
--- One of two answers is yes.
-unfoldable pub either : Bool → Bool → Bool
-either true b = true
-either false b = b
-
--- What is remembered of an answer: 1 for yes, 2 for no; 0 says that it is not known.
-unfoldable pub told_of : Bool → ℕ
-told_of true = 1
-told_of false = 2
+-- A flag for each of 64 entries, which is on or off.
+abbrev pub On : List Bool → ℕ → Type 0
+On flags k = get_or flags k false ≡ true
 
 -- What is remembered of a claim about the subterms at e's entries is so. (Which answers are remembered is left open: one
 -- that is missing is asked for.)
-pub record Remembered (P : Term Variable → Type 0) (e memo : List ℕ) : Type 0 where
+pub record Remembered (P : Term Variable → Type 0) (e : List ℕ) (memo : List (Option Bool)) : Type 0 where
   pub long : length memo ≡ entry_flags
-  pub holds : (k : ℕ) → get_or memo k 0 ≡ 1 → P (sub_at e k)
-  pub fails : (k : ℕ) → get_or memo k 0 ≡ 2 → ¬ P (sub_at e k)
+  pub holds : (k : ℕ) → get_or memo k None ≡ Some true → P (sub_at e k)
+  pub fails : (k : ℕ) → get_or memo k None ≡ Some false → ¬ P (sub_at e k)
 
 -- It stays as it is, or nothing is known any more.
-pub record Forgotten (memo : List ℕ) : Type 0 where
+pub record Forgotten (memo : List (Option Bool)) : Type 0 where
   pub long : length memo ≡ entry_flags
-  pub none : (k : ℕ) → get_or memo k 0 ≡ 0
+  pub none : (k : ℕ) → get_or memo k None ≡ None
 
-abbrev pub Renewed : Bool → List ℕ → List ℕ → Type 0
+abbrev pub Renewed : Bool → List (Option Bool) → List (Option Bool) → Type 0
 Renewed true old new = new ≡ old
 Renewed false old new = Forgotten new
 
 -- The flags from entry `low` up to entry `high` have this value, and the others are as they were.
-pub record Painted (old new : List ℕ) (low high value : ℕ) : Type 0 where
+pub record Painted (old new : List Bool) (low high : ℕ) (value : Bool) : Type 0 where
   pub long : length new ≡ entry_flags
-  pub inside : (k : ℕ) → low ≤ k → k < high → get_or new k 0 ≡ value
-  pub outside : (k : ℕ) → ¬ ((low ≤ k) × (k < high)) → get_or new k 0 ≡ get_or old k 0
+  pub inside : (k : ℕ) → low ≤ k → k < high → get_or new k false ≡ value
+  pub outside : (k : ℕ) → ¬ ((low ≤ k) × (k < high)) → get_or new k false ≡ get_or old k false
 
 -- The flags that were on, and those of which P holds, are on.
-pub record Raised (old new : List ℕ) (P : ℕ → Type 0) : Type 0 where
+pub record Raised (old new : List Bool) (P : ℕ → Type 0) : Type 0 where
   pub long : length new ≡ entry_flags
-  pub bits : Bits old → Bits new
   pub on : (k : ℕ) → On new k ↔ (On old k ⊎ P k)
 
 -- Of the flags that were on, those of which P does not hold are on.
-pub record Cleared (old new : List ℕ) (P : ℕ → Type 0) : Type 0 where
+pub record Cleared (old new : List Bool) (P : ℕ → Type 0) : Type 0 where
   pub long : length new ≡ entry_flags
-  pub bits : Bits old → Bits new
   pub kept : (k : ℕ) → On new k → On old k × ¬ P k
   pub gone : (k : ℕ) → On old k → ¬ On new k → P k
 
 -- Of the flags from entry `low` up to entry `high` that were on, those that are on in the other ones are; the rest is as it was.
-pub record Narrowed (old new : List ℕ) (low high : ℕ) (kept : List ℕ) : Type 0 where
+pub record Narrowed (old new : List Bool) (low high : ℕ) (kept : List Bool) : Type 0 where
   pub long : length new ≡ entry_flags
-  pub bits : Bits old → Bits new
   pub on : (k : ℕ) → On new k ↔ (On old k × (low ≤ k → k < high → On kept k))
 
 -- A flag from `low` up to `high` is on.
-pub record SomeOn (flags : List ℕ) (low high : ℕ) : Type 0 where
+pub record SomeOn (flags : List Bool) (low high : ℕ) : Type 0 where
   pub number : ℕ
   pub above : low ≤ number
   pub below : number < high
   pub on : On flags number
 
 -- A flag is on in both.
-pub record SomeBoth (flags others : List ℕ) : Type 0 where
+pub record SomeBoth (flags others : List Bool) : Type 0 where
   pub number : ℕ
   pub on : On flags number
   pub other : On others number
@@ -196,9 +166,8 @@ pub record HatBelow (certificate : Certificate) (e : List ℕ) (n k : ℕ) : Typ
   pub hat : HatOver certificate (sub_at e over) over k
 
 -- The flags are on where P holds.
-pub record Flags (flags : List ℕ) (P : ℕ → Type 0) : Type 0 where
+pub record Flags (flags : List Bool) (P : ℕ → Type 0) : Type 0 where
   pub long : length flags ≡ entry_flags
-  pub bits : Bits flags
   pub on : (k : ℕ) → On flags k ↔ P k
 
 -- The entries of a term, or none: a rule's premise.
@@ -219,9 +188,8 @@ pub record OpenBelow (certificate : Certificate) (e : List ℕ) (n k : ℕ) : Ty
   pub every : (h : ℕ) → h < n → get_or e (4 * h) 0 ≡ 3 → h < k → k < h + size (sub_at e h) → NoHatOver certificate (sub_at e h) h k
 
 -- Of the entries strictly below entry h, if it is an encryption, those are closed that may not have it above them.
-pub record ClosedBelow (certificate : Certificate) (old new e : List ℕ) (h : ℕ) : Type 0 where
+pub record ClosedBelow (certificate : Certificate) (old new : List Bool) (e : List ℕ) (h : ℕ) : Type 0 where
   pub long : length new ≡ entry_flags
-  pub bits : Bits old → Bits new
   pub on : (k : ℕ) → On new k ↔ (On old k × (get_or e (4 * h) 0 ≡ 3 → h < k → k < h + size (sub_at e h) → NoHatOver certificate (sub_at e h) h k))
 
 -- Entry k is an open place of the term, if there is one.
@@ -237,40 +205,38 @@ pub record OpenHolds (certificate : Certificate) (e : List ℕ) (P : Term Variab
   pub holds : P (sub_at e number)
 
 -- The flags are on at the wanted entries that are open as far as the first n entries go; at those that are open.
-pub record OpenAmong (certificate : Certificate) (e wanted : List ℕ) (n : ℕ) (flags : List ℕ) : Type 0 where
+pub record OpenAmong (certificate : Certificate) (e : List ℕ) (wanted : List Bool) (n : ℕ) (flags : List Bool) : Type 0 where
   pub long : length flags ≡ entry_flags
-  pub bits : Bits wanted → Bits flags
   pub on : (k : ℕ) → On flags k ↔ (On wanted k × OpenBelow certificate e n k)
 
-pub record OpenFlags (certificate : Certificate) (e wanted flags : List ℕ) : Type 0 where
+pub record OpenFlags (certificate : Certificate) (e : List ℕ) (wanted flags : List Bool) : Type 0 where
   pub long : length flags ≡ entry_flags
-  pub bits : Bits wanted → Bits flags
   pub on : (k : ℕ) → On flags k ↔ (On wanted k × OpenEntry certificate e k)
 
 -- What a search through flagged entries asks for.
-pub record Flagged (e flags : List ℕ) : Type 0 where
+pub record Flagged (e : List ℕ) (flags : List Bool) : Type 0 where
   pub entries : Entries e
   pub long : length flags ≡ entry_flags
   pub within : (k : ℕ) → On flags k → 4 * k < length e
 
 -- Entry k is flagged, and P holds of the subterm there.
-pub record FlaggedWith (e flags : List ℕ) (P : Term Variable → Type 0) (k : ℕ) : Type 0 where
+pub record FlaggedWith (e : List ℕ) (flags : List Bool) (P : Term Variable → Type 0) (k : ℕ) : Type 0 where
   pub on : On flags k
   pub holds : P (sub_at e k)
 
-pub record SomeFlagged (e flags : List ℕ) (P : Term Variable → Type 0) : Type 0 where
+pub record SomeFlagged (e : List ℕ) (flags : List Bool) (P : Term Variable → Type 0) : Type 0 where
   pub number : ℕ
   pub is : FlaggedWith e flags P number
 
 -- A table of the flagged entries by the slots of their roots: a slot has the number of a flagged entry, counted from 1, and
 -- the slot of each flagged entry has one; which of several with one slot it has is left open. (Of those below n: as far as
 -- it is filled in.)
-pub record IndexedBelow (e flags : List ℕ) (n : ℕ) (index : List ℕ) : Type 0 where
+pub record IndexedBelow (e : List ℕ) (flags : List Bool) (n : ℕ) (index : List ℕ) : Type 0 where
   pub long : length index ≡ root_slots
   pub points : (s : ℕ) → ¬ (get_or index s 0 ≡ 0) → On flags (get_or index s 0 - 1)
   pub noted : (k : ℕ) → k < n → On flags k → ¬ (get_or index (slot_at (from (4 * k) e)) 0 ≡ 0)
 
-abbrev pub Indexed : List ℕ → List ℕ → List ℕ → Type 0
+abbrev pub Indexed : List ℕ → List Bool → List ℕ → Type 0
 Indexed e flags index = IndexedBelow e flags entry_flags index
 
 -- Entry k is one of these entries, at a place, and P holds of it.
@@ -288,11 +254,11 @@ abbrev pub AskedEntry : Bool → Certificate → List ℕ → ℕ → Type 0
 AskedEntry asked certificate e = EntryWith e (λ k. (asked ≡ true) × Risky certificate (sub_at e k))
 
 -- Whether entry k of the premise is open matters: a listed secret stands there, or a risky subterm of the conclusion.
-pub data Wanted (certificate : Certificate) (premise conclusion risky : List ℕ) (k : ℕ) : Type 0 where
+pub data Wanted (certificate : Certificate) (premise conclusion : List ℕ) (risky : List Bool) (k : ℕ) : Type 0 where
   is_secret : IsSecret certificate (sub_at premise k) → Wanted certificate premise conclusion risky k
   is_risky : SomeFlagged conclusion risky (λ s. s ≡ sub_at premise k) → Wanted certificate premise conclusion risky k
 
-abbrev pub WantedEntry : Certificate → List ℕ → List ℕ → List ℕ → ℕ → Type 0
+abbrev pub WantedEntry : Certificate → List ℕ → List ℕ → List Bool → ℕ → Type 0
 WantedEntry certificate premise conclusion risky = EntryWith premise (Wanted certificate premise conclusion risky)
 
 -- Entry k of the conclusion, if it stands at a place and is risky, is covered.
@@ -318,6 +284,6 @@ pub record Repeats (part : List ℕ → List ℕ) (file : List ℕ) (i : ℕ) : 
   pub same : part (block_at file (i - 1)) ≡ part (block_at file i)
 
 -- What is remembered before block i is judged: it is about a part of the block before it, if that is a rule.
-pub record Carried (part : List ℕ → List ℕ) (P : Term Variable → Type 0) (file : List ℕ) (i : ℕ) (memo : List ℕ) : Type 0 where
+pub record Carried (part : List ℕ → List ℕ) (P : Term Variable → Type 0) (file : List ℕ) (i : ℕ) (memo : List (Option Bool)) : Type 0 where
   pub long : length memo ≡ entry_flags
   pub known : AfterRule file i → Remembered P (part (block_at file (i - 1))) memo

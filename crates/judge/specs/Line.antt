@@ -1,10 +1,10 @@
 -- The verdict line (document 01, "Verdicts"): "`accepted` or `refused`, then decimal fields without leading zeros".
-use Rattle.std.specs.Prelude.{◌≡◌, Bool, true, false, cond, List, [], ◌∷◌, ◌++◌, ℕ, zero, suc, ◌+◌, ◌-◌, ◌*◌, ◌/◌, ◌%◌, ◌≤◌, ◌<◌, length, get_or, take, drop, leb, ltb}
+use Rattle.std.specs.Prelude.{◌≡◌, Bool, true, false, cond, List, [], ◌∷◌, ◌++◌, ℕ, zero, suc, ◌+◌, ◌-◌, ◌*◌, ◌/◌, ◌%◌, ◌≤◌, ◌<◌, length, get_or, take, drop, leb, ltb, Result, Ok, Err}
 use Prim.Native.Char.{code}
 use Prim.Native.String as text
 use Prim.Native.String.{String}
-use Rattle.blocks.specs.declared.Writing.{Writing}
-use Rattle.blocks.specs.declared.Writing.TheVariants.{Wrote, ShortBuffer}
+use Rattle.blocks.specs.declared.Unwritten.{Unwritten}
+use Rattle.blocks.specs.declared.Unwritten.TheVariants.{ShortBuffer}
 use Rattle.blocks.specs.Check.{Values}
 use Rattle.judge.specs.declared.verdict.Counts.{Counts}
 use Rattle.judge.specs.declared.verdict.Verdict.{Verdict}
@@ -91,8 +91,8 @@ holds_line v buffer = leb (length (line_of v)) (length buffer)
 
 -- "A sealing or printing call that succeeds answers so, with the count of bytes written: 4, or the line's length"; else
 -- number 14, "line buffer shorter than the line".
-unfoldable pub printing : Verdict → List ℕ → Writing
-printing v buffer = cond (holds_line v buffer) (Wrote (length (line_of v))) ShortBuffer
+unfoldable pub printing : Verdict → List ℕ → Result ℕ Unwritten
+printing v buffer = cond (holds_line v buffer) (Ok (length (line_of v))) (Err ShortBuffer)
 
 -- Its number and count: 0 and the length, or 14 and 0.
 unfoldable pub printing_values : Verdict → List ℕ → Values

@@ -1,5 +1,5 @@
 -- What the blocks of one kind list, and what is asked of them.
-use Rattle.std.specs.Prelude.{◌≡◌, true, false, ◌⊎◌, ◌↔◌, ℕ, ◌+◌, ◌*◌, ◌-◌, ◌%◌, ◌<◌, ◌≤◌, eqb, length, get_or, drop}
+use Rattle.std.specs.Prelude.{◌≡◌, Bool, true, false, ◌⊎◌, ◌↔◌, ℕ, ◌+◌, ◌*◌, ◌-◌, ◌%◌, ◌<◌, ◌≤◌, eqb, length, get_or, drop, Option, Some, None}
 use mathlib.Core.List.{List, [], map, Memᴰ}
 use Rattle.std.proofs.Math.Decide.{ℕ_discrete}
 use Rattle.blocks.specs.Kinds.{secret_kind, good_kind, bad_kind, ListsTerm}
@@ -115,6 +115,24 @@ pub record Searching (file : List ℕ) (kind : ℕ) (e : List ℕ) : Type 0 wher
   pub term : Begins e
   pub short : length e ≤ most_term_bytes
 
+-- Block i lists a term, and is asked about the one that e begins with.
+abbrev pub SearchingAt : List ℕ → ℕ → List ℕ → Type 0
+SearchingAt file i e = (i < block_count file) × Searching file (kind_of (block_at file i)) e
+
+-- Its pattern, of its kind, has P.
+abbrev pub HasAt : List ℕ → ℕ → (ℕ → Term Variable → Type 0) → Type 0
+HasAt file i P = P (kind_of (block_at file i)) (pattern_of (block_at file i))
+
+-- A test may be asked at the blocks of this kind before `high`.
+abbrev pub AskedAt : List ℕ → ℕ → ℕ → (ℕ → Type 0) → Type 0
+AskedAt file kind high pre = (i : ℕ) → i < high → kind_of (block_at file i) ≡ kind → pre i
+
+-- What a search by a test says: yes, and the test says yes at a block of this kind from `low` up to `high`; no, and it says
+-- no at each.
+pub record SomeMet (file : List ℕ) (kind low high : ℕ) (post : ℕ → Bool → Type 0) (b : Bool) : Type 0 where
+  pub some : b ≡ true → (i : ℕ) × (low ≤ i) × (i < high) × (kind_of (block_at file i) ≡ kind) × post i true
+  pub none : b ≡ false → (i : ℕ) → low ≤ i → i < high → kind_of (block_at file i) ≡ kind → post i false
+
 -- The term that e begins with has n entries.
 pub record SizeOf (e : List ℕ) (n : ℕ) : Type 0 where
   pub is : n ≡ size (term_of e)
@@ -206,6 +224,11 @@ pub record MarkTag (e : List ℕ) (low high : ℕ) : Type 0 where
   pub above : low ≤ number
   pub below : number < high
   pub tag : MarkedTag (get_or e (4 * number) 0)
+
+-- How many entries there are up to this one; 0 if it is none.
+abbrev pub up_to : Option ℕ → ℕ
+up_to None = 0
+up_to (Some k) = k + 1
 
 -- From entry r on there is no such tag, and entry r - 1 has it, if r is not 0.
 pub record LastMark (e : List ℕ) (r : ℕ) : Type 0 where

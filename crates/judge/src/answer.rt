@@ -19,13 +19,13 @@ fn columns(number: u32, block: u8, place: u8) -> Row
     ensures { result ≡ record { number = number; block = block; place = place } }
 {
     Row {
-        number: number,
-        block: block,
-        place: place,
+        number,
+        block,
+        place,
     }
 }
 
-// The row of document 01's table for a fault.
+// The row of document 01's table for a fault. Its numbers stay codes: the packed answer, the C call and the line carry them.
 fn row_of(f: Fault) -> Row
     ensures { result ≡ row_of f }
 {
@@ -74,44 +74,44 @@ pub fn packed(v: Verdict) -> u32
 {
     match v {
         Verdict::Accepted(_) => 0,
-        Verdict::Refused(f) => number(f) * 65536 + block_of(f) as u32 * 256 + place_of(f) as u32,
+        Verdict::Refused(f) => number(f) * 65536
+            + u32::from(block_of(f)) * 256
+            + u32::from(place_of(f)),
     }
 }
 
 // Is the part for this number empty, whatever block is named?
+#[tactic(auto, unfolding(crate::specs::Answer::partless))]
 fn is_partless(n: u32) -> bool
     ensures { result ≡ partless n }
 {
-    match n {
-        1 | 4 | 16 => true,
-        _ => false,
-    }
+    matches!(n, 1 | 4 | 16)
 }
 
 // Block i of the file, empty if the file lacks it.
+#[tactic(auto, unfolding(crate::specs::Answer::block_or_none, crate::specs::Answer::block_start))]
 fn block_or_none<'a>(file: &'a [u8], i: usize) -> &'a [u8]
     ensures part { result.now ≡ block_or_none file.now i }
     ensures place { result.ref_ptr ≡ behind (block_start file.now i) file.entry.ref_ptr }
 {
     if blocks::has_block(file, i) {
-        return blocks::block(file, i);
+        blocks::block(file, i)
+    } else {
+        &file[0..0]
     }
-    &file[0..0]
 }
 
 // The refused block, as a part of the file; empty on acceptance, for numbers 1, 4 and 16, and for a block that
 // the file lacks.
+#[tactic(auto, unfolding(crate::specs::Answer::part_of, crate::specs::Answer::part_start))]
 pub fn refused_part<'a>(file: &'a [u8], v: Verdict) -> &'a [u8]
     ensures part { result.now ≡ part_of file.now v }
     ensures place { result.ref_ptr ≡ behind (part_start file.now v) file.entry.ref_ptr }
 {
     match v {
-        Verdict::Accepted(_) => &file[0..0],
-        Verdict::Refused(f) => {
-            if is_partless(number(f)) {
-                return &file[0..0];
-            }
-            block_or_none(file, block_of(f) as usize)
+        Verdict::Refused(f) if !is_partless(number(f)) => {
+            block_or_none(file, usize::from(block_of(f)))
         }
+        _ => &file[0..0],
     }
 }

@@ -33,10 +33,7 @@ pub struct Checked {
 fn raised(n: u32) -> u32
     ensures { result ≡ raised_of n }
 {
-    if n == 4_294_967_295 {
-        return n;
-    }
-    n + 1
+    n.saturating_add(1)
 }
 
 // A loader's counts with the verdict counted.
@@ -46,27 +43,29 @@ fn counted(c: LoaderCounts, v: Verdict) -> LoaderCounts
     match v {
         Verdict::Accepted(_) => LoaderCounts {
             accepted: raised(c.accepted),
-            refused: c.refused,
+            ..c
         },
         Verdict::Refused(_) => LoaderCounts {
-            accepted: c.accepted,
             refused: raised(c.refused),
+            ..c
         },
     }
 }
 
 // The tally with the verdict counted for this loader.
+#[tactic(auto, unfolding(crate::specs::Checked::tallied_of, crate::specs::Checked::pair_of))]
 fn tallied(t: Tally, loader: usize, v: Verdict) -> Tally
     requires { IsLoader loader }
     ensures { result ≡ tallied_of t loader v }
 {
     let mut loaders = t.loaders;
     loaders[loader] = counted(loaders[loader], v);
-    Tally { loaders: loaders }
+    Tally { loaders }
 }
 
 // Judges the file that a loader hands in, and counts the verdict for that loader. A number that no loader has is refused
 // with 16: the file is not looked at, and every count stays.
+#[tactic(auto, unfolding(crate::specs::Checked::checked_of, crate::specs::Checked::checking_values))]
 pub fn check(file: &[u8], loader: u32, t: Tally) -> Checked
     ensures checked { result ≡ checked_of file.now loader t }
     ensures values { verdict_values result.verdict ≡ checking_values loader file.now }

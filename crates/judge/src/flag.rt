@@ -1,149 +1,106 @@
-// Flags for the entries of a term, of which it has at most 64: a flag is on if it is 1.
-ghost use Rattle.std.specs.Prelude.{◌≡◌, ◌<◌, ◌≤◌, length, get_or, set};
+// Flags for the entries of a term, of which it has at most 64, and what is remembered of them.
+ghost use Rattle.std.specs.Prelude.{◌≡◌, ◌<◌, ◌≤◌, ◌||◌, false, get_or, set, MatchOption};
 ghost use Rattle.terms.specs.Decisions.{Says};
 ghost use Rattle.terms.specs.First.{FirstNot};
-ghost use Rattle.judge.specs.CoverEntries.{entry_flags, On, flag_of, either, put_on, put_off, told_of, Renewed, Painted, Cleared, Narrowed, SomeOn, SomeBoth};
+ghost use Rattle.judge.specs.CoverEntries.{entry_flags, On, Renewed, Painted, Cleared, Narrowed, SomeOn, SomeBoth};
 
 // Room for the flags of a term.
 pub const FLAGS: usize = 64;
 
 // Gives the flags from `low` up to `high` this value.
-pub fn paint(flags: &mut [u8; FLAGS], low: usize, high: usize, value: u8)
-    requires { (length flags.old ≡ entry_flags) × (low ≤ high) × (high ≤ entry_flags) }
+pub fn paint(flags: &mut [bool; FLAGS], low: usize, high: usize, value: bool)
+    requires { (low ≤ high) × (high ≤ entry_flags) }
     ensures { Painted flags.old flags.new low high value }
 {
-    let mut k = low;
-    while k < high {
-        flags[k] = value;
-        k += 1;
-    }
+    flags[low..high].fill(value);
 }
 
 // Is a flag from `low` up to `high` on?
-pub fn some_on(flags: &[u8; FLAGS], low: usize, high: usize) -> bool
-    requires { (length flags.now ≡ entry_flags) × (high ≤ entry_flags) }
+pub fn some_on(flags: &[bool; FLAGS], low: usize, high: usize) -> bool
+    requires { high ≤ entry_flags }
     ensures { Says result (SomeOn flags.now low high) }
 {
-    let mut k = low;
-    while k < high {
-        if flags[k] == 1 {
+    for k in low..high {
+        if flags[k] {
             return true;
         }
-        k += 1;
     }
     false
 }
 
 // Is a flag on in both? All are asked, which the compiler does many at a time.
-pub fn some_both(flags: &[u8; FLAGS], others: &[u8; FLAGS]) -> bool
-    requires { (length flags.now ≡ entry_flags) × (length others.now ≡ entry_flags) }
+pub fn some_both(flags: &[bool; FLAGS], others: &[bool; FLAGS]) -> bool
     ensures { Says result (SomeBoth flags.now others.now) }
 {
     let mut found = false;
-    let mut k = 0;
-    while k < FLAGS {
-        found = either(found, both_on(flags[k], others[k]));
-        k += 1;
+    for k in 0..FLAGS {
+        found |= flags[k] & others[k];
     }
     found
 }
 
-// Are both flags on?
-fn both_on(flag: u8, other: u8) -> bool
-    ensures { Says result ((flag ≡ 1) × (other ≡ 1)) }
-{
-    if flag == 1 { other == 1 } else { false }
-}
-
-// The flag of an answer.
-pub fn flag_of(yes: bool) -> u8
-    ensures { result ≡ flag_of yes }
-{
-    if yes { 1 } else { 0 }
-}
-
-// Is one of the two answers yes?
-pub fn either(a: bool, b: bool) -> bool
-    ensures { result ≡ either a b }
-{
-    if a { true } else { b }
-}
-
-// A flag, put on or as it is.
-pub fn put_on(flag: u8, on: bool) -> u8
-    ensures { result ≡ put_on flag on }
-{
-    if on { 1 } else { flag }
-}
-
 // Puts flag k on, if that is asked, and says whether it was.
-pub fn raise(flags: &mut [u8; FLAGS], k: usize, on: bool) -> bool
-    requires { (length flags.old ≡ entry_flags) × (k < entry_flags) }
-    ensures { (result ≡ on) × (flags.new ≡ set flags.old k (put_on (get_or flags.old k 0) on)) }
+pub fn raise(flags: &mut [bool; FLAGS], k: usize, on: bool) -> bool
+    requires { k < entry_flags }
+    ensures { (result ≡ on) × (flags.new ≡ set flags.old k (get_or flags.old k false || on)) }
 {
-    flags[k] = put_on(flags[k], on);
+    flags[k] |= on;
     on
 }
 
-// A flag, put off or as it is.
-pub fn put_off(flag: u8, off: bool) -> u8
-    ensures { result ≡ put_off flag off }
-{
-    if off { 0 } else { flag }
-}
-
 // Puts the flags off that are on in the other ones.
-pub fn clear(flags: &mut [u8; FLAGS], off: &[u8; FLAGS])
-    requires { (length flags.old ≡ entry_flags) × (length off.now ≡ entry_flags) }
+pub fn clear(flags: &mut [bool; FLAGS], off: &[bool; FLAGS])
     ensures { Cleared flags.old flags.new (On off.now) }
 {
-    let mut k = 0;
-    while k < FLAGS {
-        flags[k] = put_off(flags[k], off[k] == 1);
-        k += 1;
+    for k in 0..FLAGS {
+        flags[k] &= !off[k];
     }
 }
 
 // Puts the flags from `low` up to `high` off that are not on in the other ones.
-pub fn narrow(flags: &mut [u8; FLAGS], low: usize, high: usize, kept: &[u8; FLAGS])
-    requires { (length flags.old ≡ entry_flags) × (low ≤ high) × (high ≤ entry_flags) × (length kept.now ≡ entry_flags) }
+pub fn narrow(flags: &mut [bool; FLAGS], low: usize, high: usize, kept: &[bool; FLAGS])
+    requires { (low ≤ high) × (high ≤ entry_flags) }
     ensures { Narrowed flags.old flags.new low high kept.now }
 {
-    let mut k = low;
-    while k < high {
-        flags[k] = put_off(flags[k], kept[k] != 1);
-        k += 1;
+    for k in low..high {
+        flags[k] &= kept[k];
     }
 }
 
 // The first of `count` flags that is on, if there is one.
-pub fn first_on(flags: &[u8; FLAGS], count: usize) -> Option<usize>
-    requires { (length flags.now ≡ entry_flags) × (count ≤ entry_flags) }
+pub fn first_on(flags: &[bool; FLAGS], count: usize) -> Option<usize>
+    requires { count ≤ entry_flags }
     ensures { FirstNot (λ k. ¬ On flags.now k) count result }
 {
-    let mut k = 0;
-    while k < count {
-        if flags[k] == 1 {
+    for k in 0..count {
+        if flags[k] {
             return Some(k);
         }
-        k += 1;
     }
     None
 }
 
-// What is remembered of an answer: 1 for yes and 2 for no; 0 says that it is not known.
-pub fn told(yes: bool) -> u8
-    ensures { result ≡ told_of yes }
+// The answer for entry k as it is remembered, or as it is asked, and then remembered. (`get_or_insert_with` was tried, and the
+// proof didn't close; with `FnOnce` for `Fn` the proof is told nothing of a closure over `Tables`.)
+pub fn recalled<F: Fn() -> bool>(memo: &mut [Option<bool>; FLAGS], k: usize, ask: F) -> bool
+    requires inside { k < entry_flags }
+    requires asked { F.pre ask }
+    ensures answer { MatchOption (get_or memo.old k None) (F.post ask result) (λ known. result ≡ known) }
+    ensures memo { memo.new ≡ set memo.old k (Some result) }
 {
-    if yes { 1 } else { 2 }
+    if let Some(known) = memo[k] {
+        return known;
+    }
+    let answer = ask();
+    memo[k] = Some(answer);
+    answer
 }
 
 // What is remembered stays, or nothing is known any more.
-pub fn renew(memo: &mut [u8; FLAGS], keep: bool)
-    requires { length memo.old ≡ entry_flags }
+pub fn renew(memo: &mut [Option<bool>; FLAGS], keep: bool)
     ensures { Renewed keep memo.old memo.new }
 {
     if !keep {
-        paint(memo, 0, FLAGS, 0);
+        *memo = [None; FLAGS];
     }
 }

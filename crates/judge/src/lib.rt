@@ -11,4 +11,6 @@ mod form;
 pub mod judging;
 pub mod line;
 mod listed;
+mod sized;
+mod tables;
 pub mod verdict;

@@ -1,4 +1,4 @@
-// The verdict line, written into a lent buffer.
+// The verdict line, written into a lent buffer: fixed bytes and digits by hand, as document 01 has it, with no heap.
 ghost use Rattle.std.specs.Prelude.{◌≡◌, ◌+◌, ◌≤◌, length};
 ghost use Rattle.blocks.specs.Check.{values_of};
 ghost use Rattle.judge.specs.Line.{digits_of, field_of, three_fields, accepted_line, refused_line, line_of};
@@ -6,7 +6,7 @@ ghost use Rattle.judge.specs.Line.{Room, Put, printing, printing_values, after_p
 
 use crate::answer::{block_of, number, place_of};
 use crate::verdict::{Counts, Verdict};
-use blocks::Writing;
+use blocks::Unwritten;
 
 // How many digits a number has.
 fn decimal_length(n: u32) -> usize
@@ -46,17 +46,16 @@ fn line_length(v: Verdict) -> usize
     }
 }
 
-// Writes a text from `at` on, and answers the place after it.
+// Writes a text from `at` on, and answers the place after it. (Byte by byte: fixed texts are then numbers in the code. With
+// `copy_from_slice` they were read-only data, more than loader/read-only-test states.)
 fn put(buffer: &mut [u8], at: usize, text: &[u8]) -> usize
     requires { Room buffer.old at text.now }
     ensures { Put buffer.old at text.now buffer.new result }
 {
-    let mut i = 0;
-    while i < text.len() {
+    for i in 0..text.len() {
         buffer[at + i] = text[i];
-        i = i + 1;
     }
-    at + i
+    at + text.len()
 }
 
 // Writes a number in decimal from `at` on, and answers the place after it.
@@ -155,13 +154,14 @@ fn put_line(buffer: &mut [u8], v: Verdict) -> usize
 }
 
 // Prints the line of a verdict from the buffer's start on; refuses a buffer shorter than the line, and then alters none of it.
-pub fn print_line(v: Verdict, buffer: &mut [u8]) -> Writing
+#[tactic(auto, unfolding(crate::specs::Line::printing, crate::specs::Line::printing_values, crate::specs::Line::after_printing, crate::specs::Line::pasted))]
+pub fn print_line(v: Verdict, buffer: &mut [u8]) -> Result<usize, Unwritten>
     ensures answer { result ≡ printing v buffer.old }
     ensures values { values_of result ≡ printing_values v buffer.old }
     ensures bytes { buffer.new ≡ after_printing v buffer.old }
 {
     if buffer.len() < line_length(v) {
-        return Writing::ShortBuffer;
+        return Err(Unwritten::ShortBuffer);
     }
-    Writing::Wrote(put_line(buffer, v))
+    Ok(put_line(buffer, v))
 }

@@ -1,6 +1,6 @@
 // Searches through the blocks of one kind, each a part of the file, and numbers 9, 10 and 11.
 ghost use Rattle.std.specs.Prelude.{◌≡◌, false, ◌↔◌, ◌+◌, ◌*◌, ◌/◌, ◌<◌, ◌≤◌, length, get_or};
-ghost use Rattle.blocks.specs.Kinds.{secret_kind, good_kind, bad_kind, ListsTerm};
+ghost use Rattle.blocks.specs.Kinds.{secret_kind, good_kind, bad_kind, ListsTerm, byte_of};
 ghost use Rattle.blocks.specs.Limits.{most_blocks, most_term_bytes, most_term_entries};
 ghost use Rattle.blocks.specs.Block.{block_at, kind_of};
 ghost use Rattle.terms.specs.Term.{Message, atom, as_term};
@@ -18,19 +18,21 @@ ghost use Rattle.judge.specs.Laid.{Laid, TermBlock};
 ghost use Rattle.judge.specs.Conditions.{KnownAtom, WeaklyClosed, KeptKey};
 ghost use Rattle.judge.specs.Judgement.{judged_of};
 ghost use Rattle.judge.specs.Verdict.{on_kind, kind_asked, Meets, fault_on, condition_at, condition_fault};
-ghost use Rattle.judge.specs.Listed.{atoms_in, HoldsAt, HeldAmong, Searching, TermPart, Everywhere, matches_everywhere?, shares_listed?, shares_everywhere?, is_secret?};
-ghost use Rattle.judge.specs.Listed.{root_slots, slot_at, FlaggedMore, RootsOf, NoRoot, SizesBelow, SizesIn, SizeOf, row_size, listed_rows, nonce_slots, listed_sizes, mark_slot, MarkedBad, MarkTag, LastMark, Noted};
+ghost use Rattle.judge.specs.Listed.{atoms_in, HeldAmong, HasAt, Searching, SearchingAt, AskedAt, SomeMet, TermPart, Everywhere, matches_everywhere?, shares_listed?, shares_everywhere?, is_secret?};
+ghost use Rattle.judge.specs.Listed.{root_slots, slot_at, FlaggedMore, RootsOf, NoRoot, SizesBelow, SizesIn, SizeOf, row_size, listed_rows, nonce_slots, listed_sizes, mark_slot, MarkedBad, MarkTag, LastMark, up_to, Noted};
 
 use crate::atoms::atom_at;
-use crate::form::Judged;
+use crate::tables::Tables;
 use crate::verdict::Fault;
 use crate::{atoms, flag};
-use blocks::{kinds, limits, wide};
+use blocks::kinds::Kind;
+use blocks::{limits, wide};
 use terms::atom::NONCES;
 use terms::tag::{ATOM, HASH, PAIR, SLOTS, is_marked, is_variable};
 use terms::{atom, entry, matching, sharing};
 
-// What numbers 9, 10 and 11 ask of the blocks of one kind.
+// What numbers 9, 10 and 11 ask of the blocks of one kind. It stays an enum that three functions match: specs/Verdict.antt
+// defines `kind_asked`, `Meets` and `fault_on` by its cases.
 #[derive(Clone, Copy)]
 pub enum Condition {
     // 9: the secret is no known atom.
@@ -50,11 +52,11 @@ pub fn kind_at(file: &[u8], i: usize) -> u8
 }
 
 // Is block i of this kind?
-pub fn is_kind(file: &[u8], i: usize, kind: u8) -> bool
+pub fn is_kind(file: &[u8], i: usize, kind: Kind) -> bool
     requires { i < block_count file.now }
-    ensures { Says result (kind_of (block_at file.now i) ≡ kind) }
+    ensures { Says result (kind_of (block_at file.now i) ≡ byte_of kind) }
 {
-    kind_at(file, i) == kind
+    blocks::is_kind(blocks::block(file, i), kind)
 }
 
 // The entries of the term of block i.
@@ -66,251 +68,207 @@ pub fn term_at(file: &[u8], i: usize) -> &[u8]
     blocks::first_entries(block)
 }
 
-// Where the last mark of block i stands, counted from 1, by the table; 0 if it is no marked bad pattern.
-pub fn last_mark_of(sizes: &[u8; LISTED_SIZES], i: usize) -> usize
-    requires { (length sizes.now ≡ listed_sizes) × (i < most_blocks) }
-    ensures { result ≡ get_or sizes.now (mark_slot i) 0 }
-{
-    wide(sizes[ROW * i + MARK_SLOT])
-}
+impl Tables<'_> {
+    // Where the last mark of block i stands, counted from 1; 0 if it is no marked bad pattern. No `Option`: the table has one
+    // byte for it.
+    pub fn last_mark_of(&self, i: usize) -> usize
+        requires { i < most_blocks }
+        ensures { result ≡ get_or self.now.sizes.now (mark_slot i) 0 }
+    {
+        wide(self.sizes[ROW * i + MARK_SLOT])
+    }
 
-// The table from the row of block i on.
-pub fn row(sizes: &[u8; LISTED_SIZES], i: usize) -> &[u8]
-    requires { (length sizes.now ≡ listed_sizes) × (i < most_blocks) }
-    ensures { result.now ≡ from (row_size * i) sizes.now }
-{
-    let all = &sizes[..];
-    &all[ROW * i..]
-}
+    // The table from the row of block i on.
+    pub fn row(&self, i: usize) -> &[u8]
+        requires { i < most_blocks }
+        ensures { result.now ≡ from (row_size * i) self.now.sizes.now }
+    {
+        let sizes = self.sizes;
+        &sizes[ROW * i..]
+    }
 
-// The flags of the nonces, in the table.
-pub fn nonces(sizes: &[u8; LISTED_SIZES]) -> &[u8]
-    requires { length sizes.now ≡ listed_sizes }
-    ensures { result.now ≡ from nonce_slots sizes.now }
-{
-    let all = &sizes[..];
-    &all[NONCE_SLOTS..]
-}
+    // The flags of the nonces.
+    pub fn nonces(&self) -> &[u8]
+        ensures { result.now ≡ from nonce_slots self.now.sizes.now }
+    {
+        let sizes = self.sizes;
+        &sizes[NONCE_SLOTS..]
+    }
 
-// Is there a marked bad pattern, by the table?
-pub fn some_marked(sizes: &[u8; LISTED_SIZES]) -> bool
-    requires { length sizes.now ≡ listed_sizes }
-    ensures { Says result (get_or sizes.now listed_rows 0 ≡ 1) }
-{
-    sizes[ROWS] == 1
-}
-
-// Does block i, if it is of this kind and counts for every place, hold a pattern that e's term is, with its variables
-// replaced?
-fn matches_at(file: &[u8], sizes: &[u8; LISTED_SIZES], i: usize, kind: u8, e: &[u8]) -> bool
-    requires { Searching file.now kind e.now × (i < block_count file.now) × SizesIn file.now sizes.now }
-    ensures { Says result (HoldsAt file.now kind (λ p. Everywhere kind p × Matches (atoms_in file.now) p (term_of e.now)) i) }
-{
-    if is_kind(file, i, kind) {
-        if last_mark_of(sizes, i) != 0 {
-            return false;
-        }
-        matching::matches(term_at(file, i), e, nonces(sizes))
-    } else {
-        false
+    // Is there a marked bad pattern?
+    pub fn some_marked(&self) -> bool
+        ensures { Says result (get_or self.now.sizes.now listed_rows 0 ≡ 1) }
+    {
+        self.sizes[ROWS] == 1
     }
 }
 
-// Is the term that e begins with some listed pattern of this kind that counts for every place, with its variables replaced?
-// Asked from the last block back, as the patterns stand behind the secrets, to the first of a lower kind.
-pub fn is_listed_match(file: &[u8], sizes: &[u8; LISTED_SIZES], kind: u8, e: &[u8]) -> bool
-    requires { Searching file.now kind e.now × SizesIn file.now sizes.now }
-    ensures { result ≡ answer (matches_everywhere? (certificate_of file.now) kind (term_of e.now)) }
+// Is the test met at some block of this kind, from `low` up to `high`? Asked from the last one back to the first of a lower kind,
+// as patterns stand behind secrets.
+fn some_back<F: Fn(usize) -> bool>(file: &[u8], kind: Kind, low: usize, high: usize, met: F) -> bool
+    requires { Laid file.now × (high ≤ block_count file.now) × AskedAt file.now (byte_of kind) high (F.pre met) }
+    ensures { SomeMet file.now (byte_of kind) low high (F.post met) result }
 {
-    let count = file.len() / limits::BLOCK_SIZE;
-    let mut left = count;
-    while 0 < left {
-        if matches_at(file, sizes, left - 1, kind, e) {
-            return true;
-        }
-        if kind_at(file, left - 1) < kind {
+    for i in (low..high).rev() {
+        let here = kind_at(file, i);
+        if here < u8::from(kind) {
             return false;
         }
-        left -= 1;
+        if here == u8::from(kind) && met(i) {
+            return true;
+        }
     }
     false
 }
 
-// Does block i, if it is of this kind, hold a term that shares an instance with e's term?
-fn shares_at(
-    file: &[u8],
-    sizes: &[u8; LISTED_SIZES],
-    i: usize,
-    kind: u8,
-    e: &[u8],
-    z: &[u8],
-) -> bool
-    requires { Searching file.now kind e.now × (i < block_count file.now) × SizesIn file.now sizes.now × SizesOf e.now z.now }
-    ensures { Says result (HoldsAt file.now kind (λ p. Share (atoms_in file.now) p (term_of e.now)) i) }
+// The same for all blocks, from the first one to the first of a higher kind: a way of its own, as secrets stand in front, and a
+// search from the end would pass over all patterns.
+fn some_on<F: Fn(usize) -> bool>(file: &[u8], kind: Kind, met: F) -> bool
+    requires { Laid file.now × AskedAt file.now (byte_of kind) (block_count file.now) (F.pre met) }
+    ensures { SomeMet file.now (byte_of kind) 0 (block_count file.now) (F.post met) result }
 {
-    if is_kind(file, i, kind) {
-        sharing::shares(term_at(file, i), e, row(sizes, i), z, nonces(sizes))
-    } else {
-        false
+    let count = file.len() / limits::BLOCK_SIZE;
+    for i in 0..count {
+        let here = kind_at(file, i);
+        if here > u8::from(kind) {
+            return false;
+        }
+        if here == u8::from(kind) && met(i) {
+            return true;
+        }
     }
+    false
+}
+
+// Is e's term the pattern of block i, with its variables replaced, and does the pattern count for every place?
+fn matches_at(tables: &Tables, i: usize, e: &[u8]) -> bool
+    requires { SearchingAt tables.now.file.now i e.now }
+    ensures { Says result (HasAt tables.now.file.now i (λ kind p. Everywhere kind p × Matches (atoms_in tables.now.file.now) p (term_of e.now))) }
+{
+    tables.last_mark_of(i) == 0 && matching::matches(term_at(tables.file, i), e, tables.nonces())
+}
+
+// Is the term that e begins with some listed pattern of this kind that counts for every place, with its variables replaced?
+pub fn is_listed_match(tables: &Tables, kind: Kind, e: &[u8]) -> bool
+    requires { Searching tables.now.file.now (byte_of kind) e.now }
+    ensures { result ≡ answer (matches_everywhere? (certificate_of tables.now.file.now) (byte_of kind) (term_of e.now)) }
+{
+    let count = tables.file.len() / limits::BLOCK_SIZE;
+    some_back(tables.file, kind, 0, count, |i| matches_at(tables, i, e))
+}
+
+// Does the term of block i share an instance with e's term?
+fn shares_at(tables: &Tables, i: usize, e: &[u8], z: &[u8]) -> bool
+    requires { SearchingAt tables.now.file.now i e.now × SizesOf e.now z.now }
+    ensures { Says result (HasAt tables.now.file.now i (λ kind p. Share (atoms_in tables.now.file.now) p (term_of e.now))) }
+{
+    sharing::shares(
+        term_at(tables.file, i),
+        e,
+        tables.row(i),
+        z,
+        tables.nonces(),
+    )
 }
 
 // Does a listed term of this kind share an instance with the term that e begins with, in a block from `low` up to `high`?
-// Asked from the last one back to the first of a lower kind. `sizes` has the sizes of the listed terms, and z those of e's.
+// z has the sizes of the terms at e's entries: parts from an entry on, which are no `SizedTerm`, as that has the array of sizes
+// that `entry::end_of` asks for.
 pub fn shares_among(
-    file: &[u8],
-    sizes: &[u8; LISTED_SIZES],
-    kind: u8,
+    tables: &Tables,
+    kind: Kind,
     low: usize,
     high: usize,
     e: &[u8],
     z: &[u8],
 ) -> bool
-    requires { Searching file.now kind e.now × SizesIn file.now sizes.now × SizesOf e.now z.now × (low ≤ high) × (high ≤ block_count file.now) }
-    ensures { Says result (HeldAmong file.now kind (λ p. Share (atoms_in file.now) p (term_of e.now)) low high) }
+    requires { Searching tables.now.file.now (byte_of kind) e.now × SizesOf e.now z.now × (low ≤ high) × (high ≤ block_count tables.now.file.now) }
+    ensures { Says result (HeldAmong tables.now.file.now (byte_of kind) (λ p. Share (atoms_in tables.now.file.now) p (term_of e.now)) low high) }
 {
-    let mut left = high;
-    while low < left {
-        if shares_at(file, sizes, left - 1, kind, e, z) {
-            return true;
-        }
-        if kind_at(file, left - 1) < kind {
-            return false;
-        }
-        left -= 1;
-    }
-    false
+    some_back(tables.file, kind, low, high, |i| shares_at(tables, i, e, z))
 }
 
 // Does some listed term of this kind share an instance with the term that e begins with?
-pub fn shares_listed(file: &[u8], sizes: &[u8; LISTED_SIZES], kind: u8, e: &[u8], z: &[u8]) -> bool
-    requires { Searching file.now kind e.now × SizesIn file.now sizes.now × SizesOf e.now z.now }
-    ensures { result ≡ answer (shares_listed? (certificate_of file.now) kind (term_of e.now)) }
+pub fn shares_listed(tables: &Tables, kind: Kind, e: &[u8], z: &[u8]) -> bool
+    requires { Searching tables.now.file.now (byte_of kind) e.now × SizesOf e.now z.now }
+    ensures { result ≡ answer (shares_listed? (certificate_of tables.now.file.now) (byte_of kind) (term_of e.now)) }
 {
-    let count = file.len() / limits::BLOCK_SIZE;
-    shares_among(file, sizes, kind, 0, count, e, z)
+    let count = tables.file.len() / limits::BLOCK_SIZE;
+    shares_among(tables, kind, 0, count, e, z)
 }
 
-// Does block i, if it is a bad one without marks, share an instance with e's term?
-fn unmarked_shares(file: &[u8], sizes: &[u8; LISTED_SIZES], i: usize, e: &[u8], z: &[u8]) -> bool
-    requires { Searching file.now bad_kind e.now × (i < block_count file.now) × SizesIn file.now sizes.now × SizesOf e.now z.now }
-    ensures { Says result (HoldsAt file.now bad_kind (λ p. Everywhere bad_kind p × Share (atoms_in file.now) p (term_of e.now)) i) }
+// Does the pattern of block i, a bad one, count for every place and share an instance with e's term? Asked by `shares_among`,
+// so that the sharing test has one caller and is compiled into its loop.
+fn unmarked_shares(tables: &Tables, i: usize, e: &[u8], z: &[u8]) -> bool
+    requires { Searching tables.now.file.now bad_kind e.now × (i < block_count tables.now.file.now) × (kind_of (block_at tables.now.file.now i) ≡ bad_kind) × SizesOf e.now z.now }
+    ensures { Says result (HasAt tables.now.file.now i (λ kind p. Everywhere kind p × Share (atoms_in tables.now.file.now) p (term_of e.now))) }
 {
-    if is_kind(file, i, kinds::BAD) {
-        if 0 < last_mark_of(sizes, i) {
-            return false;
-        }
-        shares_among(file, sizes, kinds::BAD, i, i + 1, e, z)
-    } else {
-        false
-    }
+    tables.last_mark_of(i) == 0 && shares_among(tables, Kind::Bad, i, i + 1, e, z)
 }
 
 // Does some bad pattern without marks share an instance with the term that e begins with? Asked one by one, as some are
 // marked.
-fn shares_unmarked(file: &[u8], sizes: &[u8; LISTED_SIZES], e: &[u8], z: &[u8]) -> bool
-    requires { Searching file.now bad_kind e.now × SizesIn file.now sizes.now × SizesOf e.now z.now }
-    ensures { result ≡ answer (shares_everywhere? (certificate_of file.now) bad_kind (term_of e.now)) }
+fn shares_unmarked(tables: &Tables, e: &[u8], z: &[u8]) -> bool
+    requires { Searching tables.now.file.now bad_kind e.now × SizesOf e.now z.now }
+    ensures { result ≡ answer (shares_everywhere? (certificate_of tables.now.file.now) bad_kind (term_of e.now)) }
 {
-    let count = file.len() / limits::BLOCK_SIZE;
-    let mut left = count;
-    while 0 < left {
-        if unmarked_shares(file, sizes, left - 1, e, z) {
-            return true;
-        }
-        if kind_at(file, left - 1) < kinds::BAD {
-            return false;
-        }
-        left -= 1;
-    }
-    false
+    let count = tables.file.len() / limits::BLOCK_SIZE;
+    some_back(
+        tables.file,
+        Kind::Bad,
+        0,
+        count,
+        |i| unmarked_shares(tables, i, e, z),
+    )
 }
 
 // The same, all at once if none is marked.
-pub fn shares_bad(file: &[u8], sizes: &[u8; LISTED_SIZES], e: &[u8], z: &[u8]) -> bool
-    requires { Searching file.now bad_kind e.now × SizesIn file.now sizes.now × SizesOf e.now z.now }
-    ensures { result ≡ answer (shares_everywhere? (certificate_of file.now) bad_kind (term_of e.now)) }
+pub fn shares_bad(tables: &Tables, e: &[u8], z: &[u8]) -> bool
+    requires { Searching tables.now.file.now bad_kind e.now × SizesOf e.now z.now }
+    ensures { result ≡ answer (shares_everywhere? (certificate_of tables.now.file.now) bad_kind (term_of e.now)) }
 {
-    if some_marked(sizes) {
-        shares_unmarked(file, sizes, e, z)
+    if tables.some_marked() {
+        shares_unmarked(tables, e, z)
     } else {
-        shares_listed(file, sizes, kinds::BAD, e, z)
+        shares_listed(tables, Kind::Bad, e, z)
     }
 }
 
-// Is block i a secret's, and its secret e's term, which has n entries, symbol for symbol?
+// Is the secret of block i e's term, which has n entries, symbol for symbol?
 fn same_at(file: &[u8], i: usize, e: &[u8], n: usize) -> bool
-    requires { Searching file.now secret_kind e.now × (i < block_count file.now) × SizeOf e.now n }
-    ensures { Says result (HoldsAt file.now secret_kind (λ p. p ≡ term_of e.now) i) }
+    requires { SearchingAt file.now i e.now × SizeOf e.now n }
+    ensures { Says result (HasAt file.now i (λ kind p. p ≡ term_of e.now)) }
 {
-    if is_kind(file, i, kinds::SECRET) {
-        let secret = term_at(file, i);
-        if secret.len() != 4 * n {
-            return false;
-        }
-        matching::same(secret, e)
-    } else {
-        false
-    }
+    let secret = term_at(file, i);
+    secret.len() == 4 * n && matching::same(secret, e)
 }
 
-// Is the term that e begins with, symbol for symbol, a listed secret? Asked from the first block to the first of a higher
-// kind.
+// Is the term that e begins with, symbol for symbol, a listed secret?
 pub fn is_listed_secret(file: &[u8], e: &[u8]) -> bool
     requires { Searching file.now secret_kind e.now }
     ensures { result ≡ answer (is_secret? (certificate_of file.now) (term_of e.now)) }
 {
     let n = entry::term_size(e);
-    let count = file.len() / limits::BLOCK_SIZE;
-    let mut i = 0;
-    while i < count {
-        if same_at(file, i, e, n) {
-            return true;
-        }
-        if kinds::SECRET < kind_at(file, i) {
-            return false;
-        }
-        i += 1;
-    }
-    false
+    some_on(file, Kind::Secret, |i| same_at(file, i, e, n))
 }
 
-// Is block i a secret's, and its secret an instance of e's term, which has n entries? A secret has no variables: they then
-// share it. An instance has no fewer entries.
-fn instance_at(file: &[u8], sizes: &[u8; LISTED_SIZES], i: usize, e: &[u8], n: usize) -> bool
-    requires { Searching file.now secret_kind e.now × (i < block_count file.now) × SizeOf e.now n × SizesIn file.now sizes.now }
-    ensures { Says result (HoldsAt file.now secret_kind (λ p. Share (atoms_in file.now) p (term_of e.now)) i) }
+// Is the secret of block i an instance of e's term, which has n entries? A secret has no variables: they then share it. An
+// instance has no fewer entries.
+fn instance_at(tables: &Tables, i: usize, e: &[u8], n: usize) -> bool
+    requires { SearchingAt tables.now.file.now i e.now × (kind_of (block_at tables.now.file.now i) ≡ secret_kind) × SizeOf e.now n }
+    ensures { Says result (HasAt tables.now.file.now i (λ kind p. Share (atoms_in tables.now.file.now) p (term_of e.now))) }
 {
-    if is_kind(file, i, kinds::SECRET) {
-        let secret = term_at(file, i);
-        if secret.len() < 4 * n {
-            return false;
-        }
-        matching::matches(e, secret, nonces(sizes))
-    } else {
-        false
-    }
+    let secret = term_at(tables.file, i);
+    4 * n <= secret.len() && matching::matches(e, secret, tables.nonces())
 }
 
-// Does a listed secret share an instance with the term that e begins with? Asked from the first block to the first of a
-// higher kind.
-pub fn shares_secret(file: &[u8], sizes: &[u8; LISTED_SIZES], e: &[u8]) -> bool
-    requires { Searching file.now secret_kind e.now × SizesIn file.now sizes.now }
-    ensures { result ≡ answer (shares_listed? (certificate_of file.now) secret_kind (term_of e.now)) }
+// Does a listed secret share an instance with the term that e begins with?
+pub fn shares_secret(tables: &Tables, e: &[u8]) -> bool
+    requires { Searching tables.now.file.now secret_kind e.now }
+    ensures { result ≡ answer (shares_listed? (certificate_of tables.now.file.now) secret_kind (term_of e.now)) }
 {
     let n = entry::term_size(e);
-    let count = file.len() / limits::BLOCK_SIZE;
-    let mut i = 0;
-    while i < count {
-        if instance_at(file, sizes, i, e, n) {
-            return true;
-        }
-        if kinds::SECRET < kind_at(file, i) {
-            return false;
-        }
-        i += 1;
-    }
-    false
+    some_on(tables.file, Kind::Secret, |i| instance_at(tables, i, e, n))
 }
 
 // Does block i list a term?
@@ -321,34 +279,31 @@ fn lists_term(file: &[u8], i: usize) -> bool
     blocks::lists_term(kind_at(file, i))
 }
 
-// Has an entry from `low` up to `high` the tag of a marked variable?
+// Has an entry from `low` up to `high` the tag of a marked variable? No chain with `any`: that costs files with many marks up to
+// 1.2 % more instructions.
 pub fn has_mark(e: &[u8], low: usize, high: usize) -> bool
     requires { (4 * high ≤ length e.now) × (length e.now ≤ most_term_bytes) }
     ensures { Says result (MarkTag e.now low high) }
 {
-    let mut k = low;
-    while k < high {
+    for k in low..high {
         if is_marked(e[4 * k]) {
             return true;
         }
-        k += 1;
     }
     false
 }
 
-// Where the last marked variable stands, counted from 1; 0 if there is none.
-fn last_mark(e: &[u8]) -> usize
+// Where the last marked variable stands.
+fn last_mark(e: &[u8]) -> Option<usize>
     requires { (length e.now ≤ most_term_bytes) × (4 * (length e.now / 4) ≡ length e.now) }
-    ensures { LastMark e.now result × (result ≤ most_term_entries) }
+    ensures { LastMark e.now (up_to result) × (up_to result ≤ most_term_entries) }
 {
-    let mut left = e.len() / 4;
-    while 0 < left {
-        if is_marked(e[4 * (left - 1)]) {
-            return left;
+    for last in (0..e.len() / 4).rev() {
+        if is_marked(e[4 * last]) {
+            return Some(last);
         }
-        left -= 1;
     }
-    0
+    None
 }
 
 // Where the last mark of block i stands, counted from 1; 0 if it has none or is no bad pattern.
@@ -356,8 +311,8 @@ fn marks_of(file: &[u8], i: usize) -> u8
     requires { Laid file.now × (i < block_count file.now) }
     ensures { Noted file.now i result }
 {
-    if is_kind(file, i, kinds::BAD) {
-        last_mark(term_at(file, i)) as u8
+    if is_kind(file, i, Kind::Bad) {
+        last_mark(term_at(file, i)).map_or(0, |k| (k + 1) as u8)
     } else {
         0
     }
@@ -380,15 +335,11 @@ fn fill_row(file: &[u8], i: usize, sizes: &mut [u8; LISTED_SIZES]) -> bool
 
 // Puts the flags of the nonces in their place.
 fn put_nonces(file: &[u8], sizes: &mut [u8; LISTED_SIZES])
-    requires { Laid file.now × (length sizes.old ≡ listed_sizes) }
+    requires { Laid file.now }
     ensures { NoncesIn (atoms_in file.now) (from nonce_slots sizes.new) × KeptBelow nonce_slots sizes.old sizes.new }
 {
     let flags = atom::nonces(atoms::first(file), atoms::more(file));
-    let mut k = 0;
-    while k < NONCES {
-        sizes[NONCE_SLOTS + k] = flags[k];
-        k += 1;
-    }
+    sizes[NONCE_SLOTS..].copy_from_slice(&flags);
 }
 
 // What is noted of a file: the sizes of block i's term in its row, which bad patterns are marked, and which atoms are nonces.
@@ -397,14 +348,12 @@ pub fn listed_sizes(file: &[u8]) -> [u8; LISTED_SIZES]
     ensures { SizesIn file.now result }
 {
     let mut sizes = [0u8; LISTED_SIZES];
-    let mut some = 0;
+    let mut some = false;
     let count = file.len() / limits::BLOCK_SIZE;
-    let mut i = 0;
-    while i < count {
-        some = flag::put_on(some, fill_row(file, i, &mut sizes));
-        i += 1;
+    for i in 0..count {
+        some |= fill_row(file, i, &mut sizes);
     }
-    sizes[ROWS] = some;
+    sizes[ROWS] = u8::from(some);
     put_nonces(file, &mut sizes);
     sizes
 }
@@ -436,26 +385,20 @@ pub fn root_slot(e: &[u8]) -> usize
     requires { Begins e.now }
     ensures { (result ≡ slot_at e.now) × (result < root_slots) }
 {
-    let tag = e[0];
-    if tag == PAIR {
-        return PAIR_ROOTS + entry::value(&e[4..]) % PAIR_ROOTS;
-    }
-    let n = entry::value(e);
-    if is_variable(tag) {
-        VARIABLE_ROOTS + n % SLOTS
-    } else if tag == ATOM {
-        n % PAIR_ROOTS
-    } else {
-        WRAPPER_ROOTS + n % PAIR_ROOTS
+    match e[0] {
+        PAIR => PAIR_ROOTS + entry::value(&e[4..]) % PAIR_ROOTS,
+        ATOM => entry::value(e) % PAIR_ROOTS,
+        tag if is_variable(tag) => VARIABLE_ROOTS + entry::value(e) % SLOTS,
+        _ => WRAPPER_ROOTS + entry::value(e) % PAIR_ROOTS,
     }
 }
 
 // Flags the root of block i's term, if it is a secret's.
 fn flag_root(file: &[u8], i: usize, roots: &mut [u8; ROOT_SLOTS])
-    requires { Laid file.now × (i < block_count file.now) × (length roots.old ≡ root_slots) }
+    requires { Laid file.now × (i < block_count file.now) }
     ensures { FlaggedMore file.now i roots.old roots.new }
 {
-    if is_kind(file, i, kinds::SECRET) {
+    if is_kind(file, i, Kind::Secret) {
         let n = root_slot(term_at(file, i));
         roots[n] = 1;
     }
@@ -468,10 +411,8 @@ pub fn secret_roots(file: &[u8]) -> [u8; ROOT_SLOTS]
 {
     let mut roots = [0u8; ROOT_SLOTS];
     let count = file.len() / limits::BLOCK_SIZE;
-    let mut i = 0;
-    while i < count {
+    for i in 0..count {
         flag_root(file, i, &mut roots);
-        i += 1;
     }
     roots
 }
@@ -479,19 +420,11 @@ pub fn secret_roots(file: &[u8]) -> [u8; ROOT_SLOTS]
 // Might the term that e begins with be a secret or share an instance with one? A variable might, and a pair whose left
 // half is one; any other term if a secret's root has its slot.
 pub fn may_be_secret(roots: &[u8; ROOT_SLOTS], e: &[u8]) -> bool
-    requires { (length roots.now ≡ root_slots) × Begins e.now }
+    requires { Begins e.now }
     ensures { (result ≡ false) ↔ NoRoot roots.now e.now }
 {
     let root = e[0];
-    if is_variable(root) {
-        return true;
-    }
-    if root == PAIR {
-        if is_variable(e[4]) {
-            return true;
-        }
-    }
-    roots[root_slot(e)] != 0
+    is_variable(root) || root == PAIR && is_variable(e[4]) || roots[root_slot(e)] != 0
 }
 
 // Is this atom a listed secret?
@@ -499,8 +432,8 @@ fn is_listed_atom(file: &[u8], a: usize) -> bool
     requires { Laid file.now × (a ≤ 65535) }
     ensures { Says result (Secret (certificate_of file.now) (atom a)) }
 {
-    let e = [1, 0, (a % 256) as u8, (a / 256) as u8];
-    is_listed_secret(file, &e)
+    let [low, high] = (a as u16).to_le_bytes();
+    is_listed_secret(file, &[ATOM, 0, low, high])
 }
 
 // Is the term that e begins with, as a message, a known atom?
@@ -508,12 +441,7 @@ fn is_known(file: &[u8], e: &[u8]) -> bool
     requires { Searching file.now secret_kind e.now }
     ensures { (m : Message) → term_of e.now ≡ as_term m → Says result (KnownAtom (certificate_of file.now) m) }
 {
-    let tag = e[0];
-    if tag != 1 {
-        return false;
-    }
-    let atom = atom_at(file, entry::value(e));
-    atom.known == 1
+    e[0] == ATOM && atom_at(file, entry::value(e)).known == 1
 }
 
 // Is the term that e begins with, as a message, weakly closed? With a pair, one half is listed; with {m}k or a signature, m or the
@@ -522,24 +450,16 @@ fn is_closed(file: &[u8], e: &[u8]) -> bool
     requires { Searching file.now secret_kind e.now }
     ensures { (m : Message) → term_of e.now ≡ as_term m → Says result (WeaklyClosed (certificate_of file.now) m) }
 {
-    let tag = e[0];
-    if tag == PAIR {
-        if is_listed_secret(file, &e[4..]) {
-            return true;
+    match e[0] {
+        PAIR => {
+            is_listed_secret(file, &e[4..])
+                || is_listed_secret(file, &e[4 * (1 + entry::term_size(&e[4..]))..])
         }
-        let right = 1 + entry::term_size(&e[4..]);
-        return is_listed_secret(file, &e[4 * right..]);
+        tag if entry::children(tag) == 1 => {
+            is_listed_secret(file, &e[4..]) || tag != HASH && is_listed_atom(file, entry::value(e))
+        }
+        _ => true,
     }
-    if entry::children(tag) == 1 {
-        if is_listed_secret(file, &e[4..]) {
-            return true;
-        }
-        if tag == HASH {
-            return false;
-        }
-        return is_listed_atom(file, entry::value(e));
-    }
-    true
 }
 
 // The inverse of a key: the partner field of its entry.
@@ -559,13 +479,13 @@ fn is_kept(file: &[u8], e: &[u8]) -> bool
 }
 
 // The kind of block that a condition asks.
-fn kind_asked(condition: Condition) -> u8
-    ensures { result ≡ kind_asked condition }
+fn kind_asked(condition: Condition) -> Kind
+    ensures { byte_of result ≡ kind_asked condition }
 {
     match condition {
-        Condition::NotKnown => kinds::SECRET,
-        Condition::Closed => kinds::SECRET,
-        Condition::Kept => kinds::GOOD,
+        Condition::NotKnown => Kind::Secret,
+        Condition::Closed => Kind::Secret,
+        Condition::Kept => Kind::Good,
     }
 }
 
@@ -593,32 +513,26 @@ fn is_met(file: &[u8], condition: Condition, i: usize) -> bool
 }
 
 // What the condition says of block i.
-fn condition_at(file: &[u8], condition: Condition, i: usize) -> Judged
+#[tactic(auto, unfolding(crate::specs::Verdict::on_kind, crate::specs::Verdict::condition_at, crate::specs::Judgement::judged_of))]
+fn condition_at(file: &[u8], condition: Condition, i: usize) -> Result<(), Fault>
     requires { Laid file.now × (i < block_count file.now) }
     ensures { result ≡ judged_of (on_kind (kind_asked condition) (condition_at condition (certificate_of file.now)) file.now i) }
 {
-    if !is_kind(file, i, kind_asked(condition)) {
-        return Judged::Fine;
-    }
-    if is_met(file, condition, i) {
-        Judged::Fine
+    if !is_kind(file, i, kind_asked(condition)) || is_met(file, condition, i) {
+        Ok(())
     } else {
-        Judged::Faulty(fault_on(condition, i as u8))
+        Err(fault_on(condition, i as u8))
     }
 }
 
 // Number 9, 10 or 11: the first block that does not meet the condition.
-pub fn condition_fault(file: &[u8], condition: Condition) -> Judged
+#[tactic(auto, using(crate::proofs::Stages::FormLaws::first_step, crate::proofs::Stages::FormLaws::first_end), unfolding(crate::specs::Verdict::condition_fault, crate::specs::Verdict::kind_fault, crate::specs::Judgement::judged_of))]
+pub fn condition_fault(file: &[u8], condition: Condition) -> Result<(), Fault>
     requires { Laid file.now }
     ensures { result ≡ judged_of (condition_fault condition (certificate_of file.now) file.now) }
 {
-    let count = file.len() / limits::BLOCK_SIZE;
-    let mut i = 0;
-    while i < count {
-        match condition_at(file, condition, i) {
-            Judged::Faulty(f) => return Judged::Faulty(f),
-            Judged::Fine => i += 1,
-        }
+    for i in 0..file.len() / limits::BLOCK_SIZE {
+        condition_at(file, condition, i)?;
     }
-    Judged::Fine
+    Ok(())
 }

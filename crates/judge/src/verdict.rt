@@ -1,7 +1,7 @@
 // Verdicts: accepted with the file's own counts, or refused with the kind of fault inside.
 
 // How many blocks, secrets, good patterns, bad patterns and rules a file has.
-#[derive(Clone, Copy)]
+#[derive(Clone, Copy, Debug, PartialEq, Eq)]
 pub struct Counts {
     pub blocks: u8,
     pub secrets: u8,
@@ -11,7 +11,7 @@ pub struct Counts {
 }
 
 // Why a file is refused, with block and place where there is one.
-#[derive(Clone, Copy)]
+#[derive(Clone, Copy, Debug, PartialEq, Eq)]
 pub enum Fault {
     // 1: the length.
     Length,
@@ -43,7 +43,8 @@ pub enum Fault {
     Loader,
 }
 
-#[derive(Clone, Copy)]
+// An enum of its own, and no Result: document 01 asks for one whose refused case holds the fault.
+#[derive(Clone, Copy, Debug, PartialEq, Eq)]
 pub enum Verdict {
     Accepted(Counts),
     Refused(Fault),

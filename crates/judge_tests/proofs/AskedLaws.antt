@@ -1,33 +1,22 @@
 -- Laws of specs/Asked.antt, shaped like the code's branches. Assumes nothing.
-use mathlib.Core.Path.{◌≡◌, sym, ap, ◌∙◌}
+use mathlib.Core.Path.{◌≡◌, refl, sym, ap, ◌∙◌}
 use mathlib.Core.List.{List}
-use Prim.Native.Nat.{ℕ, ◌*◌, ◌+◌, ◌%◌, ◌≤◌, ◌<◌}
-use native.Mathlib.Omega.{arith}
+use Prim.Native.Nat.{ℕ, ◌%◌, ◌≤◌, ◌<◌}
 use lib.ListN.{length}
 use borrow.Author.Tests.{eq-eqb, ne_eqb, le-leb, lt-leb}
-use Rattle.blocks.specs.declared.Writing.{Writing}
-use Rattle.blocks.specs.declared.Writing.TheVariants.{Wrote, WrongLength, ShortBuffer}
+use borrow.Rule.Slice.PartMut.{put_mid}
+use Rattle.std.specs.Prelude.{Result}
+use Rattle.blocks.specs.declared.Unwritten.{Unwritten}
 use Rattle.judge.specs.declared.verdict.Fault.TheVariants.{Length, Missing, Uncovered, Loader}
 use Rattle.judge.specs.declared.verdict.Verdict.{Verdict}
 use Rattle.judge.specs.declared.verdict.Verdict.TheVariants.{Accepted, Refused}
 use Rattle.judge.specs.Answer.{part_of}
 use Rattle.judge.specs.Verdict.{verdict_of}
-use Rattle.judge.specs.Line.{Room, Put, printing, after_printing}
+use Rattle.judge.specs.Line.{printing, after_printing}
+use Rattle.judge.proofs.Answering.Printing.{part-pasted}
 use Rattle.judge_tests.specs.Asked.{packed_writing, no_counts, verdict_from, copying, after_copying}
 
-pub wrote : {w : Writing} {n : ℕ} → w ≡ Wrote n → n % 65536 ≡ packed_writing w
-unfolding packed_writing
-wrote e = rw e (omega arith)
-
-pub wrong-length : {w : Writing} → w ≡ WrongLength → 13 * 65536 ≡ packed_writing w
-unfolding packed_writing
-wrong-length e = rw e
-
-pub short-buffer : {w : Writing} → w ≡ ShortBuffer → 14 * 65536 ≡ packed_writing w
-unfolding packed_writing
-short-buffer e = rw e
-
-pub printed : (file buffer : List ℕ) {v : Verdict} {w : Writing} {after : List ℕ} {n : ℕ} → v ≡ verdict_of file → w ≡ printing v buffer
+pub printed : (file buffer : List ℕ) {v : Verdict} {w : Result ℕ Unwritten} {after : List ℕ} {n : ℕ} → v ≡ verdict_of file → w ≡ printing v buffer
     → after ≡ after_printing v buffer → n ≡ packed_writing w
     → (n ≡ packed_writing (printing (verdict_of file) buffer)) × (after ≡ after_printing (verdict_of file) buffer)
 printed file buffer v w b n =
@@ -62,14 +51,10 @@ module _ (file buffer : List ℕ) {v u : Verdict} {part : List ℕ} (made : v �
       let l = lt-leb (length part) (length buffer) h in
       (sym (rw (← same, l)), sym (rw (← same, l)))
 
-  pub copied : {after : List ℕ} {n : ℕ} → length part ≤ length buffer → Put buffer 0 part after n
-      → (n % 65536 ≡ copying file u buffer) × (after ≡ after_copying file u buffer)
+  pub copied : {after : List ℕ} → length part ≤ length buffer → after ≡ part
+      → (length part % 65536 ≡ copying file u buffer) × (put_mid 0 (length part) buffer after ≡ after_copying file u buffer)
   unfolding copying after_copying
-  copied h d =
+  copied h e =
       let same : part ≡ part_of file u = is ∙ ap (part_of file) made in
       let l = le-leb (length part) (length buffer) h in
-      let whole : 0 + length part ≡ length part = omega arith in
-      (ap (λ (m : ℕ). m % 65536) (d.end ∙ whole) ∙ sym (rw (← same, l)), d.bytes ∙ sym (rw (← same, l)))
-
-pub room : (buffer part : List ℕ) → length part ≤ length buffer → Room buffer 0 part
-room buffer part h = record { fits = omega arith }
+      (sym (rw (← same, l)), part-pasted buffer 0 (length part) e refl ∙ sym (rw (← same, l)))

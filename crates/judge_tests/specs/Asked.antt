@@ -1,6 +1,6 @@
 -- The answers of the judging layer as plain numbers and bytes.
-use Rattle.std.specs.Prelude.{cond, List, [], ◌∷◌, ℕ, zero, suc, ◌+◌, ◌*◌, ◌%◌, eqb, leb, length}
-use Rattle.blocks.specs.declared.Writing.{Writing}
+use Rattle.std.specs.Prelude.{cond, List, [], ◌∷◌, ℕ, zero, suc, ◌+◌, ◌*◌, ◌%◌, eqb, leb, length, Result}
+use Rattle.blocks.specs.declared.Unwritten.{Unwritten}
 use Rattle.blocks.specs.Check.{values_of}
 use Rattle.judge.specs.declared.verdict.Fault.TheVariants.{Length, Missing, Uncovered, Loader}
 use Rattle.judge.specs.declared.verdict.Counts.{Counts}
@@ -13,7 +13,7 @@ use Rattle.judge.specs.Checked.{loader_count, pair_of, checked_of}
 use Rattle.judge.specs.Line.{pasted}
 
 -- A writing call's number × 65,536, and the count of bytes that it wrote.
-unfoldable pub packed_writing : Writing → ℕ
+unfoldable pub packed_writing : Result ℕ Unwritten → ℕ
 packed_writing w = (values_of w).number * 65536 + (values_of w).written % 65536
 
 -- A tally as numbers: accepted and refused of loader 0, of loader 1, and so on.

@@ -5,11 +5,11 @@
 ghost use Rattle.std.specs.Prelude.{◌≡◌, length};
 ghost use Rattle.blocks.specs.Check.{sealing, after_sealing};
 ghost use Rattle.judge.specs.Verdict.{verdict_of};
-ghost use Rattle.judge.specs.Line.{Room, Put, printing, after_printing};
+ghost use Rattle.judge.specs.Line.{printing, after_printing};
 ghost use Rattle.judge_tests.specs.Asked.{packed_writing, verdict_from, copying, after_copying};
 ghost use Rattle.judge_tests.specs.Asked.{tally_numbers, tally_from, numbers_of, tallying, after_tallying};
 
-use blocks::Writing;
+use blocks::Unwritten;
 use judge::answer::{packed, refused_part};
 use judge::checking::{LOADERS, LoaderCounts, Tally, check};
 use judge::judging::judge;
@@ -17,13 +17,14 @@ use judge::line::print_line;
 use judge::verdict::{Counts, Fault, Verdict};
 
 // A writing call's number × 65,536 and the count of bytes that it wrote.
-fn writing(w: Writing) -> u32
+#[tactic(auto, unfolding(crate::specs::Asked::packed_writing))]
+fn writing(w: Result<usize, Unwritten>) -> u32
     ensures { result ≡ packed_writing w }
 {
     match w {
-        Writing::Wrote(n) => (n % 65536) as u32,
-        Writing::WrongLength => 13 * 65536,
-        Writing::ShortBuffer => 14 * 65536,
+        Ok(n) => (n % 65536) as u32,
+        Err(Unwritten::WrongLength) => 13 * 65536,
+        Err(Unwritten::ShortBuffer) => 14 * 65536,
     }
 }
 
@@ -57,15 +58,13 @@ fn tally_from(counts: &[u32]) -> Tally
         accepted: 0,
         refused: 0,
     }; LOADERS];
-    let mut k = 0;
-    while k < LOADERS {
+    for k in 0..LOADERS {
         loaders[k] = LoaderCounts {
             accepted: counts[2 * k],
             refused: counts[2 * k + 1],
         };
-        k += 1;
     }
-    Tally { loaders: loaders }
+    Tally { loaders }
 }
 
 // Writes a tally as sixteen numbers.
@@ -73,13 +72,10 @@ fn put_tally(counts: &mut [u32], t: Tally)
     requires { length counts.old ≡ tally_numbers }
     ensures { counts.new ≡ numbers_of t }
 {
-    let loaders = t.loaders;
-    let mut k = 0;
-    while k < LOADERS {
-        let pair = loaders[k];
+    for k in 0..LOADERS {
+        let pair = t.loaders[k];
         counts[2 * k] = pair.accepted;
         counts[2 * k + 1] = pair.refused;
-        k += 1;
     }
 }
 
@@ -94,10 +90,8 @@ pub extern "C" fn zepayong_tally(file: &[u8], loader: u32, counts: &mut [u32]) -
         return 4_294_967_295;
     }
     let c = check(file, loader, tally_from(counts));
-    let v = c.verdict;
-    let after = c.tally;
-    put_tally(counts, after);
-    packed(v)
+    put_tally(counts, c.tally);
+    packed(c.verdict)
 }
 
 // A verdict whose part is that of this number: 0 accepted, 1, 4 and 16 without a part, any other with that block's.
@@ -125,19 +119,6 @@ fn verdict_from(number: u32, block: u8, place: u8) -> Verdict
     Verdict::Refused(Fault::Uncovered(block, place))
 }
 
-// Copies a part to the buffer's start, and answers its length.
-fn copy(buffer: &mut [u8], part: &[u8]) -> usize
-    requires { Room buffer.old 0 part.now }
-    ensures { Put buffer.old 0 part.now buffer.new result }
-{
-    let mut i = 0;
-    while i < part.len() {
-        buffer[i] = part[i];
-        i += 1;
-    }
-    i
-}
-
 // The refused part of the file for the verdict with this number, block and place, copied to the buffer's start: its
 // length; 65,536, and the buffer unaltered, if it is shorter than the part.
 #[unsafe(no_mangle)]
@@ -155,5 +136,6 @@ pub extern "C" fn zepayong_part(
     if buffer.len() < part.len() {
         return 65536;
     }
-    (copy(buffer, part) % 65536) as u32
+    buffer[..part.len()].copy_from_slice(part);
+    (part.len() % 65536) as u32
 }

@@ -41,6 +41,11 @@ pub answer-same : {P Q : Type 0} (d : Dec P) (e : Dec Q) → (P → Q) → (Q �
 answer-same (yes p) e f g = sym (answer-yes e (f p))
 answer-same (no n) e f g = sym (answer-no e (λ q. n (g q)))
 
+-- An answer that is yes just where the claim holds says so.
+pub says_iff : {P : Type 0} (b : Bool) → (b ≡ true → P) → (P → b ≡ true) → Says b P
+says_iff true yes' back = yes' refl
+says_iff false yes' back = λ p. let z : ◌≡◌ {A = Bool} false true = back p in absurd (false≢true z)
+
 -- What the test of two numbers says.
 pub says_eq : (a b : ℕ) → Says (eqb a b) (a ≡ b)
 says_eq a b = go (eqb a b) refl

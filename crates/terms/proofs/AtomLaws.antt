@@ -1,7 +1,6 @@
 -- Laws of atom entries: what the bytes of an entry say, which entries are right (number 6), and keys with their partners.
 use mathlib.Core.Path.{◌≡◌, refl, ap, ◌∙◌, sym}
 use mathlib.Core.List.{List, [], ◌∷◌}
-use mathlib.Core.Bool.{Bool}
 use Prim.Native.Nat.{ℕ, zero, suc, ◌+◌, ◌-◌, ◌*◌, ◌/◌, ◌≤◌, ◌<◌}
 use native.Mathlib.Omega.{arith}
 use native.Mathlib.Decide.{dec_lt}
@@ -9,16 +8,12 @@ use lib.ListN.{length, get_or, drop, length-append, get_or-append, get_or-eq_def
 use lib.Seq.{get_or-append-add}
 use lib.Dec.{eqb}
 use borrow.Author.Rules.{part_to_end}
-use Rattle.std.specs.Prelude.{None, Some}
 use Rattle.terms.specs.declared.atom.Atom.{Atom}
-use Rattle.terms.specs.Atom.{principal_kind, nonce_kind, public_kind, private_kind, symmetric_kind, atoms_of, joined_atoms, atom_at, atom_kind, known_of, partner_of, IsKey}
-use Rattle.terms.specs.Atom.{key-kind, NamedBack, PartnerRight, principal, nonce, public_key, private_key, symmetric_key, AtomRight, PartnerWanted, partner_wanted}
-use Rattle.terms.specs.Atom.{partner_right, atom_right?, wrong_atom}
+use Rattle.terms.specs.Atom.{atoms_of, joined_atoms, atom_at, atom_kind, known_of, partner_of, IsKey}
+use Rattle.terms.specs.Atom.{key-kind, NamedBack}
 use Rattle.terms.specs.Entry.{tag_at, value_at, from}
-use Rattle.terms.specs.First.{fails, holds}
 use Rattle.terms.specs.Decisions.{Says, says_same}
 use Rattle.terms.proofs.AnswerLaws.{says_eq}
-use Rattle.terms.proofs.FirstLaws.{first-only}
 
 -- Beyond the list an entry is all zero.
 away : (atoms : List Atom) (n : ℕ) → length atoms ≤ n → atom_at atoms n ≡ record { kind = 0; known = 0; partner = 0 }
@@ -65,8 +60,10 @@ atom-bytes (x ∷ y ∷ z ∷ w ∷ b) (suc n) h =
 
 -- The atom of a number, by the bytes of its entry.
 module _ (b : List ℕ) (n : ℕ) where
-  pub atom-none : length b / 4 ≤ n → record { kind = 0; known = 0; partner = 0 } ≡ atom_at (atoms_of b) n
-  atom-none far = sym (away (atoms_of b) n (omega (arith, length-atoms b)))
+  pub atom-none : length b / 4 ≤ n → {a : Atom} → a.kind ≡ 0 → a.known ≡ 0 → a.partner ≡ 0 → a ≡ atom_at (atoms_of b) n
+  atom-none far {a} kind known partner =
+      let zero : ◌≡◌ {A = Atom} (record { kind = a.kind; known = a.known; partner = a.partner }) (record { kind = 0; known = 0; partner = 0 }) = rw (kind, known, partner) refl in
+      zero ∙ sym (away (atoms_of b) n (omega (arith, length-atoms b)))
 
   pub atom-entry : n < length b / 4 → {p : ℕ} → p ≡ value_at (from (4 * n) b)
       → record { kind = get_or (from (4 * n) b) 0 0; known = get_or (from (4 * n) b) 1 0; partner = p } ≡ atom_at (atoms_of b) n
@@ -93,9 +90,6 @@ module _ (atoms : List Atom) (n other : ℕ) {a q : Atom} (is : a ≡ atom_at at
   same-partner : q ≡ atom_at atoms (partner_of atoms n)
   same-partner = partner ∙ ap (λ (x : Atom). atom_at atoms x.partner) is
 
-  pub back-other : (q.kind ≡ other → ⊥) → ¬ NamedBack atoms n other
-  back-other off w = off (ap (λ (x : Atom). x.kind) same-partner ∙ w.kind)
-
   pub back-named : 0 < other → q.kind ≡ other → Says (eqb q.partner n) (NamedBack atoms n other)
   back-named some-kind kind = says_same (eqb q.partner n)
       (λ e. record { there = kind-listed atoms (partner_of atoms n) (omega (arith, there)); kind = there; back = sym (ap (λ (x : Atom). x.partner) same-partner) ∙ e })
@@ -103,64 +97,3 @@ module _ (atoms : List Atom) (n other : ℕ) {a q : Atom} (is : a ≡ atom_at at
     where
       there : atom_kind atoms (partner_of atoms n) ≡ other
       there = sym (ap (λ (x : Atom). x.kind) same-partner) ∙ kind
-
--- An atom entry, by its kind.
-module _ (atoms : List Atom) (n : ℕ) {a : Atom} (is : a ≡ atom_at atoms n) where
-  pub atom-unknown : 1 < a.known → ¬ AtomRight atoms n
-  atom-unknown k w = let l = w.known in let q = ap (λ (x : Atom). x.known) is in omega arith
-
-  by_kind : a.known ≤ 1 → (k : ℕ) → a.kind ≡ k → (r : Bool) → Says r (PartnerWanted atoms n k) → Says r (AtomRight atoms n)
-  by_kind known k kind r says =
-      let q = ap (λ (x : Atom). x.known) is in
-      let same : atom_kind atoms n ≡ k = sym (ap (λ (x : Atom). x.kind) is) ∙ kind in
-      says_same r (λ w. record { known = omega arith; partner = partner_right atoms n k same w })
-      (λ w. rw same at (partner_wanted atoms n w.partner)) says
-
-  -- The partner field is a number.
-  field : (m : ℕ) → Says (eqb a.partner m) (partner_of atoms n ≡ m)
-  field m = rw (← ap (λ (x : Atom). x.partner) is) (says_eq a.partner m)
-
-  module _ (known : a.known ≤ 1) where
-    pub atom-principal : a.kind ≡ principal_kind → Says (eqb a.partner 0) (AtomRight atoms n)
-    unfolding PartnerWanted
-    atom-principal k = by_kind known principal_kind k (eqb a.partner 0) (field 0)
-
-    pub atom-nonce : a.kind ≡ nonce_kind → Says (eqb a.partner 0) (AtomRight atoms n)
-    unfolding PartnerWanted
-    atom-nonce k = by_kind known nonce_kind k (eqb a.partner 0) (field 0)
-
-    pub atom-symmetric : a.kind ≡ symmetric_kind → Says (eqb a.partner n) (AtomRight atoms n)
-    unfolding PartnerWanted
-    atom-symmetric k = by_kind known symmetric_kind k (eqb a.partner n) (field n)
-
-    pub atom-public : a.kind ≡ public_kind → (r : Bool) → Says r (NamedBack atoms n private_kind) → Says r (AtomRight atoms n)
-    unfolding PartnerWanted
-    atom-public k r says = by_kind known public_kind k r says
-
-    pub atom-private : a.kind ≡ private_kind → (r : Bool) → Says r (NamedBack atoms n public_kind) → Says r (AtomRight atoms n)
-    unfolding PartnerWanted
-    atom-private k r says = by_kind known private_kind k r says
-
-  pub atom-no-kind : (a.kind ≡ principal_kind → ⊥) → (a.kind ≡ nonce_kind → ⊥) → (a.kind ≡ public_kind → ⊥) → (a.kind ≡ private_kind → ⊥)
-      → (a.kind ≡ symmetric_kind → ⊥) → ¬ AtomRight atoms n
-  atom-no-kind one two three four five w = go w.partner
-    where
-      same : a.kind ≡ atom_kind atoms n
-      same = ap (λ (x : Atom). x.kind) is
-
-      go : PartnerRight atoms n → ⊥
-      go (principal k p) = one (same ∙ k)
-      go (nonce k p) = two (same ∙ k)
-      go (public_key k p) = three (same ∙ k)
-      go (private_key k p) = four (same ∙ k)
-      go (symmetric_key k p) = five (same ∙ k)
-
--- The first atom entry that is not right.
-module _ (atoms : List Atom) where
-  pub atom-wrong : (n : ℕ) → n < length atoms → ((k : ℕ) → k < n → AtomRight atoms k) → ¬ AtomRight atoms n → Some n ≡ wrong_atom atoms
-  unfolding wrong_atom
-  atom-wrong n inside all off = first-only (atom_right? atoms) {count = length atoms} (fails refl inside off all)
-
-  pub atoms-right : ((k : ℕ) → k < length atoms → AtomRight atoms k) → None ≡ wrong_atom atoms
-  unfolding wrong_atom
-  atoms-right all = first-only (atom_right? atoms) {count = length atoms} (holds refl all)

@@ -3,8 +3,9 @@ use mathlib.Core.Path.{◌≡◌, sym, ap, ◌∙◌, subst}
 use mathlib.Core.Bool.{Bool, true, false}
 use mathlib.Core.List.{List}
 use mathlib.Core.Logic.{⊎_elim}
-use Prim.Native.Nat.{ℕ, ◌<◌}
+use Prim.Native.Nat.{ℕ, ◌<◌, max, min}
 use native.Mathlib.Omega.{arith}
+use native.Mathlib.Decide.{dec_lt}
 use lib.ListN.{set}
 use Rattle.terms.specs.declared.classes.How.{How}
 use Rattle.terms.specs.declared.classes.How.TheVariants.{Free, Differ, Atoms, Wrappers, Pairs}
@@ -125,3 +126,30 @@ module _ {s t c : List ℕ} (linked : Linked s t c) {i j a b : ℕ} (ea : a ≡ 
 pub turned : {node : ℕ → Node} {name next : ℕ → ℕ} {i j : ℕ} {r : Bool} → Outcome node Any name next (λ v. v i ≡ v j) r
     → Outcome node Any name next (λ v. v j ≡ v i) r
 turned o = record { stepped = λ e. restate (λ v x q. sym q) (λ v x q. sym q) (o.stepped e); clashed = λ e. restate-clash (λ v x q. sym q) (o.clashed e) }
+
+-- And of the higher one and the lower one of the two names.
+module _ {s t c : List ℕ} (linked : Linked s t c) {i j a b : ℕ} (ea : a ≡ name_of c i) (eb : b ≡ name_of c j) where
+  pub ordered-names : AtHome s t i → AtHome s t j → (a ≡ b → ⊥) → TwoNames s t c (max a b) (min a b)
+  ordered-names first second apart = elim (dec_lt b a) [
+    | yes above ↦
+        let high : max a b ≡ a = omega arith in
+        let low : min a b ≡ b = omega arith in
+        rw (high, low) (found-names linked ea eb first second above)
+    | no below ↦
+        let high : max a b ≡ b = omega arith in
+        let low : min a b ≡ a = omega arith in
+        rw (high, low) (found-names linked eb ea second first (omega arith))
+  ]
+
+  pub ordered-answer : {next : ℕ → ℕ} {r : Bool} → Outcome (node_of s t) Any (name_of c) next (λ v. v (max a b) ≡ v (min a b)) r
+      → Outcome (node_of s t) Any (name_of c) next (λ v. v i ≡ v j) r
+  ordered-answer o = elim (dec_lt b a) [
+    | yes above ↦
+        let high : max a b ≡ a = omega arith in
+        let low : min a b ≡ b = omega arith in
+        nodes-answer linked ea eb (rw (high, low) at o)
+    | no below ↦
+        let high : max a b ≡ b = omega arith in
+        let low : min a b ≡ a = omega arith in
+        turned (nodes-answer linked eb ea (rw (high, low) at o))
+  ]

@@ -6,8 +6,10 @@ use mathlib.Core.Logic.{◌⊎◌, inl, inr, ⊎_elim}
 use Prim.Native.Nat.{ℕ, zero, suc, ◌+◌, ◌-◌, ◌/◌, ◌<◌, ◌≤◌}
 use native.Mathlib.Omega.{arith}
 use native.Mathlib.Decide.{dec_lt, ℕ_discrete}
-use lib.ListN.{length, get_or, set, length-set}
+use lib.ListN.{length, set}
 use lib.Seq.{get_or-set_same, get_or-set_other}
+use Rattle.terms.specs.declared.ending.Mark.{Mark}
+use Rattle.terms.specs.declared.ending.Mark.TheVariants.{Unmet, Open, Ended}
 use Rattle.terms.specs.Term.{Message}
 use Rattle.terms.specs.Tag.{pair_tag, WrapperTag, Tagged, an_atom, a_pair, a_wrapping, a_variable, no_tag, tagged}
 use Rattle.terms.specs.Entry.{size}
@@ -15,7 +17,7 @@ use Rattle.terms.specs.Graph.{IsSymbol, Child, Valid, Respects, Finite, finite}
 use Rattle.terms.specs.TermGraph.{right_nodes, variable_nodes, node_for, node_by, node_tag, node_value, first_child, second_child, node_of, TwoTerms, AtHome}
 use Rattle.terms.specs.TermGraph.{OwnEntry, HasChild}
 use Rattle.terms.specs.Names.{name_of, Linked}
-use Rattle.terms.specs.Ending.{ChildrenEnd, ParentEnds, Sound, Below, ChildrenBelow, zeros, MarksKept, Walked, EachFrom}
+use Rattle.terms.specs.Ending.{ChildrenEnd, ParentEnds, Sound, Below, ChildrenBelow, mark_of, unmet, MarksKept, Walked, EachFrom}
 use Rattle.terms.proofs.GraphLaws.{child-symbol, falls}
 use Rattle.terms.proofs.NodeLaws.{node-by, wrapper-node, past-free, symbol-inside, home-symbol}
 use Rattle.terms.proofs.NameLaws.{name-named, name-home}
@@ -29,20 +31,32 @@ each-down {P} {low} {high} o p = record {
   each = λ j h g. elim (dec_lt j low) [ yes l ↦ let same : j ≡ low - 1 = omega arith in rw same p | no n ↦ o.each j (omega arith) g ];
 }
 
--- ---- the number of marks
+pub each-up : {P : ℕ → Type 0} {k low high : ℕ} → EachFrom P k high → k ≤ low → EachFrom P low high
+each-up all up = record { each = λ j h g. all.each j (omega arith) g }
 
--- One more marked; and a mark over another.
-pub fewer-zeros : (m : List ℕ) (a : ℕ) → a < length m → get_or m a 0 ≡ 0 → zeros (set m a 1) < zeros m
-unfolding zeros
-fewer-zeros [] a h q = absurd (omega arith)
-fewer-zeros (x ∷ m) zero h q = rw q (omega arith)
-fewer-zeros (x ∷ m) (suc a) h q = let ih = fewer-zeros m a (omega arith) q in omega arith
+-- ---- marks
 
-no-more-zeros : (m : List ℕ) (a : ℕ) → zeros (set m a 2) ≤ zeros m
-unfolding zeros
-no-more-zeros [] a = omega arith
-no-more-zeros (x ∷ m) zero = omega arith
-no-more-zeros (x ∷ m) (suc a) = let ih = no-more-zeros m a in omega arith
+unmet≢open : Unmet ≡ Open → ⊥
+unmet≢open e = let z : ◌≡◌ {A = ℕ} 0 1 = cc in omega arith
+
+unmet≢ended : Unmet ≡ Ended → ⊥
+unmet≢ended e = let z : ◌≡◌ {A = ℕ} 0 1 = cc in omega arith
+
+open≢ended : Open ≡ Ended → ⊥
+open≢ended e = let z : ◌≡◌ {A = ℕ} 0 1 = cc in omega arith
+
+-- One more met; and a mark over another.
+pub fewer-unmet : (m : List Mark) (a : ℕ) → a < length m → mark_of m a ≡ Unmet → unmet (set m a Open) < unmet m
+unfolding unmet
+fewer-unmet [] a h q = absurd (omega arith)
+fewer-unmet (x ∷ m) zero h q = rw q (omega arith)
+fewer-unmet (x ∷ m) (suc a) h q = let ih = fewer-unmet m a (omega arith) q in omega arith
+
+no-more-unmet : (m : List Mark) (a : ℕ) → unmet (set m a Ended) ≤ unmet m
+unfolding unmet
+no-more-unmet [] a = omega arith
+no-more-unmet (x ∷ m) zero = omega arith
+no-more-unmet (x ∷ m) (suc a) = let ih = no-more-unmet m a in omega arith
 
 -- ---- children of nodes
 
@@ -69,24 +83,24 @@ module _ (s t : List ℕ) (i : ℕ) where
 -- ---- answers
 
 -- Yes, with the marks kept.
-pub yes-kept : {s t c m n : List ℕ} {P : Type 0} → length n ≡ variable_nodes → MarksKept s t c m n → P → Walked s t c m n P true
-yes-kept long kept p = record { long = long; ends = λ e. (p, kept); never = λ e. absurd (true≢false e) }
+pub yes-kept : {s t c : List ℕ} {m n : List Mark} {P : Type 0} → MarksKept s t c m n → P → Walked s t c m n P true
+yes-kept kept p = record { ends = λ e. (p, kept); never = λ e. absurd (true≢false e) }
 
 -- Nothing was marked on the way.
-pub kept_same : {s t c m : List ℕ} → Sound s t c m → MarksKept s t c m m
+pub kept_same : {s t c : List ℕ} {m : List Mark} → Sound s t c m → MarksKept s t c m m
 kept_same sound = record { sound = sound; fewer = omega arith; open_before = λ a h q. q }
 
-pub yes-at-once : {s t c m : List ℕ} {P : Type 0} → length m ≡ variable_nodes → Sound s t c m → P → Walked s t c m m P true
-yes-at-once long sound = yes-kept long (kept_same sound)
+pub yes-at-once : {s t c : List ℕ} {m : List Mark} {P : Type 0} → Sound s t c m → P → Walked s t c m m P true
+yes-at-once sound = yes-kept (kept_same sound)
 
 -- A way was found that never ends.
-pub no_way : {s t c m n : List ℕ} {P : Type 0} → length n ≡ variable_nodes → ((v : ℕ → Message) → Valid (node_of s t) v → Respects (name_of c) v → ⊥)
+pub no_way : {s t c : List ℕ} {m n : List Mark} {P : Type 0} → ((v : ℕ → Message) → Valid (node_of s t) v → Respects (name_of c) v → ⊥)
     → Walked s t c m n P false
-no_way long none = record { long = long; ends = λ e. absurd (false≢true e); never = λ e. none }
+no_way none = record { ends = λ e. absurd (false≢true e); never = λ e. none }
 
 -- The same answer for what follows.
-pub answer-map : {s t c m n : List ℕ} {P Q : Type 0} {r : Bool} → (P → Q) → Walked s t c m n P r → Walked s t c m n Q r
-answer-map f w = record { long = w.long; ends = λ e. (f (w.ends e).0, (w.ends e).1); never = w.never }
+pub answer-map : {s t c : List ℕ} {m n : List Mark} {P Q : Type 0} {r : Bool} → (P → Q) → Walked s t c m n P r → Walked s t c m n Q r
+answer-map f w = record { ends = λ e. (f (w.ends e).0, (w.ends e).1); never = w.never }
 
 -- ---- at a class: node i, whose class is named a
 
@@ -103,62 +117,62 @@ symbol-there {s} {t} i linked at_home is low = home-symbol (rw is (name-home lin
 pub class-ends : {s t c : List ℕ} (i : ℕ) {a : ℕ} → a ≡ name_of c i → ChildrenEnd s t c a → Finite (node_of s t) (name_of c) i
 class-ends {s} {t} i is all = finite (λ j child. all.child j (subst (λ (n : ℕ). Child j (node_of s t n)) (sym is) child))
 
--- A way that leads back to mark 1.
-pub back-again : {s t c m : List ℕ} {i a : ℕ} → a ≡ name_of c i → a < variable_nodes → get_or m a 0 ≡ 1 → Below s t c m i
+-- A way that leads back to an open class.
+pub back-again : {s t c : List ℕ} {m : List Mark} {i a : ℕ} → a ≡ name_of c i → a < variable_nodes → mark_of m a ≡ Open → Below s t c m i
     → (v : ℕ → Message) → Valid (node_of s t) v → Respects (name_of c) v → ⊥
 back-again {i = i} {a = a} is low one below v valid respects =
     let less = below.smaller v valid respects a low one in
     let same : size (v i) ≡ size (v a) = ap size (respects.same i ∙ ap v (sym is)) in
     omega arith
 
--- Mark 1 on a: the marks stay sound, and the children of a are below all classes with mark 1.
-module _ {s t c m : List ℕ} {a : ℕ} (inside : a < length m) where
-  pub open-sound : Sound s t c m → Sound s t c (set m a 1)
+-- Class a open: the marks stay sound, and the children of a are below all open classes.
+module _ {s t c : List ℕ} {m : List Mark} {a : ℕ} (inside : a < length m) where
+  pub open-sound : Sound s t c m → Sound s t c (set m a Open)
   open-sound sound = record {
-    ends = λ b h more. elim (ℕ_discrete b a) [
-      | yes e ↦ let one : get_or (set m a 1) b 0 ≡ 1 = rw e (get_or-set_same m a 1 0 inside) in absurd (omega arith)
-      | no n ↦ sound.ends b h (rw (get_or-set_other m a b 1 0 n) at more)
+    ends = λ b h end. elim (ℕ_discrete b a) [
+      | yes e ↦ absurd (open≢ended (sym (get_or-set_same m a Open Unmet inside) ∙ (rw e at end)))
+      | no n ↦ sound.ends b h (rw (get_or-set_other m a b Open Unmet n) at end)
     ];
   }
 
-  pub open-below : {i : ℕ} → a ≡ name_of c i → Below s t c m i → ChildrenBelow s t c (set m a 1) a
+  pub open-below : {i : ℕ} → a ≡ name_of c i → Below s t c m i → ChildrenBelow s t c (set m a Open) a
   open-below {i} is below = record { child = λ j child. record { smaller = λ v valid respects. go j child v valid respects } }
     where
       go : (j : ℕ) → Child j (node_of s t a) → (v : ℕ → Message) → Valid (node_of s t) v → Respects (name_of c) v
-          → (b : ℕ) → b < variable_nodes → get_or (set m a 1) b 0 ≡ 1 → size (v j) < size (v b)
+          → (b : ℕ) → b < variable_nodes → mark_of (set m a Open) b ≡ Open → size (v j) < size (v b)
       go j child v valid respects b h one =
           let down = falls (node_of s t) (name_of c) v valid respects i j (subst (λ (n : ℕ). Child j (node_of s t n)) is child) in
           elim (ℕ_discrete b a) [
             | yes e ↦ let same : v i ≡ v b = respects.same i ∙ ap v (sym (e ∙ is)) in rw same at down
-            | no n ↦ let up = below.smaller v valid respects b h (sym (get_or-set_other m a b 1 0 n) ∙ one) in omega arith
+            | no n ↦ let up = below.smaller v valid respects b h (sym (get_or-set_other m a b Open Unmet n) ∙ one) in omega arith
           ]
 
--- Mark 2 on a, once its children have ended: n are the marks that their walk left.
-module _ {s t c m n : List ℕ} {a : ℕ} (low : a < variable_nodes) (inside : a < length m) (unmet : get_or m a 0 ≡ 0) (long : length n ≡ variable_nodes) where
-  closed-kept : ChildrenEnd s t c a → MarksKept s t c (set m a 1) n → MarksKept s t c m (set n a 2)
+-- Class a ended, once its children have: n are the marks that their walk left.
+module _ {s t c : List ℕ} {m n : List Mark} {a : ℕ} (inside : a < length m) (still : a < length n) (met : mark_of m a ≡ Unmet) where
+  closed-kept : ChildrenEnd s t c a → MarksKept s t c (set m a Open) n → MarksKept s t c m (set n a Ended)
   closed-kept all kept = record {
     sound = record {
-      ends = λ b h more. elim (ℕ_discrete b a) [ yes e ↦ rw e all | no o ↦ kept.sound.ends b h (rw (get_or-set_other n a b 2 0 o) at more) ];
+      ends = λ b h end. elim (ℕ_discrete b a) [ yes e ↦ rw e all | no o ↦ kept.sound.ends b h (rw (get_or-set_other n a b Ended Unmet o) at end) ];
     };
-    fewer = let first = fewer-zeros m a inside unmet in let then = kept.fewer in let last = no-more-zeros n a in omega arith;
+    fewer = let first = fewer-unmet m a inside met in let then = kept.fewer in let last = no-more-unmet n a in omega arith;
     open_before = λ b h one. elim (ℕ_discrete b a) [
-      | yes e ↦ let two : get_or (set n a 2) b 0 ≡ 2 = rw e (get_or-set_same n a 2 0 (omega arith)) in absurd (omega arith)
-      | no o ↦ sym (get_or-set_other m a b 1 0 o) ∙ kept.open_before b h (sym (get_or-set_other n a b 2 0 o) ∙ one)
+      | yes e ↦ absurd (open≢ended (sym (rw e at one) ∙ get_or-set_same n a Ended Unmet still))
+      | no o ↦ sym (get_or-set_other m a b Open Unmet o) ∙ kept.open_before b h (sym (get_or-set_other n a b Ended Unmet o) ∙ one)
     ];
   }
 
-  pub closed : (i : ℕ) → a ≡ name_of c i → ChildrenEnd s t c a × MarksKept s t c (set m a 1) n
-      → Walked s t c m (set n a 2) (Finite (node_of s t) (name_of c) i) true
-  closed i is done = yes-kept (rw length-set long) (closed-kept done.0 done.1) (class-ends i is done.0)
+  pub closed : (i : ℕ) → a ≡ name_of c i → ChildrenEnd s t c a × MarksKept s t c (set m a Open) n
+      → Walked s t c m (set n a Ended) (Finite (node_of s t) (name_of c) i) true
+  closed i is done = yes-kept (closed-kept done.0 done.1) (class-ends i is done.0)
 
 -- ---- at the children of node a
 
 -- After a walk a node is still below.
-pub below-kept : {s t c m n : List ℕ} {i : ℕ} → MarksKept s t c m n → Below s t c m i → Below s t c n i
+pub below-kept : {s t c : List ℕ} {m n : List Mark} {i : ℕ} → MarksKept s t c m n → Below s t c m i → Below s t c n i
 below-kept kept below = record { smaller = λ v valid respects a h one. below.smaller v valid respects a h (kept.open_before a h one) }
 
 -- One walk after another.
-pub kept-both : {s t c m n o : List ℕ} → MarksKept s t c m n → MarksKept s t c n o → MarksKept s t c m o
+pub kept-both : {s t c : List ℕ} {m n o : List Mark} → MarksKept s t c m n → MarksKept s t c n o → MarksKept s t c m o
 kept-both first then = record {
   sound = then.sound;
   fewer = let p = first.fewer in let q = then.fewer in omega arith;
@@ -167,17 +181,21 @@ kept-both first then = record {
 
 -- The children of node a, by its tag.
 module _ {s t c : List ℕ} {a : ℕ} where
-  pub first_below : {m : List ℕ} {x : ℕ} → node_tag s t a ≡ pair_tag → x ≡ first_child s t a → ChildrenBelow s t c m a → Below s t c m x
+  pub first_below : {m : List Mark} {x : ℕ} → node_tag s t a ≡ pair_tag → x ≡ first_child s t a → ChildrenBelow s t c m a → Below s t c m x
   unfolding node_by
   first_below two is all = rw is (all.child (first_child s t a) (subst (Child (first_child s t a)) (sym (node-by s t a two)) (inl refl)))
 
-  pub second_below : {m : List ℕ} {x : ℕ} → node_tag s t a ≡ pair_tag → x ≡ second_child s t a → ChildrenBelow s t c m a → Below s t c m x
+  pub second_below : {m : List Mark} {x : ℕ} → node_tag s t a ≡ pair_tag → x ≡ second_child s t a → ChildrenBelow s t c m a → Below s t c m x
   unfolding node_by
   second_below two is all = rw is (all.child (second_child s t a) (subst (Child (second_child s t a)) (sym (node-by s t a two)) (inr refl)))
 
-  pub content-below : {m : List ℕ} {x : ℕ} → WrapperTag (node_tag s t a) → x ≡ first_child s t a → ChildrenBelow s t c m a → Below s t c m x
+  pub content-below : {m : List Mark} {x : ℕ} → WrapperTag (node_tag s t a) → x ≡ first_child s t a → ChildrenBelow s t c m a → Below s t c m x
   content-below one is all =
       rw is (all.child (first_child s t a) (subst (Child (first_child s t a)) (sym (wrapper-node s t a one.wrapping one.is)) refl))
+
+  pub child-below : {m : List Mark} {x : ℕ} → HasChild s t a → x ≡ first_child s t a → ChildrenBelow s t c m a → Below s t c m x
+  child-below (inl two) is all = first_below two is all
+  child-below (inr one) is all = content-below one is all
 
   pub no-children-end : (node_tag s t a ≡ pair_tag → ⊥) → ¬ WrapperTag (node_tag s t a) → ChildrenEnd s t c a
   no-children-end no-pair no-wrapper = record { child = λ j child. absurd (childless s t a no-pair no-wrapper j child) }
@@ -194,11 +212,10 @@ module _ {s t c : List ℕ} {a : ℕ} where
       go j (inr e) = subst (Finite (node_of s t) (name_of c)) (is-second ∙ sym e) second
 
   -- The first half has ended; the second half answers for both.
-  pub halves-walked : {m n o : List ℕ} {x y : ℕ} {r : Bool} → node_tag s t a ≡ pair_tag → x ≡ first_child s t a → y ≡ second_child s t a
+  pub halves-walked : {m n o : List Mark} {x y : ℕ} {r : Bool} → node_tag s t a ≡ pair_tag → x ≡ first_child s t a → y ≡ second_child s t a
       → Finite (node_of s t) (name_of c) x × MarksKept s t c m n → Walked s t c n o (Finite (node_of s t) (name_of c) y) r
       → Walked s t c m o (ChildrenEnd s t c a) r
   halves-walked two is-first is-second first w = record {
-    long = w.long;
     ends = λ e. (halves-end two is-first is-second first.0 (w.ends e).0, kept-both first.1 (w.ends e).1);
     never = w.never;
   }
@@ -221,12 +238,12 @@ pub no-parent : {s t c : List ℕ} {k : ℕ} → (node_tag s t k ≡ pair_tag �
 no-parent {s} {t} {k = k} no-pair no-wrapper = record { parent = λ j child. absurd (childless s t k no-pair no-wrapper j child) }
 
 -- Nothing is marked at the start.
-module _ (s t c m : List ℕ) (none : (a : ℕ) → a < variable_nodes → get_or m a 0 ≡ 0) where
+module _ (s t c : List ℕ) (m : List Mark) (none : (a : ℕ) → a < variable_nodes → mark_of m a ≡ Unmet) where
   pub start-sound : Sound s t c m
-  start-sound = record { ends = λ a h more. let zero-there = none a h in absurd (omega arith) }
+  start-sound = record { ends = λ a h end. absurd (unmet≢ended (sym (none a h) ∙ end)) }
 
   pub start-below : (i : ℕ) → Below s t c m i
-  start-below i = record { smaller = λ v valid respects a h one. let zero-there = none a h in absurd (omega arith) }
+  start-below i = record { smaller = λ v valid respects a h one. absurd (unmet≢open (sym (none a h) ∙ one)) }
 
 -- The entries of each side stand at its nodes.
 module _ (s t : List ℕ) (two : TwoTerms s t) where

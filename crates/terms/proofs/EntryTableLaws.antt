@@ -2,28 +2,24 @@
 use mathlib.Core.Path.{◌≡◌, refl, sym, ap}
 use mathlib.Core.Bool.{Bool, true, false}
 use mathlib.Core.List.{List}
-use mathlib.Core.Logic.{◌⊎◌, inl, inr}
-use Prim.Native.Nat.{ℕ, ◌*◌, ◌/◌, ◌≤◌, ◌<◌}
+use mathlib.Core.Logic.{◌↔◌, ◌⊎◌, inl, inr}
+use Prim.Native.Nat.{ℕ, ◌*◌, ◌≤◌, ◌<◌}
 use native.Mathlib.Decide.{ℕ_discrete}
 use native.Mathlib.Omega.{arith}
-use lib.Dec.{eqb, ltb, leb}
-use lib.ListN.{length, get_or, get_or-eq_default}
+use lib.Dec.{ltb}
+use lib.ListN.{length, get_or, drop, get_or-eq_default}
 use borrow.Author.Tests.{ltb-true, lt-ltb, le-ltb, eq-eqb, ne_eqb}
 use borrow.Author.Rules.{part_to_end}
 use Rattle.blocks.specs.Kinds.{secret_kind, good_kind, bad_kind}
-use Rattle.std.specs.Prelude.{Some, None}
 use Rattle.terms.specs.Term.{Sort, sort, plain, marked, Range, any_message, one_nonce, Wrapping, encryption, hash, signature}
 use Rattle.terms.specs.declared.atom.Atom.{Atom}
 use Rattle.terms.specs.Atom.{public_kind, private_kind, atom_at, atom_kind, IsKey, key-kind, kind-key}
 use Rattle.terms.specs.Tag.{atom_tag, encryption_tag, signature_tag, sort_tag, wrapping_tag, variables, Tagged, an_atom, a_pair, a_wrapping, a_variable, no_tag, tagged}
 use Rattle.terms.specs.Entry.{tag_at, value_at, from}
 use Rattle.terms.specs.Each.{EntryIs}
-use Rattle.terms.specs.TermEntry.{NumberRight, MayStand, EntryRight, AskedBy, Asked, asked, tag_right, right_at?, wrong_entry}
-use Rattle.terms.specs.First.{fails, holds}
-use Rattle.terms.specs.Decisions.{pick, Says, says_same}
+use Rattle.terms.specs.TermEntry.{NumberRight, MayStand, EntryRight, AskedBy, Asked, asked, tag_right}
+use Rattle.terms.specs.Decisions.{pick}
 use Rattle.terms.specs.EntryTables.{listed_kind, plain_limit, marked_limit, limits_of, ByLimits}
-use Rattle.terms.proofs.AnswerLaws.{says-yes, says-no, says_eq, says-le}
-use Rattle.terms.proofs.FirstLaws.{first-only}
 use Rattle.terms.proofs.AtomLaws.{kind-listed, key-listed}
 
 -- The kind of an atom, by its entry.
@@ -48,13 +44,10 @@ module _ {kind : ℕ} where
   unfolding plain_limit
   plain_other e = rw (ne_eqb kind secret_kind e)
 
-  pub marked-good : kind ≡ good_kind → variables ≡ marked_limit kind
+  pub marked-some : (kind ≡ good_kind) ⊎ (kind ≡ bad_kind) → variables ≡ marked_limit kind
   unfolding marked_limit
-  marked-good e = rw (eq-eqb kind good_kind e)
-
-  pub marked-bad : (kind ≡ good_kind → ⊥) → kind ≡ bad_kind → variables ≡ marked_limit kind
-  unfolding marked_limit
-  marked-bad e f = rw (ne_eqb kind good_kind e, eq-eqb kind bad_kind f)
+  marked-some (inl e) = rw (eq-eqb kind good_kind e)
+  marked-some (inr e) = let off : ¬ (kind ≡ good_kind) = omega arith in rw (ne_eqb kind good_kind off, eq-eqb kind bad_kind e)
 
   pub marked_other : (kind ≡ good_kind → ⊥) → (kind ≡ bad_kind → ⊥) → 0 ≡ marked_limit kind
   unfolding marked_limit
@@ -105,9 +98,9 @@ module _ (atoms : List Atom) (kind value : ℕ) where
 
       with-mark : (r : Range) → value < marked_limit kind → (value < variables) × MayStand (sort marked r) kind
       with-mark r below = elim (ℕ_discrete kind good_kind) [
-        | yes e ↦ (omega (arith, marked-good e), inl e)
+        | yes e ↦ (omega (arith, marked-some (inl e)), inl e)
         | no not-Good ↦ elim (ℕ_discrete kind bad_kind) [
-          | yes e ↦ (omega (arith, marked-bad not-Good e), inr e)
+          | yes e ↦ (omega (arith, marked-some (inr e)), inr e)
           | no off ↦ absurd (omega (arith, marked_other not-Good off))
         ]
       ]
@@ -145,8 +138,7 @@ module _ (atoms : List Atom) (kind value : ℕ) where
       unmarked off low = omega (arith, plain_other off)
 
       with-mark : (kind ≡ good_kind) ⊎ (kind ≡ bad_kind) → value < variables → value < marked_limit kind
-      with-mark (inl is) low = omega (arith, marked-good is)
-      with-mark (inr is) low = omega (arith, marked-bad (λ e. omega arith) is)
+      with-mark is low = omega (arith, marked-some is)
 
       sorted : (s : Sort) → value < variables → MayStand s kind → Within (sort_tag s)
       sorted (sort plain any_message) low off = record { below = unmarked off low; key = λ e. absurd (omega (arith, e)); signer = λ e. absurd (omega (arith, e)) }
@@ -171,60 +163,20 @@ module _ (atoms : List Atom) (kind : ℕ) {limits : List ℕ} (tables : limits �
   abbrev Right : List ℕ → Type 0
   Right e = EntryRight atoms kind (tag_at e) (get_or e 1 0) (value_at e)
 
-  within-right : (e : List ℕ) (r : Bool) → Says r (ByLimits atoms limits e) → Says r (Right e)
-  within-right e r says = says_same {P = ByLimits atoms limits e} r
-      (λ w. record {
+  within-right : (e : List ℕ) → ByLimits atoms limits e ↔ Right e
+  within-right e = (to, back)
+    where
+      to : ByLimits atoms limits e → Right e
+      to w = record {
         blank = w.blank;
         tagged = tag_right atoms kind (value_at e) (tag_at e)
             (within-asked atoms kind (value_at e) (tag_at e) (record { below = rw tables at w.below; key = w.key; signer = w.signer }));
-      })
-      (λ w. (let a = asked-within atoms kind (value_at e) (tag_at e) (asked atoms kind (value_at e) w.tagged) in
-      record { blank = w.blank; below = rw tables a.below; key = a.key; signer = a.signer })) says
+      }
 
-  module _ (e : List ℕ) (n : ℕ) (r : Bool) (says : Says r (ByLimits atoms limits (from (4 * n) e))) where
-    right_there : Says r (Right (from (4 * n) e))
-    right_there = within-right (from (4 * n) e) r says
+      back : Right e → ByLimits atoms limits e
+      back w =
+          let a = asked-within atoms kind (value_at e) (tag_at e) (asked atoms kind (value_at e) w.tagged) in
+          record { blank = w.blank; below = rw tables a.below; key = a.key; signer = a.signer }
 
-    pub entry-yes : r ≡ true → EntryIs (EntryRight atoms kind) e n
-    entry-yes t = rw part_to_end at (says-yes {P = Right (from (4 * n) e)} r right_there t)
-
-    pub entry-no : r ≡ false → ¬ EntryIs (EntryRight atoms kind) e n
-    entry-no f w = says-no {P = Right (from (4 * n) e)} r right_there f (rw part_to_end w)
-
--- The steps of the test.
-module _ (atoms : List Atom) (limits e : List ℕ) where
-  pub past-tables : length limits ≡ 10 → signature_tag < tag_at e → ¬ ByLimits atoms limits e
-  past-tables long far w = let z : get_or limits (tag_at e) 0 ≡ 0 = get_or-eq_default limits 0 (omega arith) in let h = w.below in omega arith
-
-  module _ {tag n : ℕ} (is-tag : tag ≡ tag_at e) (is-value : n ≡ value_at e) where
-    pub past-limit : get_or limits tag 0 ≤ n → ¬ ByLimits atoms limits e
-    past-limit far w = let h = w.below in let k = rw (is-tag, is-value) at far in omega arith
-
-    module _ (blank : get_or e 1 0 ≡ 0) (below : n < get_or limits tag 0) where
-      right-below : value_at e < get_or limits (tag_at e) 0
-      right-below = rw (is-tag, is-value) at below
-
-      pub by_key : tag_at e ≡ encryption_tag → {k : ℕ} → k ≡ listed_kind atoms n → Says (leb public_kind k) (ByLimits atoms limits e)
-      by_key three {k} is-kind = says_same (leb public_kind k)
-          (λ h. record { blank = blank; below = right-below; key = λ e. rw (is-kind, is-value) at h; signer = λ e. absurd (omega arith) })
-          (λ w. rw (is-kind, is-value) (w.key three)) (says-le public_kind k)
-
-      pub by-signer : tag_at e ≡ signature_tag → {k : ℕ} → k ≡ listed_kind atoms n → Says (eqb k private_kind) (ByLimits atoms limits e)
-      by-signer nine {k} is-kind = says_same (eqb k private_kind)
-          (λ h. record { blank = blank; below = right-below; key = λ e. absurd (omega arith); signer = λ e. rw (is-kind, is-value) at h })
-          (λ w. rw (is-kind, is-value) (w.signer nine)) (says_eq k private_kind)
-
-      pub by-limit : ¬ (tag_at e ≡ encryption_tag) → ¬ (tag_at e ≡ signature_tag) → ByLimits atoms limits e
-      by-limit no_key no-signer =
-          record { blank = blank; below = right-below; key = λ e. absurd (no_key e); signer = λ e. absurd (no-signer e) }
-
--- The first entry that is not right.
-module _ (atoms : List Atom) (kind : ℕ) (e : List ℕ) where
-  pub entry-wrong : (n : ℕ) → n < length e / 4
-      → ((k : ℕ) → k < n → EntryIs (EntryRight atoms kind) e k) → ¬ EntryIs (EntryRight atoms kind) e n → Some n ≡ wrong_entry atoms kind e
-  unfolding wrong_entry
-  entry-wrong n inside all off = first-only (right_at? atoms kind e) (fails refl inside off all)
-
-  pub entries-right : ((k : ℕ) → k < length e / 4 → EntryIs (EntryRight atoms kind) e k) → None ≡ wrong_entry atoms kind e
-  unfolding wrong_entry
-  entries-right all = first-only (right_at? atoms kind e) (holds refl all)
+  pub limits-right : (e : List ℕ) (n : ℕ) → ByLimits atoms limits (from (4 * n) e) ↔ EntryIs (EntryRight atoms kind) e n
+  limits-right e n = rw part_to_end (within-right (drop (4 * n) e))

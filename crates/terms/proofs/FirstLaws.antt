@@ -1,11 +1,18 @@
 -- Laws of the first number of which a claim does not hold: `first_not` finds it, and nothing else is it.
 use mathlib.Core.Path.{◌≡◌, refl}
 use mathlib.Core.Logic.{◌↔◌}
-use Prim.Native.Nat.{ℕ, zero, suc, ◌+◌, ◌<◌}
+use Prim.Native.Nat.{ℕ, zero, suc, ◌+◌, ◌<◌, ◌≤◌}
+use Rattle.std.specs.Option.{MatchOption}
 use native.Mathlib.Omega.{arith}
 use native.Mathlib.Decide.{dec_lt, ℕ_discrete}
 use Rattle.terms.specs.First.{Found, FirstNot, fails, holds, first_from, first_not}
 use Rattle.std.specs.Prelude.{Some, None}
+
+-- What `find` tells, over a range from 0 on.
+pub first-found : {P : ℕ → Type 0} (count : ℕ) {f : Found}
+    → MatchOption f ((k : ℕ) → 0 ≤ k → k < count → P k) (λ n. (0 ≤ n) × (n < count) × ¬ P n × ((k : ℕ) → 0 ≤ k → k < n → P k)) → FirstNot P count f
+first-found count {f = None} h = holds refl (λ k l. h k (omega arith) l)
+first-found count {f = Some n} h = fails refl h.1 h.2 (λ k l. h.3 k (omega arith) l)
 
 -- A claim that holds of the same numbers has the same first.
 pub first-along : {P Q : ℕ → Type 0} {count : ℕ} → ((k : ℕ) → k < count → P k ↔ Q k) → {f : Found} → FirstNot P count f → FirstNot Q count f

@@ -1,15 +1,17 @@
 -- Laws of the walk over two terms side by side.
 use mathlib.Core.Path.{◌≡◌, refl, sym, ap, ◌∙◌}
+use mathlib.Core.Bool.{Bool, true, false, false≢true}
 use mathlib.Core.List.{List}
 use mathlib.Core.Logic.{◌↔◌}
 use Prim.Native.Nat.{ℕ, zero, suc, ◌+◌, ◌*◌, ◌-◌, ◌<◌, ◌≤◌}
 use native.Mathlib.Omega.{arith}
 use native.Mathlib.Decide.{ℕ_discrete}
 use lib.Dec.{eqb}
-use lib.ListN.{length, get_or, set, length-set}
+use lib.ListN.{length, get_or, set}
 use lib.Seq.{get_or-set_same, get_or-set_other}
 use borrow.Author.Tests.{eq-eqb, ne_eqb}
 use Rattle.terms.specs.declared.atom.Atom.{Atom}
+use Rattle.terms.specs.declared.sharing.Beside.{Beside}
 use Rattle.terms.specs.Term.{Term, variable, atom, pair, Variable, one_nonce, range_of, replace, wrapped}
 use Rattle.terms.specs.Instance.{NonceTerm, PutsNonces, Share}
 use Rattle.terms.specs.Tag.{SymbolTag, children_of}
@@ -19,7 +21,7 @@ use Rattle.terms.specs.Occurs.{replace-none}
 use Rattle.terms.specs.Slot.{any_slots, slot_of}
 use Rattle.terms.specs.Front.{Ran, Goes}
 use Rattle.terms.specs.TermGraph.{TwoTerms}
-use Rattle.terms.specs.Meetings.{RootsDiffer, Noted, NotedIn, noted_slot, Distinct, Same, AllSame, Walking, Stops, Reduced}
+use Rattle.terms.specs.Meetings.{RootsDiffer, left_noted, right_noted, Noted, NotedIn, noted_slot, Distinct, Same, AllSame, Walking, Stops, Reduced}
 use Rattle.terms.proofs.TagLaws.{one-child}
 use Rattle.terms.proofs.EntryLaws.{size-positive, leaf_first, from-from, from-length, from_start}
 use Rattle.terms.proofs.SlotLaws.{symbol-slot, nonce-slot}
@@ -36,9 +38,9 @@ roots-apart two roots by by' h =
     ((alike-one two.left two.right by by').1 h)
 
 -- Nothing is noted yet.
-pub walking_start : {s t m : List ℕ} → TwoTerms s t → length m ≡ 128 → Walking s t m 0 0 0 1
-walking_start {s} {t} {m} two long = record {
-  noted = record { long = long; few = omega arith; left = λ k h. absurd (omega arith); right = λ k h. absurd (omega arith) };
+pub walking_start : {s t : List ℕ} {m : List Beside} → TwoTerms s t → Walking s t m 0 0 0 1
+walking_start {s} {t} two = record {
+  noted = record { few = omega arith; left = λ k h. absurd (omega arith); right = λ k h. absurd (omega arith) };
   passed = omega arith;
   inside = omega arith;
   other_inside = omega arith;
@@ -54,7 +56,7 @@ walking_start {s} {t} {m} two long = record {
 further : (i k : ℕ) (e : List ℕ) → from (4 * k) (from (4 * i) e) ≡ from (4 * (i + k)) e
 further i k e = let there : 4 * i + 4 * k ≡ 4 * (i + k) = omega arith in rw (from-from, there) refl
 
-module _ {s t m : List ℕ} {n i j need : ℕ} (w : Walking s t m n i j need) where
+module _ {s t : List ℕ} {m : List Beside} {n i j need : ℕ} (w : Walking s t m n i j need) where
   -- Past a run of equal symbols.
   pub walking_run : {k left : ℕ} → Ran need (from (4 * i) s) (from (4 * j) t) k left → Walking s t m n (i + k) (j + k) left
   walking_run {k} {left} r = record {
@@ -100,28 +102,32 @@ module _ {s t m : List ℕ} {n i j need : ℕ} (w : Walking s t m n i j need) wh
 
     -- The entries are noted, and the walk goes on behind the terms there.
     module _ (two : TwoTerms s t) {a b : ℕ} (is : a ≡ size (term_of (from (4 * i) s))) (is' : b ≡ size (term_of (from (4 * j) t)))
-        (fits : 4 * (i + a) ≤ length s) (fits' : 4 * (j + b) ≤ length t) (low : n < 64) where
-      abbrev d : List ℕ
-      d = set (set m n i) (64 + n) j
+        (fits : 4 * (i + a) ≤ length s) (fits' : 4 * (j + b) ≤ length t) (low : n < length m) where
+      abbrev note : Beside
+      note = record { i = i; j = j }
 
-      here : get_or d n 0 ≡ i
-      here = get_or-set_other (set m n i) (64 + n) n j 0 (omega arith) ∙ get_or-set_same m n i 0 (omega (arith, w.noted.long))
+      abbrev d : List Beside
+      d = set m n note
 
-      there : get_or d (64 + n) 0 ≡ j
-      there = get_or-set_same (set m n i) (64 + n) j 0 (omega (arith, w.noted.long, length-set m n i))
+      read : get_or d n (record { i = 0; j = 0 }) ≡ note
+      read = get_or-set_same m n note _ low
 
-      before : (k : ℕ) → k < n → (get_or d k 0 ≡ get_or m k 0) × (get_or d (64 + k) 0 ≡ get_or m (64 + k) 0)
-      before k h = (
-        get_or-set_other (set m n i) (64 + n) k j 0 (omega arith) ∙ get_or-set_other m n k i 0 (omega arith),
-        get_or-set_other (set m n i) (64 + n) (64 + k) j 0 (omega arith) ∙ get_or-set_other m n (64 + k) i 0 (omega arith),
-      )
+      here : left_noted d n ≡ i
+      here = ap (λ (b : Beside). b.i) read
+
+      there : right_noted d n ≡ j
+      there = ap (λ (b : Beside). b.j) read
+
+      before : (k : ℕ) → k < n → (left_noted d k ≡ left_noted m k) × (right_noted d k ≡ right_noted m k)
+      before k h =
+          let same : get_or d k (record { i = 0; j = 0 }) ≡ get_or m k (record { i = 0; j = 0 }) = get_or-set_other m n k note _ (omega arith) in
+          (ap (λ (b : Beside). b.i) same, ap (λ (b : Beside). b.j) same)
 
       earlier : {k : ℕ} → k < n + 1 → ¬ (k ≡ n) → k < n
       earlier h off = omega arith
 
       noted_more : Noted s t d (n + 1)
       noted_more = record {
-        long = simp length-set w.noted.long;
         few = omega (arith, w.passed, walking-room.0, two.left_short);
         left = λ k h. elim (ℕ_discrete k n) [
           | yes e ↦ rw (e, here) walking-room.0
@@ -175,8 +181,8 @@ leaf-one {e} b none =
     (λ one. absurd (omega (arith, one-child one)))
 
 -- Entries without children are noted, and the walk goes on at the next ones.
-pub walking-leaves : {s t m : List ℕ} {n i j need : ℕ} (w : Walking s t m n i j need) → ¬ (need ≡ 0) → TwoTerms s t → children_of (get_or s (4 * i) 0) ≡ 0
-    → children_of (get_or t (4 * j) 0) ≡ 0 → n < 64 → Walking s t (set (set m n i) (64 + n) j) (n + 1) (i + 1) (j + 1) (need - 1)
+pub walking-leaves : {s t : List ℕ} {m : List Beside} {n i j need : ℕ} (w : Walking s t m n i j need) → ¬ (need ≡ 0) → TwoTerms s t → children_of (get_or s (4 * i) 0) ≡ 0
+    → children_of (get_or t (4 * j) 0) ≡ 0 → n < length m → Walking s t (set m n (record { i = i; j = j })) (n + 1) (i + 1) (j + 1) (need - 1)
 walking-leaves {s} {t} {i = i} {j = j} w some_left two leaf leaf' low =
     let room = walking-room w some_left in
     walking-more w some_left two (leaf-one (front-begins w.front some_left) (ap children_of (sym (tag-from s i)) ∙ leaf))
@@ -184,8 +190,8 @@ walking-leaves {s} {t} {i = i} {j = j} w some_left two leaf leaf' low =
 
 -- ---- variables that can take what stands opposite
 
-pub noted_in : {s t m : List ℕ} {n : ℕ} → Noted s t m n → NotedIn s m n
-noted_in w = record { long = w.long; few = w.few; inside = w.left }
+pub noted_in : {s t : List ℕ} {m : List Beside} {n : ℕ} → Noted s t m n → NotedIn s m n
+noted_in w = record { few = w.few; inside = w.left }
 
 -- A term with a variable's slot is a variable.
 pub record AVariable (t : Term Variable) : Type 0 where
@@ -200,10 +206,10 @@ slot-variable (pair t u) low = absurd (omega arith)
 slot-variable (wrapped w k t) low = absurd (omega arith)
 
 -- One more of them.
-pub distinct_none : (s m : List ℕ) → Distinct s m 0
+pub distinct_none : (s : List ℕ) (m : List Beside) → Distinct s m 0
 distinct_none s m = record { variables = λ k h. absurd (omega arith); apart = λ j k h l. absurd (omega arith) }
 
-pub distinct_more : {s m : List ℕ} {k : ℕ} → Distinct s m k → noted_slot s m k < any_slots → ((j : ℕ) → j < k → ¬ (noted_slot s m j ≡ noted_slot s m k))
+pub distinct_more : {s : List ℕ} {m : List Beside} {k : ℕ} → Distinct s m k → noted_slot s m k < any_slots → ((j : ℕ) → j < k → ¬ (noted_slot s m j ≡ noted_slot s m k))
     → Distinct s m (k + 1)
 distinct_more {s} {m} {k} d low new = record {
   variables = λ j h. elim (ℕ_discrete j k) [ yes e ↦ rw e low | no off ↦ d.variables j (omega arith) ];
@@ -211,18 +217,18 @@ distinct_more {s} {m} {k} d low new = record {
 }
 
 -- The slots of the first k are marked.
-pub record Seen (s m seen : List ℕ) (k : ℕ) : Type 0 where
-  pub marked : (j : ℕ) → j < k → get_or seen (noted_slot s m j) 0 ≡ 1
+pub record Seen (s : List ℕ) (m : List Beside) (seen : List Bool) (k : ℕ) : Type 0 where
+  pub marked : (j : ℕ) → j < k → get_or seen (noted_slot s m j) false ≡ true
 
-module _ {s m seen : List ℕ} {k x : ℕ} (w : Seen s m seen k) (is : x ≡ noted_slot s m k) where
-  pub seen-new : ¬ (get_or seen x 0 ≡ 1) → (j : ℕ) → j < k → ¬ (noted_slot s m j ≡ noted_slot s m k)
-  seen-new off j h e = off (ap (λ (y : ℕ). get_or seen y 0) (is ∙ sym e) ∙ w.marked j h)
+module _ {s : List ℕ} {m : List Beside} {seen : List Bool} {k x : ℕ} (w : Seen s m seen k) (is : x ≡ noted_slot s m k) where
+  pub seen-new : get_or seen x false ≡ false → (j : ℕ) → j < k → ¬ (noted_slot s m j ≡ noted_slot s m k)
+  seen-new off j h e = false≢true (sym off ∙ ap (λ (y : ℕ). get_or seen y false) (is ∙ sym e) ∙ w.marked j h)
 
-  pub seen_more : x < length seen → Seen s m (set seen x 1) (k + 1)
+  pub seen_more : x < length seen → Seen s m (set seen x true) (k + 1)
   seen_more inside = record {
     marked = λ j h. elim (ℕ_discrete (noted_slot s m j) x) [
-      | yes e ↦ rw e (get_or-set_same seen x 1 0 inside)
-      | no off ↦ get_or-set_other seen x (noted_slot s m j) 1 0 off ∙ w.marked j (earlier-one j h off)
+      | yes e ↦ rw e (get_or-set_same seen x true false inside)
+      | no off ↦ get_or-set_other seen x (noted_slot s m j) true false off ∙ w.marked j (earlier-one j h off)
     ];
   }
     where
@@ -230,14 +236,14 @@ module _ {s m seen : List ℕ} {k x : ℕ} (w : Seen s m seen k) (is : x ≡ not
       earlier-one j h off = elim (ℕ_discrete j k) [ yes e ↦ absurd (off (rw e (sym is))) | no other ↦ omega arith ]
 
 -- Each variable is replaced by the term that stands opposite.
-abbrev opposite : List ℕ → List ℕ → ℕ → Term Variable
-opposite t m k = term_of (from (4 * get_or m (64 + k) 0) t)
+abbrev opposite : List ℕ → List Beside → ℕ → Term Variable
+opposite t m k = term_of (from (4 * right_noted m k) t)
 
-taken : List ℕ → List ℕ → List ℕ → ℕ → Variable → Term Variable
+taken : List ℕ → List ℕ → List Beside → ℕ → Variable → Term Variable
 taken s t m zero x = variable x
 taken s t m (suc k) x = pick (eqb (noted_slot s m k) (slot_of (variable x))) (opposite t m k) (taken s t m k x)
 
-module _ (s t m : List ℕ) {n : ℕ} (d : Distinct s m n) where
+module _ (s t : List ℕ) (m : List Beside) {n : ℕ} (d : Distinct s m n) where
   takes : (x : Variable) (k : ℕ) → k < n → noted_slot s m k ≡ slot_of (variable x) → (l : ℕ) → k < l → l ≤ n → taken s t m l x ≡ opposite t m k
   unfolding taken
   takes x k h is zero low few = absurd (omega arith)
@@ -248,8 +254,8 @@ module _ (s t m : List ℕ) {n : ℕ} (d : Distinct s m n) where
         rw (ne_eqb (noted_slot s m l) (slot_of (variable x)) other) (takes x k h is l (omega arith) (omega arith))
   ]
 
-  met : (k : ℕ) → k < n → AVariable (term_of (from (4 * get_or m k 0) s))
-      → replace (taken s t m n) (term_of (from (4 * get_or m k 0) s)) ≡ replace variable (opposite t m k)
+  met : (k : ℕ) → k < n → AVariable (term_of (from (4 * left_noted m k) s))
+      → replace (taken s t m n) (term_of (from (4 * left_noted m k) s)) ≡ replace variable (opposite t m k)
   unfolding replace
   met k h v = rw v.is (takes v.x k h (ap slot_of v.is) n h (omega arith)) ∙ sym (replace-none (opposite t m k))
 

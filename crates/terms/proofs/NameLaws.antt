@@ -2,7 +2,7 @@
 use mathlib.Core.Path.{◌≡◌, refl, sym, ap, ◌∙◌, subst, fun_ext}
 use mathlib.Core.List.{List, [], ◌∷◌}
 use mathlib.Core.Logic.{inl, inr, ⊎_elim}
-use Prim.Native.Nat.{ℕ, zero, suc, ◌+◌, ◌-◌, ◌<◌, ◌≤◌}
+use Prim.Native.Nat.{ℕ, zero, suc, ◌+◌, ◌<◌, ◌≤◌}
 use native.Mathlib.Omega.{arith}
 use native.Mathlib.Decide.{ℕ_discrete, dec_lt}
 use lib.ListN.{length, get_or, set, length-set, get_or-eq_default}
@@ -58,13 +58,9 @@ module _ {c : List ℕ} {i n k x : ℕ} (way : WayToName c i n k) (inside : k < 
   pub way-arrives : x ≡ k → k ≡ name_of c i
   way-arrives own = sym (after-own n c k (link-read ∙ own)) ∙ way.leads
 
-  pub way-goes-on : 0 < n → WayToName c i (n - 1) x
+  pub way-goes-on : {m : ℕ} → n ≡ suc m → WayToName c i m x
   unfolding links_on
-  way-goes-on some = record { leads = go n some way.leads }
-    where
-      go : (m : ℕ) → 0 < m → links_on m c k ≡ name_of c i → links_on (m - 1) c x ≡ name_of c i
-      go zero h e = absurd (omega arith)
-      go (suc m) h e = let down : suc m - 1 ≡ m = omega arith in rw down (ap (links_on m c) (sym link-read) ∙ e)
+  way-goes-on {m} some = record { leads = ap (links_on m c) (sym link-read) ∙ (rw some at way.leads) }
 
 -- ---- names
 

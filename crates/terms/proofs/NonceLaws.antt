@@ -1,16 +1,14 @@
 -- Laws of nonces: the flags that tell a file's nonces, and the entries and nodes at which nonces stand.
-use mathlib.Core.Path.{◌≡◌, ◌∙◌}
+use mathlib.Core.Path.{◌≡◌, refl}
 use mathlib.Core.Bool.{Bool}
 use mathlib.Core.List.{List, ◌∷◌}
 use mathlib.Core.Logic.{◌↔◌}
-use Prim.Native.Nat.{ℕ, ◌+◌, ◌*◌, ◌<◌, ◌≤◌}
+use Prim.Native.Nat.{ℕ, ◌*◌, ◌<◌, ◌≤◌}
 use native.Mathlib.Omega.{arith}
-use native.Mathlib.Decide.{ℕ_discrete, dec_lt}
-use lib.Dec.{eqb}
-use lib.ListN.{length, get_or, set, drop, length-set}
-use lib.Seq.{get_or-set_same, get_or-set_other}
+use native.Mathlib.Decide.{dec_lt}
+use lib.ListN.{length, get_or, drop, replicate, length-replicate, get_or-replicate, get_or-eq_default}
 use Rattle.terms.specs.declared.atom.Atom.{Atom}
-use Rattle.terms.specs.Atom.{nonce_kind, atom_at, atom_kind, Nonce, listed_nonce, foreign_nonce}
+use Rattle.terms.specs.Atom.{nonce_kind, atom_kind, Nonce, listed_nonce, foreign_nonce}
 use Rattle.terms.specs.Nonces.{most_nonces, NoncesIn}
 use Rattle.terms.specs.Term.{variable, atom, range_of}
 use Rattle.terms.specs.Instance.{NonceTerm}
@@ -22,7 +20,6 @@ use Rattle.terms.specs.Decisions.{Says, says_same}
 use Rattle.terms.specs.Front.{MayTake}
 use Rattle.terms.specs.Graph.{IsSymbol, NonceNode}
 use Rattle.terms.specs.TermGraph.{variable_nodes, node_for, node_by, node_tag, node_value, first_child, second_child, node_of}
-use Rattle.terms.proofs.AnswerLaws.{says_eq}
 use Rattle.terms.proofs.AtomLaws.{kind-listed}
 use Rattle.terms.proofs.EntryLaws.{term_of-reads}
 use Rattle.terms.proofs.SlotLaws.{slot-first, high-slot, low-slot}
@@ -36,21 +33,13 @@ pub record FlaggedTo (atoms : List Atom) (n : ℕ) (flags : List ℕ) : Type 0 w
   pub below : (k : ℕ) → k < n → (get_or flags k 0 ≡ 1) ↔ (atom_kind atoms k ≡ nonce_kind)
   pub above : (k : ℕ) → n ≤ k → get_or flags k 0 ≡ 0
 
--- One more.
-pub flagged-more : (atoms : List Atom) {n f : ℕ} {flags : List ℕ} {a : Atom} → FlaggedTo atoms n flags → n < most_nonces → a ≡ atom_at atoms n
-    → (f ≡ 1) ↔ (a.kind ≡ nonce_kind) → FlaggedTo atoms (n + 1) (set flags n f)
-flagged-more atoms {n} {f} {flags} {a} w low is flag = record {
-  long = length-set flags n f ∙ w.long;
-  below = λ k h. go k h (ℕ_discrete k n);
-  above = λ k h. get_or-set_other flags n k f 0 (omega arith) ∙ w.above k (omega arith);
-}
+-- At the start there is none.
+pub no-flags : (atoms : List Atom) → FlaggedTo atoms 0 (replicate most_nonces 0)
+no-flags atoms = record { long = refl; below = λ k h. absurd (omega arith); above = λ k h. zeros k (dec_lt k most_nonces) }
   where
-    here : get_or (set flags n f) n 0 ≡ f
-    here = get_or-set_same flags n f 0 (omega (arith, w.long))
-
-    go : (k : ℕ) → k < n + 1 → Dec (k ≡ n) → (get_or (set flags n f) k 0 ≡ 1) ↔ (atom_kind atoms k ≡ nonce_kind)
-    go k h (yes e) = rw (e, here) (rw is at flag)
-    go k h (no off) = rw (get_or-set_other flags n k f 0 off) (w.below k (omega arith))
+    zeros : (k : ℕ) → Dec (k < most_nonces) → ◌≡◌ {A = ℕ} (get_or (replicate most_nonces 0) k 0) 0
+    zeros k (yes l) = get_or-replicate most_nonces k 0 0 l
+    zeros k (no far) = get_or-eq_default (replicate most_nonces 0) 0 {n = k} (omega (arith, length-replicate {A = ℕ} most_nonces 0))
 
 -- All have theirs.
 pub all-flagged : {atoms : List Atom} {n : ℕ} {flags : List ℕ} → FlaggedTo atoms n flags → n ≡ length atoms → n ≤ most_nonces → NoncesIn atoms flags
@@ -69,15 +58,10 @@ all-flagged {atoms} {n} {flags} w all few = record {
     from-nonce k h (listed_nonce is) = (w.below k (omega (arith, kind-listed atoms k (omega arith)))).1 is
     from-nonce k h (foreign_nonce far) = absurd (omega (arith, w.long))
 
-module _ {atoms : List Atom} {flags : List ℕ} {n : ℕ} (w : NoncesIn atoms flags) where
-  -- A flag says whether the atom is a nonce.
-  pub flag-says : n < length flags → Says (eqb (get_or flags n 0) 1) (Nonce atoms n)
-  flag-says low = says_same (eqb (get_or flags n 0) 1) (w.at n low).0 (w.at n low).1 (says_eq (get_or flags n 0) 1)
-
-  -- An atom without a flag is a nonce if it is foreign.
-  pub unflagged-nonce : ¬ (n < length flags) → Nonce atoms n → 1000 ≤ n
-  unflagged-nonce far (listed_nonce is) = absurd (omega (arith, w.long, kind-listed atoms n (omega arith)))
-  unflagged-nonce far (foreign_nonce h) = h
+-- An atom without a flag is a nonce if it is foreign.
+pub unflagged-nonce : {atoms : List Atom} {flags : List ℕ} {n : ℕ} → NoncesIn atoms flags → ¬ (n < length flags) → Nonce atoms n → 1000 ≤ n
+unflagged-nonce {atoms} {n = n} w far (listed_nonce is) = absurd (omega (arith, w.long, kind-listed atoms n (omega arith)))
+unflagged-nonce w far (foreign_nonce h) = h
 
 -- ---- terms that stand first
 

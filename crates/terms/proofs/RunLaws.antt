@@ -19,26 +19,16 @@ use Rattle.terms.specs.Decide.{answer, variable?, term?, match?}
 use Rattle.terms.specs.Slot.{slot_count}
 use Rattle.terms.specs.Front.{Front, Takes, SameFirst, Alike, Ran, Goes, Ready, NoncesBound, Made}
 use Rattle.terms.proofs.AnswerLaws.{says-answer}
-use Rattle.terms.proofs.EntryLaws.{begins-tag, from-from, from-length, from_start}
+use Rattle.terms.proofs.EntryLaws.{begins-tag, from-from, from-length}
 use Rattle.terms.proofs.SlotLaws.{symbol-slot}
 use Rattle.terms.proofs.FrontLaws.{next, front-begins, opened, KeepsFirst, next-symbol, alike-symbol, alike-other, front-few}
 use Rattle.terms.proofs.TermGraphLaws.{tag-from}
 use Rattle.terms.proofs.SameLaws.{one-term, alike-one, same-clash, same_answer}
 use Rattle.terms.proofs.MatchLaws.{none-bound}
-
--- Nothing has been compared yet.
-pub ran-start : {need : ℕ} {e f : List ℕ} → Front need e → Front need f → Ran need e f 0 need
-ran-start {e = e} {f = f} b d = record {
-  inside = omega arith;
-  other_inside = omega arith;
-  front = rw (from_start e) b;
-  other_front = rw (from_start f) d;
-  takes = λ by. rw (from_start e, from_start f) (λ h. h, λ h. h);
-  alike = λ by by'. rw (from_start e, from_start f) (λ h. h, λ h. h);
-}
+use Rattle.std.specs.Prelude.{None}
 
 -- There is room for an entry where a term is left.
-pub front-room : (e : List ℕ) (k : ℕ) {left : ℕ} → Front left (from (4 * k) e) → ¬ (left ≡ 0) → 4 * (k + 1) ≤ length e
+front-room : (e : List ℕ) (k : ℕ) {left : ℕ} → Front left (from (4 * k) e) → ¬ (left ≡ 0) → 4 * (k + 1) ≤ length e
 front-room e k f some_left = omega (arith, (front-begins f some_left).room, from-length (4 * k) e)
 
 -- And its tag is one of those there are.
@@ -91,9 +81,6 @@ module _ {need : ℕ} {e f : List ℕ} {k left : ℕ} (r : Ran need e f k left) 
           let tags = g.same.tag in
           alike-symbol left r.front r.other_front g.some_left by by' (keeps low g.some_left by) (keeps-other (rw tags at low) g.some_left by') g.same
 
-  pub ran-small : 4 * left ≤ length f
-  ran-small = let room = r.other_front.room in omega (arith, from-length (4 * k) f)
-
   -- Then other symbols stand on both sides: nothing makes the terms the same.
   module _ (some_left : ¬ (left ≡ 0)) (low : SymbolTag (tag_at (from (4 * k) e))) (low' : SymbolTag (tag_at (from (4 * k) f))) (stops : ¬ Goes e f k left) where
     off : ¬ SameFirst (from (4 * k) e) (from (4 * k) f)
@@ -119,31 +106,31 @@ pub apart-common : {e f : List ℕ} → Begins e → Begins f → ((by by' : Var
 apart-common b d off h = off _ _ ((alike-one b d _ _).1 (common-alike h))
 
 -- Matching goes on behind the run, with nothing bound.
-pub run-ready : {e f : List ℕ} {k left : ℕ} → Ran 1 e f k left → length f ≤ most_term_bytes → Ready (from (4 * k) e) f k left (replicate slot_count 255)
+pub run-ready : {e f : List ℕ} {k left : ℕ} → Ran 1 e f k left → length f ≤ most_term_bytes → Ready (from (4 * k) e) f k left (replicate slot_count None)
 run-ready {e} {f} {k} {left} r small = record {
   pattern = r.front;
   subject = r.other_front;
-  held = λ i h. absurd (none-bound i h);
+  held = λ i k h. absurd (none-bound i k h);
   inside = let room = r.other_front.room in let inside = r.other_inside in omega (arith, from-length (4 * k) f);
   small = small;
 }
 
-pub none-nonces : (atoms : List Atom) (t : List ℕ) → NoncesBound atoms t (replicate slot_count 255)
-none-nonces atoms t = record { each = λ i h. absurd (none-bound i h) }
+pub none-nonces : (atoms : List Atom) (t : List ℕ) → NoncesBound atoms t (replicate slot_count None)
+none-nonces atoms t = record { each = λ i k h. absurd (none-bound i k h) }
 
 pub run-answer : (atoms : List Atom) {e f : List ℕ} {k left : ℕ} → Begins e → Begins f → Ran 1 e f k left → (b : Bool)
-    → Says b (Made atoms (from (4 * k) e) f k left (replicate slot_count 255))
+    → Says b (Made atoms (from (4 * k) e) f k left (replicate slot_count None))
     → b ≡ answer (match? atoms (term_of e) (term_of f))
 run-answer atoms {e} {f} {k} {left} b d r t says = says-answer t (says_same t to back says) (match? atoms _ _)
   where
-    to : Made atoms (from (4 * k) e) f k left (replicate slot_count 255) → Matches atoms (term_of e) (term_of f)
+    to : Made atoms (from (4 * k) e) f k left (replicate slot_count None) → Matches atoms (term_of e) (term_of f)
     to m = record { by = m.by; nonces = m.nonces; same = (one-term b d m.by).0 ((r.takes m.by).1 m.takes) }
 
-    back : Matches atoms (term_of e) (term_of f) → Made atoms (from (4 * k) e) f k left (replicate slot_count 255)
+    back : Matches atoms (term_of e) (term_of f) → Made atoms (from (4 * k) e) f k left (replicate slot_count None)
     back m = record {
       by = m.by;
       nonces = m.nonces;
-      agrees = record { held = λ i h. absurd (none-bound i h) };
+      agrees = record { held = λ i k h. absurd (none-bound i k h) };
       takes = (r.takes m.by).0 ((one-term b d m.by).1 m.same);
     }
 

@@ -8,7 +8,7 @@ use native.Mathlib.Omega.{arith}
 use native.Mathlib.Decide.{ℕ_discrete}
 use native.Mathlib.Nat.{zero-add}
 use lib.Dec.{ltb}
-use lib.ListN.{length, get_or, drop}
+use lib.ListN.{length, drop}
 use borrow.Author.Tests.{lt-ltb, le-ltb, ltb-true, ltb-false}
 use borrow.Author.Rules.{part_to_end}
 use Rattle.blocks.specs.Limits.{most_term_bytes}
@@ -25,7 +25,8 @@ use Rattle.terms.specs.Decide.{answer, share?}
 use Rattle.terms.specs.Slot.{slot_count, any_slots, slot_in, slot_of, in_slot}
 use Rattle.terms.specs.Graph.{Node, free, atom_node, pair_node, wrapper_node, IsSymbol, NonceNode, made, Valid, Respects, Classes, ClassStep, Clash, Outcome, Finite, Any}
 use Rattle.terms.specs.TermGraph.{right_nodes, variable_nodes, right_variables, home, node_by, region, node_tag, node_of, TwoTerms}
-use Rattle.terms.specs.Meetings.{Reduced, AllEqual, NoncesKept}
+use Rattle.terms.specs.declared.sharing.Beside.{Beside}
+use Rattle.terms.specs.Meetings.{left_noted, right_noted, Reduced, AllEqual, NoncesKept}
 use Rattle.terms.proofs.AnswerLaws.{says-answer}
 use Rattle.terms.proofs.EntryLaws.{term_of-reads, suffix}
 use Rattle.terms.proofs.SlotLaws.{slot_small, slot-in, nonce-slot, high-slot}
@@ -176,7 +177,7 @@ module _ (s t : List ℕ) (bs : Begins s) (bt : Begins t) (ss : length s ≤ mos
         ∙ ap (replace g) (sym (rw part_to_end (term_of-reads b.reads)))
 
   -- The noted entries, for a valuation and for replacements.
-  module _ (atoms : List Atom) {m : List ℕ} {n : ℕ} (r : Reduced s t m n) where
+  module _ (atoms : List Atom) {m : List Beside} {n : ℕ} (r : Reduced s t m n) where
     shared_of : {v : ℕ → Message} → Valid (node_of s t) v → AllEqual s t m n v → NoncesAt atoms v variable_nodes → NoncesAt atoms v right_variables
         → Share atoms (term_of s) (term_of t)
     shared_of {v} valid all left right =
@@ -251,7 +252,7 @@ module _ (s t : List ℕ) (bs : Begins s) (bt : Begins t) (ss : length s ≤ mos
               (λ symbol. rw (still.same i ∙ (given-valid f g).makes (next i) symbol) at is)
 
 -- What the test for a shared instance answers, from the array in which every node is a class by itself.
-module _ (atoms : List Atom) {s t m : List ℕ} {n : ℕ} (two : TwoTerms s t) (r : Reduced s t m n) {name next : ℕ → ℕ} (own : name ≡ (λ i. i)) {a : Bool}
+module _ (atoms : List Atom) {s t : List ℕ} {m : List Beside} {n : ℕ} (two : TwoTerms s t) (r : Reduced s t m n) {name next : ℕ → ℕ} (own : name ≡ (λ i. i)) {a : Bool}
     (united : Outcome (node_of s t) Any name next (AllEqual s t m n) a) where
   -- Uniting met a clash.
   pub clash-answer : a ≡ false → false ≡ answer (share? atoms (term_of s) (term_of t))
@@ -288,12 +289,12 @@ apart-answer atoms t u off = says-answer false (λ h. off _ _ (common-alike (com
 -- ---- uniting the noted entries, one after the other
 
 -- None yet.
-pub united-none : (s t m : List ℕ) {name : ℕ → ℕ} → Classes (node_of s t) name → ClassStep (node_of s t) Any name name (AllEqual s t m 0)
+pub united-none : (s t : List ℕ) (m : List Beside) {name : ℕ → ℕ} → Classes (node_of s t) name → ClassStep (node_of s t) Any name name (AllEqual s t m 0)
 united-none s t m cs = restate (λ v x e. tt) (λ v q e k h. absurd (omega arith)) (stay (node_of s t) Any cs)
 
-module _ (s t m : List ℕ) (k : ℕ) {name mid : ℕ → ℕ} (step : ClassStep (node_of s t) Any name mid (AllEqual s t m k)) where
+module _ (s t : List ℕ) (m : List Beside) (k : ℕ) {name mid : ℕ → ℕ} (step : ClassStep (node_of s t) Any name mid (AllEqual s t m k)) where
   -- One more.
-  module _ {i j : ℕ} (is : i ≡ home s 0 variable_nodes (get_or m k 0)) (is' : j ≡ home t right_nodes right_variables (get_or m (right_nodes + k) 0)) where
+  module _ {i j : ℕ} (is : i ≡ home s 0 variable_nodes (left_noted m k)) (is' : j ≡ home t right_nodes right_variables (right_noted m k)) where
     split : (v : ℕ → Message) → AllEqual s t m (k + 1) v → AllEqual s t m k v × (v i ≡ v j)
     split v all = (λ l h. all l (omega arith), ap v is ∙ all k (omega arith) ∙ sym (ap v is'))
 

@@ -5,10 +5,9 @@ use mathlib.Core.List.{List, ◌∷◌}
 use Prim.Native.Nat.{ℕ, suc, ◌+◌, ◌*◌, ◌-◌, ◌<◌, ◌≤◌}
 use native.Mathlib.Omega.{arith}
 use native.Mathlib.Nat.{zero-add}
-use native.Mathlib.Decide.{ℕ_discrete}
 use lib.Dec.{ltb}
 use lib.ListN.{length, get_or, drop, length-drop, get_or-eq_default, set, length-set}
-use lib.Seq.{drop-drop, get_or-drop, get_or-set_same, get_or-set_other}
+use lib.Seq.{drop-drop, get_or-drop, get_or-set_other}
 use borrow.Author.Tests.{ltb-true, ltb-false}
 use borrow.Author.Rules.{part_to_end}
 use Rattle.blocks.specs.Limits.{most_term_bytes, most_term_entries}
@@ -110,6 +109,11 @@ pub record PairSizes (e z : List ℕ) (base k : ℕ) : Type 0 where
   pub whole : size_in e k ≡ 1 + (size_in e (k + 1) + size_in e (right_in e k))
   pub small : size_in e k ≤ most_term_entries
 
+-- The size of the pair, by what was read there.
+pub pair-read : {e z : List ℕ} {base k left right : ℕ} → PairSizes e z base k → left ≡ get_or z (base + k + 1) 0 → right ≡ get_or z (base + k + 1 + left) 0
+    → 1 + left + right ≡ size_in e k
+pair-read p is is' = grind (arith, p.whole, p.left-size, p.right-size)
+
 -- And of the content of a term with something around it.
 pub record ContentSize (e z : List ℕ) (base k : ℕ) : Type 0 where
   pub inside : base + k + 1 < length z
@@ -149,19 +153,7 @@ module _ {e z : List ℕ} {base : ℕ} (k : ℕ) (b : Begins e) (short : length 
         small = omega arith;
       }
 
--- The table before the last entry, and with one more.
-pub sized-none : {e z : List ℕ} (base : ℕ) {first : ℕ} → 4 * base + length e ≤ 4 * length z → length e < 4 * (first + 1) → SizedFrom e z base first
-sized-none base room last = record { room = room; at = λ k low fit. absurd (omega arith) }
-
-pub sized-more : {e z : List ℕ} {base k r : ℕ} → SizedFrom e z base (k + 1) → base + k < length z → r ≡ size_in e k → SizedFrom e (set z (base + k) r) base k
-sized-more {e} {z} {base} {k} {r} s inside is = record {
-  room = simp length-set s.room;
-  at = λ n low fit. elim (ℕ_discrete n k) [
-    | yes same ↦ rw same (get_or-set_same z (base + k) r 0 inside ∙ is)
-    | no off ↦ get_or-set_other z (base + k) (base + n) r 0 (λ e. off (omega arith)) ∙ s.at n (omega arith) fit
-  ];
-}
-
+-- What stands before is kept where one more is written.
 pub kept_more : {n j : ℕ} {old z : List ℕ} (r : ℕ) → KeptBelow n old z → n ≤ j → KeptBelow n old (set z j r)
 kept_more {n} {j} {old} {z} r k far = record { long = simp length-set k.long; same = λ i low. get_or-set_other z j i r 0 (omega arith) ∙ k.same i low }
 

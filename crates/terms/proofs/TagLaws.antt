@@ -1,6 +1,6 @@
 -- Laws of tags: how many children an entry has, and which sorts are marked.
-use mathlib.Core.Path.{◌≡◌, refl, sym}
-use mathlib.Core.Logic.{inl, inr}
+use mathlib.Core.Path.{◌≡◌, refl, sym, ap, ◌∙◌}
+use mathlib.Core.Logic.{◌⊎◌, inl, inr, ⊎_elim}
 use mathlib.Core.List.{List, [], ◌∷◌}
 use Prim.Native.Nat.{ℕ, ◌≤◌}
 use lib.ListN.{get_or}
@@ -18,18 +18,6 @@ sort-childless s = rw (sort-tagged s) refl
 pub wrapping-child : (w : Wrapping) → children_of (wrapping_tag w) ≡ 1
 unfolding children_of
 wrapping-child w = rw (wrapping-tagged w) refl
-
--- Any other tag than a pair's and a wrapper's has no children.
-pub no-children : (tag : ℕ) → (tag ≡ pair_tag → ⊥) → ¬ WrapperTag tag → 0 ≡ children_of tag
-unfolding children_of
-no-children tag off off' = go (tagged tag)
-  where
-    go : (w : Tagged tag) → 0 ≡ children_by w
-    go (an_atom e) = refl
-    go (a_pair e) = absurd (off e)
-    go (a_wrapping w e) = absurd (off' (record { wrapping = w; is = e }))
-    go (a_variable s e) = refl
-    go (no_tag e) = refl
 
 pub two-children : {tag : ℕ} → tag ≡ pair_tag → 2 ≡ children_of tag
 unfolding children_of
@@ -123,3 +111,29 @@ mark-tagged one_nonce e = inr e
 pub marked-variable : {tag : ℕ} → MarkedTag tag → VariableTag tag
 marked-variable (inl e) = omega arith
 marked-variable (inr e) = omega arith
+
+-- An entry with children is a pair's or a wrapper's.
+some-children : (tag : ℕ) → ¬ (children_of tag ≡ 0) → (tag ≡ pair_tag) ⊎ WrapperTag tag
+unfolding children_of
+some-children tag off = go (tagged tag) off
+  where
+    go : (w : Tagged tag) → ¬ (children_by w ≡ 0) → (tag ≡ pair_tag) ⊎ WrapperTag tag
+    go (an_atom e) off = absurd (off refl)
+    go (a_pair e) off = inl e
+    go (a_wrapping w e) off = inr (record { wrapping = w; is = e })
+    go (a_variable s e) off = absurd (off refl)
+    go (no_tag e) off = absurd (off refl)
+
+-- By a count of children that was read for the tag.
+module _ {tag read count : ℕ} (is : read ≡ tag) (counted : count ≡ children_of read) where
+  pub has-child : ¬ (count ≡ 0) → (tag ≡ pair_tag) ⊎ WrapperTag tag
+  has-child off = some-children tag (λ e. off (counted ∙ ap children_of is ∙ e))
+
+  pub has-content : ¬ (count ≡ 0) → (read ≡ pair_tag → ⊥) → WrapperTag tag
+  has-content off other = ⊎_elim (λ two. absurd (other (is ∙ two))) (λ one. one) (has-child off)
+
+  pub no-pair : count ≡ 0 → tag ≡ pair_tag → ⊥
+  no-pair none e = omega (arith, none, counted, ap children_of is, two-children e)
+
+  pub no-wrapper : count ≡ 0 → ¬ WrapperTag tag
+  no-wrapper none w = omega (arith, none, counted, ap children_of is, one-child w)

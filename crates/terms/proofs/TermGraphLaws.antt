@@ -2,8 +2,11 @@
 -- their nodes.
 use mathlib.Core.Path.{◌≡◌, refl, sym, ap, ap₂, ◌∙◌, subst}
 use mathlib.Core.Bool.{Bool, true, false}
-use mathlib.Core.List.{List, ◌∷◌}
-use mathlib.Core.Logic.{◌⊎◌, inl, inr}
+use mathlib.Core.List.{List, [], ◌∷◌}
+use mathlib.Core.Logic.{◌⊎◌, inl, inr, ∥∥₁_elim, ∥∥₁_map}
+use mathlib.Core.HLevel.{⊥_prop}
+use mathlib.Core.Option.{Option, none, some}
+use native.Mathlib.Bridge.{le_prop}
 use Prim.Native.Nat.{ℕ, ◌+◌, ◌*◌, ◌-◌, ◌%◌, ◌<◌, ◌≤◌}
 use native.Mathlib.Omega.{arith}
 use native.Mathlib.Nat.{zero-add}
@@ -15,12 +18,12 @@ use borrow.Author.Rules.{part_to_end}
 use Rattle.blocks.specs.Limits.{most_term_bytes}
 use Rattle.terms.specs.Term.{Term, variable, atom, pair, Message, Sort, Variable, named, replace, wrapped, Wrapping}
 use Rattle.terms.specs.Tag.{atom_tag, pair_tag, sort_tag, variables, sort-tagged, wrapping_tag, wrapping-tagged}
-use Rattle.terms.specs.Entry.{size, term_of, Reads, Begins, tag_at, value_at, from}
-use Rattle.terms.specs.Reading.{First, first_atom, first_pair, first_wrapped, first_variable, first}
+use Rattle.terms.specs.Entry.{size, terms_of, term_of, Reads, Begins, tag_at, value_at, from}
+use Rattle.terms.specs.Reading.{First, first_atom, first_pair, first_wrapped, first_variable, none≢some, nothing_read, first}
 use Rattle.terms.specs.Slot.{slot_in}
 use Rattle.terms.specs.Graph.{Node, free, atom_node, pair_node, wrapper_node, IsSymbol, made, Valid}
 use Rattle.terms.specs.TermGraph.{right_nodes, variable_nodes, right_variables, all_nodes, tag_in, value_in, home_by, home, right_in, node_by, node_tag, node_value}
-use Rattle.terms.specs.TermGraph.{first_child, second_child, node_of}
+use Rattle.terms.specs.TermGraph.{first_child, second_child, node_of, TwoTerms}
 use Rattle.terms.proofs.EntryLaws.{four, term_of-reads, reads-atom, reads-pair, reads-wrapped, reads-variable, past, suffix}
 use Rattle.terms.proofs.SlotLaws.{slot_small}
 
@@ -237,3 +240,20 @@ right_side s t k h =
     let low : ltb (right_nodes + k) right_nodes ≡ false = le-ltb (right_nodes + k) right_nodes (omega arith) in
     let high : ltb (right_nodes + k) variable_nodes ≡ true = lt-ltb (right_nodes + k) variable_nodes (omega arith) in
     simp (low, high, back)
+
+-- The terms that lists of entries begin with can be read back from the lists.
+begins_again : {e : List ℕ} → ∥ Begins e ∥₁ → Begins e
+begins_again {e} b = go (terms_of e) refl
+  where
+    go : (o : Option (List (Term Variable))) → terms_of e ≡ o → Begins e
+    go none q = absurd (∥∥₁_elim b ⊥_prop (λ w. none≢some _ (sym q ∙ w.reads.is)))
+    go (some []) q = absurd (∥∥₁_elim b ⊥_prop (λ w. nothing_read (sym q ∙ w.reads.is)))
+    go (some (t ∷ l)) q = record { term = t; others = l; reads = record { is = q }; room = ∥∥₁_elim b le_prop (λ w. w.room) }
+
+pub two_terms : {s t : List ℕ} → ∥ TwoTerms s t ∥₁ → TwoTerms s t
+two_terms two = record {
+  left = begins_again (∥∥₁_map two (λ w. w.left));
+  right = begins_again (∥∥₁_map two (λ w. w.right));
+  left_short = ∥∥₁_elim two le_prop (λ w. w.left_short);
+  right_short = ∥∥₁_elim two le_prop (λ w. w.right_short);
+}

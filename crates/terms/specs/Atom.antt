@@ -4,6 +4,7 @@ use Rattle.std.proofs.Math.Path.{refl}
 use Rattle.std.proofs.Common.{◌∙◌, inl, inr, arith}
 use Rattle.std.proofs.Math.Decide.{ℕ_discrete, dec_le, dec_lt}
 use Rattle.terms.specs.declared.atom.Atom.{Atom}
+use Rattle.terms.specs.declared.valid.Atoms.{Atoms}
 use Rattle.terms.specs.First.{Found, first_not}
 use Rattle.terms.specs.Decisions.{dec_map, dec_and, dec_or}
 use Rattle.terms.specs.Term.{Foreign}
@@ -53,6 +54,9 @@ atoms_of (kind ∷ known ∷ low ∷ high ∷ rest) = record { kind = kind; know
 -- The atoms of two blocks, one list: "the second's atoms are numbered on" (02, No. 1).
 abbrev pub joined_atoms : List ℕ → List ℕ → List Atom
 joined_atoms first second = atoms_of first ++ atoms_of second
+
+abbrev pub listed : Atoms → List Atom
+listed atoms = joined_atoms atoms.first.now atoms.more.now
 
 -- The atom of a number (all zero where there is none).
 unfoldable pub atom_at : List Atom → ℕ → Atom

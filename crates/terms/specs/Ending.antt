@@ -1,6 +1,8 @@
--- The test whether every way down over the classes comes to an end: a walk goes down once from every class and marks it, 1
--- while the walk is below it and 2 once every way down from it has ended. A way that leads back to a mark 1 never ends.
-use Rattle.std.specs.Prelude.{◌≡◌, Bool, true, false, List, [], ◌∷◌, ℕ, zero, suc, ◌+◌, ◌<◌, ◌≤◌, length, get_or}
+-- The test whether every way down over the classes comes to an end: a walk goes down once from every class and marks it, open
+-- while the walk is below it and ended once every way down from it has ended. A way that leads back to an open class never ends.
+use Rattle.std.specs.Prelude.{◌≡◌, Bool, true, false, List, [], ◌∷◌, ℕ, ◌+◌, ◌<◌, ◌≤◌, get_or}
+use Rattle.terms.specs.declared.ending.Mark.{Mark}
+use Rattle.terms.specs.declared.ending.Mark.TheVariants.{Unmet, Open, Ended}
 use Rattle.terms.specs.Term.{Message}
 use Rattle.terms.specs.Entry.{size}
 use Rattle.terms.specs.Graph.{Child, Valid, Respects, Finite}
@@ -15,36 +17,40 @@ pub record ChildrenEnd (s t c : List ℕ) (a : ℕ) : Type 0 where
 pub record ParentEnds (s t c : List ℕ) (k : ℕ) : Type 0 where
   pub parent : (j : ℕ) → Child j (node_of s t k) → Finite (node_of s t) (name_of c) k
 
--- From every class with a mark above 1 all ways down end.
-pub record Sound (s t c m : List ℕ) : Type 0 where
-  pub ends : (a : ℕ) → a < variable_nodes → 1 < get_or m a 0 → ChildrenEnd s t c a
+-- A class's mark.
+abbrev pub mark_of : List Mark → ℕ → Mark
+mark_of m a = get_or m a Unmet
 
--- Node i is below every class with mark 1: a valid valuation that respects the classes gives it a smaller message.
-pub record Below (s t c m : List ℕ) (i : ℕ) : Type 0 where
-  pub smaller : (v : ℕ → Message) → Valid (node_of s t) v → Respects (name_of c) v → (a : ℕ) → a < variable_nodes → get_or m a 0 ≡ 1 → size (v i) < size (v a)
+-- From every class marked as ended all ways down end.
+pub record Sound (s t c : List ℕ) (m : List Mark) : Type 0 where
+  pub ends : (a : ℕ) → a < variable_nodes → mark_of m a ≡ Ended → ChildrenEnd s t c a
 
--- Every child of node a is below every class with mark 1.
-pub record ChildrenBelow (s t c m : List ℕ) (a : ℕ) : Type 0 where
+-- Node i is below every open class: a valid valuation that respects the classes gives it a smaller message.
+pub record Below (s t c : List ℕ) (m : List Mark) (i : ℕ) : Type 0 where
+  pub smaller : (v : ℕ → Message) → Valid (node_of s t) v → Respects (name_of c) v → (a : ℕ) → a < variable_nodes → mark_of m a ≡ Open → size (v i) < size (v a)
+
+-- Every child of node a is below every open class.
+pub record ChildrenBelow (s t c : List ℕ) (m : List Mark) (a : ℕ) : Type 0 where
   pub child : (j : ℕ) → Child j (node_of s t a) → Below s t c m j
 
--- How many are not marked.
-abbrev unmarked : ℕ → ℕ
-unmarked zero = 1
-unmarked (suc n) = 0
+-- How many are not met.
+abbrev not_met : Mark → ℕ
+not_met Unmet = 1
+not_met Open = 0
+not_met Ended = 0
 
-unfoldable pub zeros : List ℕ → ℕ
-zeros [] = 0
-zeros (x ∷ m) = unmarked x + zeros m
+unfoldable pub unmet : List Mark → ℕ
+unmet [] = 0
+unmet (x ∷ m) = not_met x + unmet m
 
--- The marks n after a walk that began with the marks m: sound, no more zeros, and no mark 1 that was none before.
-pub record MarksKept (s t c m n : List ℕ) : Type 0 where
+-- The marks n after a walk that began with the marks m: sound, no more that are not met, and no class open that was not before.
+pub record MarksKept (s t c : List ℕ) (m n : List Mark) : Type 0 where
   pub sound : Sound s t c n
-  pub fewer : zeros n ≤ zeros m
-  pub open_before : (a : ℕ) → a < variable_nodes → get_or n a 0 ≡ 1 → get_or m a 0 ≡ 1
+  pub fewer : unmet n ≤ unmet m
+  pub open_before : (a : ℕ) → a < variable_nodes → mark_of n a ≡ Open → mark_of m a ≡ Open
 
 -- The answer r of a walk: yes, and what it looked for, P, holds; no, and no valid valuation respects the classes.
-pub record Walked (s t c m n : List ℕ) (P : Type 0) (r : Bool) : Type 0 where
-  pub long : length n ≡ variable_nodes
+pub record Walked (s t c : List ℕ) (m n : List Mark) (P : Type 0) (r : Bool) : Type 0 where
   pub ends : r ≡ true → P × MarksKept s t c m n
   pub never : r ≡ false → (v : ℕ → Message) → Valid (node_of s t) v → Respects (name_of c) v → ⊥
 

@@ -1,5 +1,5 @@
 -- The first terms of entries, compared entry by entry: what the walks of matching promise.
-use Rattle.std.specs.Prelude.{◌≡◌, List, [], map, ◌↔◌, ℕ, ◌+◌, ◌*◌, ◌<◌, ◌≤◌, length, get_or, take}
+use Rattle.std.specs.Prelude.{◌≡◌, List, [], map, ◌↔◌, ℕ, ◌+◌, ◌*◌, ◌≤◌, length, get_or, take, Some, None}
 use Rattle.std.proofs.Math.Option.{Option, none, some}
 use Rattle.blocks.specs.Limits.{most_term_bytes}
 use Rattle.terms.specs.declared.atom.Atom.{Atom}
@@ -7,7 +7,7 @@ use Rattle.terms.specs.Term.{Term, Variable, one_nonce, range_of, replace}
 use Rattle.terms.specs.Instance.{NonceTerm, PutsNonces}
 use Rattle.terms.specs.Tag.{SymbolTag}
 use Rattle.terms.specs.Entry.{terms_of, term_of, Reads, Begins, tag_at, value_at, from}
-use Rattle.terms.specs.Slot.{slot_count, in_slot}
+use Rattle.terms.specs.Slot.{in_slot, Held, Bindings}
 
 abbrev pub list_of : Option (List (Term Variable)) → List (Term Variable)
 list_of none = []
@@ -57,29 +57,29 @@ pub record Goes (e f : List ℕ) (count left : ℕ) : Type 0 where
   pub symbol : SymbolTag (tag_at (from (4 * count) e))
   pub same : SameFirst (from (4 * count) e) (from (4 * count) f)
 
--- Bindings: for each of 32 slots the entry of t where its variable's term stands, 255 for a variable that is not bound.
-abbrev pub Bound : List ℕ → ℕ → Type 0
-Bound bound i = (i < slot_count) × ¬ (get_or bound i 0 ≡ 255)
+-- Slot i is bound to entry k of t.
+abbrev pub Bound : Bindings → ℕ → ℕ → Type 0
+Bound bound i k = get_or bound i None ≡ Some k
 
 -- The replacement is the one of the bindings, where a variable is bound.
-pub record Agrees (t bound : List ℕ) (by : Variable → Term Variable) : Type 0 where
-  pub held : (i : ℕ) → Bound bound i → by (in_slot i) ≡ term_of (from (4 * get_or bound i 0) t)
+pub record Agrees (t : List ℕ) (bound : Bindings) (by : Variable → Term Variable) : Type 0 where
+  pub held : (i k : ℕ) → Bound bound i k → by (in_slot i) ≡ term_of (from (4 * k) t)
 
 -- Two terms of t can be compared: one that a slot holds, if it holds one, and the one at entry `at`.
-pub record Comparable (t : List ℕ) (old at : ℕ) : Type 0 where
-  pub held : ¬ (old ≡ 255) → Begins (from (4 * old) t)
+pub record Comparable (t : List ℕ) (old : Held) (at : ℕ) : Type 0 where
+  pub held : (k : ℕ) → old ≡ Some k → Begins (from (4 * k) t)
   pub here : Begins (from (4 * at) t)
   pub inside : 4 * at ≤ length t
 
 -- The term at entry `at` may be bound in a slot that holds `old`: nothing is bound there, or the same term.
-pub record Bindable (t : List ℕ) (old at : ℕ) : Type 0 where
-  pub same : ¬ (old ≡ 255) → term_of (from (4 * old) t) ≡ term_of (from (4 * at) t)
+pub record Bindable (t : List ℕ) (old : Held) (at : ℕ) : Type 0 where
+  pub same : (k : ℕ) → old ≡ Some k → term_of (from (4 * k) t) ≡ term_of (from (4 * at) t)
 
 -- What the walk may suppose: need terms are left on both sides, and every binding points at a term.
-pub record Ready (p t : List ℕ) (at need : ℕ) (bound : List ℕ) : Type 0 where
+pub record Ready (p t : List ℕ) (at need : ℕ) (bound : Bindings) : Type 0 where
   pub pattern : Front need p
   pub subject : Front need (from (4 * at) t)
-  pub held : (i : ℕ) → Bound bound i → Begins (from (4 * get_or bound i 0) t)
+  pub held : (i k : ℕ) → Bound bound i k → Begins (from (4 * k) t)
   pub inside : 4 * (at + need) ≤ length t
   pub small : length t ≤ most_term_bytes
 
@@ -88,12 +88,12 @@ abbrev pub MayTake : List Atom → ℕ → List ℕ → ℕ → Type 0
 MayTake atoms i t at = range_of (in_slot i) ≡ one_nonce → NonceTerm atoms range_of (term_of (from (4 * at) t))
 
 -- Every bound term may be put at its variable.
-pub record NoncesBound (atoms : List Atom) (t bound : List ℕ) : Type 0 where
-  pub each : (i : ℕ) → Bound bound i → MayTake atoms i t (get_or bound i 0)
+pub record NoncesBound (atoms : List Atom) (t : List ℕ) (bound : Bindings) : Type 0 where
+  pub each : (i k : ℕ) → Bound bound i k → MayTake atoms i t k
 
 -- What the walk says: some replacement that puts nonces at nonce variables and agrees with the bindings makes the first
 -- terms of t from its entry `at` on from the first terms of p.
-pub record Made (atoms : List Atom) (p t : List ℕ) (at need : ℕ) (bound : List ℕ) : Type 0 where
+pub record Made (atoms : List Atom) (p t : List ℕ) (at need : ℕ) (bound : Bindings) : Type 0 where
   pub by : Variable → Term Variable
   pub nonces : PutsNonces atoms range_of by
   pub agrees : Agrees t bound by

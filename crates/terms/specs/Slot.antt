@@ -1,5 +1,5 @@
 -- Slots: a number for each variable that a term may have, eight for each sort, in the order of the tags 4 to 7.
-use Rattle.std.specs.Prelude.{ℕ, ◌+◌, ◌*◌, ◌-◌, ltb}
+use Rattle.std.specs.Prelude.{List, ℕ, ◌+◌, ◌*◌, ◌-◌, ltb, Option}
 use Rattle.terms.specs.Term.{Term, variable, atom, pair, Sort, sort, plain, marked, any_message, one_nonce, Variable, named, wrapped}
 use Rattle.terms.specs.Tag.{variables}
 use Rattle.terms.specs.Decisions.{pick}
@@ -10,6 +10,13 @@ slot_count = 4 * variables
 
 abbrev pub any_slots : ℕ
 any_slots = 2 * variables
+
+-- Bindings: for each slot what it holds, the entry where its variable's term stands, if it is bound.
+abbrev pub Held : Type 0
+Held = Option ℕ
+
+abbrev pub Bindings : Type 0
+Bindings = List Held
 
 -- The slot of a variable.
 unfoldable pub slot_in : Sort → ℕ → ℕ

@@ -7,7 +7,7 @@ ghost use Rattle.terms.specs.Decisions.{Says};
 
 use crate::entry::value;
 
-// Kinds of atoms.
+// Kinds of atoms, as bytes of the entry, which may be any: number 6 judges them (`AtomRight`).
 pub const PRINCIPAL: u8 = 1;
 
 pub const NONCE: u8 = 2;
@@ -24,8 +24,8 @@ const FOREIGN: usize = 1000;
 // Room for a flag for each atom.
 pub const NONCES: usize = 256;
 
-// What an atom entry says; all zero where there is none.
-#[derive(Clone, Copy)]
+// What an atom entry says; all zero where there is none, as `atom_at` of specs/Atom.antt has it, and no Option.
+#[derive(Clone, Copy, Default)]
 pub struct Atom {
     pub kind: u8,
     pub known: u8,
@@ -37,11 +37,7 @@ fn atom_of(atoms: &[u8], n: usize) -> Atom
     ensures { (result ≡ atom_at (atoms_of atoms.now) n) × (result.partner ≤ 65535) }
 {
     if atoms.len() / 4 <= n {
-        return Atom {
-            kind: 0,
-            known: 0,
-            partner: 0,
-        };
+        return Atom::default();
     }
     let e = &atoms[4 * n..];
     Atom {
@@ -67,20 +63,18 @@ pub fn atom_at(atoms: &[u8], more: &[u8], n: usize) -> Atom
 fn nonce_flag(kind: u8) -> u8
     ensures { (result ≡ 1) ↔ (kind ≡ nonce_kind) }
 {
-    if kind == NONCE { 1 } else { 0 }
+    u8::from(kind == NONCE)
 }
 
-// Flags for the atoms of two blocks: 1 for a nonce, 0 for any other.
+// Flags for the atoms of two blocks: 1 for a nonce, 0 for any other; bytes, since the judge keeps them in a table of bytes.
 pub fn nonces(atoms: &[u8], more: &[u8]) -> [u8; NONCES]
     requires { length atoms.now / 4 + length more.now / 4 ≤ most_nonces }
     ensures { NoncesIn (joined_atoms atoms.now more.now) result }
 {
     let count = atoms.len() / 4 + more.len() / 4;
     let mut flags = [0u8; NONCES];
-    let mut n = 0;
-    while n < count {
+    for n in 0..count {
         flags[n] = nonce_flag(atom_at(atoms, more, n).kind);
-        n += 1;
     }
     flags
 }

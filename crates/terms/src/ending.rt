@@ -3,130 +3,99 @@
 ghost use Rattle.std.specs.Prelude.{◌≡◌, true, false, ℕ, ◌≤◌, ◌<◌, length};
 ghost use Rattle.terms.specs.Term.{Message};
 ghost use Rattle.terms.specs.Graph.{IsSymbol, Valid, Respects, Finite};
-ghost use Rattle.terms.specs.TermGraph.{variable_nodes, TwoTerms, node_of, SizesOf, AtHome, OwnEntry};
+ghost use Rattle.terms.specs.TermGraph.{node_of, AtHome, OwnEntry};
 ghost use Rattle.terms.specs.Names.{name_of, Linked};
 ghost use Rattle.terms.specs.Ending.{ChildrenEnd, ParentEnds, Sound, Below, ChildrenBelow, Walked, EachFrom};
 
 use crate::classes::find;
 use crate::entry::children;
-use crate::node::{ALL_NODES, RIGHT_NODES, VARIABLE_NODES, first_child, second_child, tag_at};
+use crate::node::{ALL_NODES, Graph, RIGHT_NODES, VARIABLE_NODES};
 use crate::tag::PAIR;
 
-// Every way down from node i ends, and the classes met are marked: 1 while the walk is below one, 2 once it has ended; or no
-// valid valuation respects the classes. It falls by the number of classes not marked.
+// What the walk has found of a class: it has not met it, it is below it, or every way down from it has ended.
+#[derive(Clone, Copy)]
+enum Mark {
+    Unmet,
+    Open,
+    Ended,
+}
+
+// Every way down from node i ends, and the classes met are marked; or no valid valuation respects the classes. It falls by
+// the number of classes not met.
 #[cycle(children_end_ends)]
-fn ends(
-    s: &[u8],
-    t: &[u8],
-    zs: &[u8],
-    zt: &[u8],
-    c: &[u8; ALL_NODES],
-    marks: &mut [u8; VARIABLE_NODES],
-    i: usize,
-) -> bool
-    requires { TwoTerms s.now t.now × SizesOf s.now zs.now × SizesOf t.now zt.now × Linked s.now t.now c.now × (length marks.old ≡ variable_nodes)
-        × AtHome s.now t.now i × Sound s.now t.now c.now marks.old × Below s.now t.now c.now marks.old i }
-    ensures { Walked s.now t.now c.now marks.old marks.new
-        (Finite (node_of s.now t.now) (name_of c.now) i) result }
+fn ends(g: &Graph, c: &[u8; ALL_NODES], marks: &mut [Mark; VARIABLE_NODES], i: usize) -> bool
+    requires { Linked g.now.s.now g.now.t.now c.now
+        × AtHome g.now.s.now g.now.t.now i × Sound g.now.s.now g.now.t.now c.now marks.old × Below g.now.s.now g.now.t.now c.now marks.old i }
+    ensures { Walked g.now.s.now g.now.t.now c.now marks.old marks.new
+        (Finite (node_of g.now.s.now g.now.t.now) (name_of c.now) i) result }
 {
     let a = find(c, i);
     if VARIABLE_NODES <= a {
         return true;
     }
-    let mark = marks[a];
-    if 1 < mark {
-        return true;
-    }
-    if mark == 1 {
-        return false;
-    }
-    marks[a] = 1;
-    if children_end(s, t, zs, zt, c, marks, a) {
-        marks[a] = 2;
-        true
-    } else {
-        false
+    match marks[a] {
+        Mark::Ended => true,
+        Mark::Open => false,
+        Mark::Unmet => {
+            marks[a] = Mark::Open;
+            if children_end(g, c, marks, a) {
+                marks[a] = Mark::Ended;
+                true
+            } else {
+                false
+            }
+        }
     }
 }
 
 // Every way down from the children of node a ends.
 #[cycle(children_end_ends)]
 fn children_end(
-    s: &[u8],
-    t: &[u8],
-    zs: &[u8],
-    zt: &[u8],
+    g: &Graph,
     c: &[u8; ALL_NODES],
-    marks: &mut [u8; VARIABLE_NODES],
+    marks: &mut [Mark; VARIABLE_NODES],
     a: usize,
 ) -> bool
-    requires { TwoTerms s.now t.now × SizesOf s.now zs.now × SizesOf t.now zt.now × Linked s.now t.now c.now × (length marks.old ≡ variable_nodes)
-        × IsSymbol (node_of s.now t.now a) × Sound s.now t.now c.now marks.old × ChildrenBelow s.now t.now c.now marks.old a }
-    ensures { Walked s.now t.now c.now marks.old marks.new
-        (ChildrenEnd s.now t.now c.now a) result }
+    requires { Linked g.now.s.now g.now.t.now c.now
+        × IsSymbol (node_of g.now.s.now g.now.t.now a) × Sound g.now.s.now g.now.t.now c.now marks.old × ChildrenBelow g.now.s.now g.now.t.now c.now marks.old a }
+    ensures { Walked g.now.s.now g.now.t.now c.now marks.old marks.new
+        (ChildrenEnd g.now.s.now g.now.t.now c.now a) result }
 {
-    let tag = tag_at(s, t, a);
-    if tag == PAIR {
-        if ends(s, t, zs, zt, c, marks, first_child(s, t, a)) {
-            ends(s, t, zs, zt, c, marks, second_child(s, t, zs, zt, a))
-        } else {
-            false
-        }
-    } else if children(tag) == 1 {
-        ends(s, t, zs, zt, c, marks, first_child(s, t, a))
-    } else {
-        true
+    let tag = g.tag_at(a);
+    if children(tag) == 0 {
+        return true;
     }
+    ends(g, c, marks, g.first_child(a)) && (tag != PAIR || ends(g, c, marks, g.second_child(a)))
 }
 
 // Every way down from the entry at node k ends, if it has children.
-fn node_ends(
-    s: &[u8],
-    t: &[u8],
-    zs: &[u8],
-    zt: &[u8],
-    c: &[u8; ALL_NODES],
-    marks: &mut [u8; VARIABLE_NODES],
-    k: usize,
-) -> bool
-    requires { TwoTerms s.now t.now × SizesOf s.now zs.now × SizesOf t.now zt.now × Linked s.now t.now c.now × (length marks.old ≡ variable_nodes)
-        × OwnEntry s.now t.now k × Sound s.now t.now c.now marks.old × Below s.now t.now c.now marks.old k }
-    ensures { Walked s.now t.now c.now marks.old marks.new
-        (ParentEnds s.now t.now c.now k) result }
+fn node_ends(g: &Graph, c: &[u8; ALL_NODES], marks: &mut [Mark; VARIABLE_NODES], k: usize) -> bool
+    requires { Linked g.now.s.now g.now.t.now c.now
+        × OwnEntry g.now.s.now g.now.t.now k × Sound g.now.s.now g.now.t.now c.now marks.old × Below g.now.s.now g.now.t.now c.now marks.old k }
+    ensures { Walked g.now.s.now g.now.t.now c.now marks.old marks.new
+        (ParentEnds g.now.s.now g.now.t.now c.now k) result }
 {
-    let tag = tag_at(s, t, k);
-    if tag == PAIR {
-        return ends(s, t, zs, zt, c, marks, k);
-    }
-    if children(tag) == 1 {
-        return ends(s, t, zs, zt, c, marks, k);
-    }
-    true
+    children(g.tag_at(k)) == 0 || ends(g, c, marks, k)
 }
 
 // Every way down from the entries at the nodes from `low` up to `high` ends, walked from the last first: most children are
-// marked already, and few walks go deep; or no valid valuation respects the classes. Every node lies below all classes with
-// mark 1: at the start there are none.
+// marked already, and few walks go deep; or no valid valuation respects the classes. Every node lies below all open
+// classes: at the start there are none.
 fn side_ends(
-    s: &[u8],
-    t: &[u8],
-    zs: &[u8],
-    zt: &[u8],
+    g: &Graph,
     c: &[u8; ALL_NODES],
-    marks: &mut [u8; VARIABLE_NODES],
+    marks: &mut [Mark; VARIABLE_NODES],
     low: usize,
     high: usize,
 ) -> bool
-    requires { TwoTerms s.now t.now × SizesOf s.now zs.now × SizesOf t.now zt.now × Linked s.now t.now c.now × (length marks.old ≡ variable_nodes)
-        × (low ≤ high) × EachFrom (OwnEntry s.now t.now) low high
-        × Sound s.now t.now c.now marks.old × ((i : ℕ) → Below s.now t.now c.now marks.old i) }
-    ensures { Walked s.now t.now c.now marks.old marks.new
-        (EachFrom (ParentEnds s.now t.now c.now) low high) result }
+    requires { Linked g.now.s.now g.now.t.now c.now
+        × EachFrom (OwnEntry g.now.s.now g.now.t.now) low high
+        × Sound g.now.s.now g.now.t.now c.now marks.old × ((i : ℕ) → Below g.now.s.now g.now.t.now c.now marks.old i) }
+    ensures { Walked g.now.s.now g.now.t.now c.now marks.old marks.new
+        (EachFrom (ParentEnds g.now.s.now g.now.t.now c.now) low high) result }
 {
-    let mut left = high;
-    while low < left {
-        left -= 1;
-        if !node_ends(s, t, zs, zt, c, marks, left) {
+    for k in (low..high).rev() {
+        if !node_ends(g, c, marks, k) {
             return false;
         }
     }
@@ -135,24 +104,12 @@ fn side_ends(
 
 // Every way down over the classes ends, walked from the entries of both terms: the other nodes have no children; or no
 // valid valuation respects the classes.
-pub fn is_finite(s: &[u8], t: &[u8], zs: &[u8], zt: &[u8], c: &[u8; ALL_NODES]) -> bool
-    requires { TwoTerms s.now t.now × SizesOf s.now zs.now × SizesOf t.now zt.now × Linked s.now t.now c.now }
-    ensures { (result ≡ true → (i : ℕ) → Finite (node_of s.now t.now) (name_of c.now) i)
-        × (result ≡ false → (v : ℕ → Message) → Valid (node_of s.now t.now) v → Respects (name_of c.now) v → ⊥) }
+pub fn is_finite(g: &Graph, c: &[u8; ALL_NODES]) -> bool
+    requires { Linked g.now.s.now g.now.t.now c.now }
+    ensures { (result ≡ true → (i : ℕ) → Finite (node_of g.now.s.now g.now.t.now) (name_of c.now) i)
+        × (result ≡ false → (v : ℕ → Message) → Valid (node_of g.now.s.now g.now.t.now) v → Respects (name_of c.now) v → ⊥) }
 {
-    let mut marks = [0u8; VARIABLE_NODES];
-    if side_ends(
-        s,
-        t,
-        zs,
-        zt,
-        c,
-        &mut marks,
-        RIGHT_NODES,
-        RIGHT_NODES + t.len() / 4,
-    ) {
-        side_ends(s, t, zs, zt, c, &mut marks, 0, s.len() / 4)
-    } else {
-        false
-    }
+    let mut marks = [Mark::Unmet; VARIABLE_NODES];
+    side_ends(g, c, &mut marks, RIGHT_NODES, RIGHT_NODES + g.t.len() / 4)
+        && side_ends(g, c, &mut marks, 0, g.s.len() / 4)
 }

@@ -81,10 +81,8 @@ pub fn fill_sizes(e: &[u8], z: &mut [u8], base: usize)
     requires { Begins e.now × (length e.now ≤ most_term_bytes) × (base ≤ 4096) × (4 * base + length e.now ≤ 4 * length z.old) }
     ensures { SizedFrom e.now z.new base 0 × KeptBelow base z.old z.new }
 {
-    let mut left = e.len() / 4;
-    while 0 < left {
-        left -= 1;
-        z[base + left] = size_by_children(e, z, base, left);
+    for k in (0..e.len() / 4).rev() {
+        z[base + k] = size_by_children(e, z, base, k);
     }
 }
 

@@ -17,11 +17,11 @@ use crate::{atom, entry};
 use blocks::wide;
 
 // The entry that stands first, as one number.
-fn word(e: &[u8]) -> usize
+fn word(e: &[u8]) -> u32
     requires { 4 ≤ length e.now }
     ensures { Word e.now result }
 {
-    wide(e[0]) + 256 * wide(e[1]) + 65536 * entry::value(e)
+    u32::from_le_bytes([e[0], e[1], e[2], e[3]])
 }
 
 // Do both begin with the same entry?
@@ -37,13 +37,7 @@ fn same_front(s: &[u8], t: &[u8], need: usize) -> bool
     requires { Front need s.now × Front need t.now }
     ensures { Says result (Takes variable need s.now t.now) }
 {
-    if need == 0 {
-        true
-    } else if same_entry(s, t) {
-        same_front(&s[4..], &t[4..], need - 1 + entry::children(s[0]))
-    } else {
-        false
-    }
+    need == 0 || same_entry(s, t) && same_front(&s[4..], &t[4..], need - 1 + entry::children(s[0]))
 }
 
 // How far two terms begin with the same symbols, entry by entry, and how many terms are then left to compare.
@@ -58,13 +52,7 @@ fn goes_on(p: &[u8], t: &[u8], k: usize, left: usize) -> bool
     requires { (4 * k ≤ length p.now) × (4 * k ≤ length t.now) × Front left (from (4 * k) p.now) × Front left (from (4 * k) t.now) }
     ensures { Says result (Goes p.now t.now k left) }
 {
-    if left == 0 {
-        return false;
-    }
-    if is_variable(p[4 * k]) {
-        return false;
-    }
-    same_entry(&p[4 * k..], &t[4 * k..])
+    left != 0 && !is_variable(p[4 * k]) && same_entry(&p[4 * k..], &t[4 * k..])
 }
 
 // The symbols that both begin with, where the first `need` terms are compared.
@@ -73,16 +61,13 @@ pub fn run_on(p: &[u8], t: &[u8], need: usize) -> Run
     ensures ran { Ran need p.now t.now result.count result.left }
     ensures stops { ¬ Goes p.now t.now result.count result.left }
 {
-    let mut k = 0;
+    let mut count = 0;
     let mut left = need;
-    while goes_on(p, t, k, left) {
-        left = left - 1 + entry::children(p[4 * k]);
-        k += 1;
+    while goes_on(p, t, count, left) {
+        left = left - 1 + entry::children(p[4 * count]);
+        count += 1;
     }
-    Run {
-        count: k,
-        left: left,
-    }
+    Run { count, left }
 }
 
 // The symbols that both terms begin with.
@@ -107,7 +92,7 @@ pub fn same(s: &[u8], t: &[u8]) -> bool
     same_front(&s[at..], &t[at..], run.left)
 }
 
-// The slot of the variable that stands first, eight for each sort; 32 where none does.
+// The slot of the variable that stands first, eight for each sort; 32 where none does, as `slot_of` has it, and no Option.
 pub fn slot(p: &[u8]) -> usize
     requires { Begins p.now }
     ensures { result ≡ slot_of (term_of p.now) }
@@ -127,12 +112,10 @@ fn is_nonce_term(e: &[u8], nonces: &[u8]) -> bool
 {
     let x = slot(e);
     if x < SLOTS {
-        return ANY_SLOTS <= x;
+        ANY_SLOTS <= x
+    } else {
+        e[0] == ATOM && atom::is_nonce(nonces, entry::value(e))
     }
-    if e[0] != ATOM {
-        return false;
-    }
-    atom::is_nonce(nonces, entry::value(e))
 }
 
 // May the term at entry `at` be put at the variable of this slot?
@@ -140,37 +123,26 @@ fn may_take(x: usize, t: &[u8], at: usize, nonces: &[u8]) -> bool
     requires { Begins (from (4 * at) t.now) × (4 * at ≤ length t.now) × (length t.now ≤ most_term_bytes) }
     ensures { (atoms : List Atom) → NoncesIn atoms nonces.now → Says result (MayTake atoms x t.now at) }
 {
-    if x < ANY_SLOTS {
-        return true;
-    }
-    is_nonce_term(&t[4 * at..], nonces)
+    x < ANY_SLOTS || is_nonce_term(&t[4 * at..], nonces)
 }
 
-// The entry of a variable that is not bound, and as a byte of the bindings.
-const UNBOUND: usize = 255;
-
-const UNBOUND_BYTE: u8 = 255;
-
-// May a variable that is bound to the term at entry `old` stand for the term at entry `at`?
-fn bindable(t: &[u8], old: usize, at: usize) -> bool
+// May a variable that is bound to the term at entry `old`, if it is, stand for the term at entry `at`?
+fn bindable(t: &[u8], old: Option<u8>, at: usize) -> bool
     requires { Comparable t.now old at }
     ensures { Says result (Bindable t.now old at) }
 {
-    if old == UNBOUND {
-        true
-    } else {
-        same(&t[4 * old..], &t[4 * at..])
+    match old {
+        Some(old) => same(&t[4 * wide(old)..], &t[4 * at..]),
+        None => true,
     }
 }
 
-// The bindings with this slot bound to the term at entry `at`.
-fn bind(bound: [u8; SLOTS], slot: usize, at: usize) -> [u8; SLOTS]
+// Binds this slot to the term at entry `at`.
+fn bind(bound: &mut [Option<u8>; SLOTS], slot: usize, at: usize)
     requires { (slot < slot_count) × (at ≤ 62) }
-    ensures { result ≡ set bound slot at }
+    ensures { bound.new ≡ set bound.old slot (Some at) }
 {
-    let mut more = bound;
-    more[slot] = at as u8;
-    more
+    bound[slot] = Some(at as u8);
 }
 
 // Can the first `need` terms of p become those of t from its entry `at` on, with its variables replaced as `bound` says?
@@ -179,41 +151,37 @@ fn match_front(
     t: &[u8],
     at: usize,
     need: usize,
-    bound: [u8; SLOTS],
+    bound: &mut [Option<u8>; SLOTS],
     nonces: &[u8],
 ) -> bool
-    requires { Ready p.now t.now at need bound }
-    ensures { (atoms : List Atom) → NoncesIn atoms nonces.now → NoncesBound atoms t.now bound
-        → Says result (Made atoms p.now t.now at need bound) }
+    requires { Ready p.now t.now at need bound.old }
+    ensures { (atoms : List Atom) → NoncesIn atoms nonces.now → NoncesBound atoms t.now bound.old
+        → Says result (Made atoms p.now t.now at need bound.old) }
 {
     if need == 0 {
         return true;
     }
     let x = slot(p);
     if x < SLOTS {
-        if !may_take(x, t, at, nonces) {
+        if !may_take(x, t, at, nonces) || !bindable(t, bound[x], at) {
             return false;
         }
-        if bindable(t, bound[x] as usize, at) {
-            if need == 1 {
-                return true;
-            }
-            let past = at + entry::term_size(&t[4 * at..]);
-            match_front(&p[4..], t, past, need - 1, bind(bound, x, at), nonces)
-        } else {
-            false
+        if need == 1 {
+            return true;
         }
-    } else if same_entry(p, &t[4 * at..]) {
-        match_front(
-            &p[4..],
-            t,
-            at + 1,
-            need - 1 + entry::children(p[0]),
-            bound,
-            nonces,
-        )
+        let past = at + entry::term_size(&t[4 * at..]);
+        bind(bound, x, at);
+        match_front(&p[4..], t, past, need - 1, bound, nonces)
     } else {
-        false
+        same_entry(p, &t[4 * at..])
+            && match_front(
+                &p[4..],
+                t,
+                at + 1,
+                need - 1 + entry::children(p[0]),
+                bound,
+                nonces,
+            )
     }
 }
 
@@ -222,14 +190,8 @@ pub fn differs(p: &[u8], t: &[u8], run: Run) -> bool
     requires { Begins p.now × Begins t.now × (length t.now ≤ most_term_bytes) × Ran 1 p.now t.now run.count run.left × ¬ Goes p.now t.now run.count run.left }
     ensures { result ≡ true → ¬ Common (term_of p.now) (term_of t.now) }
 {
-    if run.left == 0 {
-        return false;
-    }
     let at = 4 * run.count;
-    if is_variable(p[at]) {
-        return false;
-    }
-    !is_variable(t[at])
+    run.left != 0 && !is_variable(p[at]) && !is_variable(t[at])
 }
 
 // Is the term the pattern with its variables replaced by terms, behind what both begin with?
@@ -238,7 +200,7 @@ pub fn matches_behind(p: &[u8], t: &[u8], run: Run, nonces: &[u8]) -> bool
     ensures { (atoms : List Atom) → NoncesIn atoms nonces.now → result ≡ answer (match? atoms (term_of p.now) (term_of t.now)) }
 {
     let at = run.count;
-    match_front(&p[4 * at..], t, at, run.left, [UNBOUND_BYTE; SLOTS], nonces)
+    match_front(&p[4 * at..], t, at, run.left, &mut [None; SLOTS], nonces)
 }
 
 // Is the term the pattern with its variables replaced by terms? Most tests end where the two first differ. `nonces` tells which
@@ -248,9 +210,5 @@ pub fn matches(p: &[u8], t: &[u8], nonces: &[u8]) -> bool
     ensures { (atoms : List Atom) → NoncesIn atoms nonces.now → result ≡ answer (match? atoms (term_of p.now) (term_of t.now)) }
 {
     let run = same_run(p, t);
-    if differs(p, t, run) {
-        false
-    } else {
-        matches_behind(p, t, run, nonces)
-    }
+    !differs(p, t, run) && matches_behind(p, t, run, nonces)
 }

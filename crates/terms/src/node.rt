@@ -1,5 +1,5 @@
 // Two terms as one graph: the entries of the first from node 0, of the second from node 64, and the variables of each
-// side as nodes of their own, from 128 and from 160. `zs` and `zt` have the sizes of the terms at the entries of each side.
+// side as nodes of their own, from 128 and from 160.
 ghost use Rattle.std.specs.Prelude.{◌≡◌, ◌+◌, ◌*◌, ◌≤◌, ◌<◌, length};
 ghost use Rattle.blocks.specs.Limits.{most_term_bytes};
 ghost use Rattle.terms.specs.Tag.{pair_tag};
@@ -20,7 +20,7 @@ pub const RIGHT_VARIABLES: usize = VARIABLE_NODES + SLOTS;
 pub const ALL_NODES: usize = 256;
 
 // The node of entry k, on the side whose entries begin at base and whose variables begin at slots.
-pub fn home(e: &[u8], k: usize, base: usize, slots: usize) -> usize
+fn home(e: &[u8], k: usize, base: usize, slots: usize) -> usize
     requires { (4 * (k + 1) ≤ length e.now) × (length e.now ≤ most_term_bytes) × (base ≤ graph.right_nodes) × (slots ≤ graph.right_variables) }
     ensures { (result ≡ graph.home e.now base slots k) × (result < graph.all_nodes) }
 {
@@ -35,55 +35,81 @@ pub fn home(e: &[u8], k: usize, base: usize, slots: usize) -> usize
     slots + first_slot(tag) + value(&e[4 * k..]) % VARIABLES
 }
 
-// The tag of the entry at a node.
-pub fn tag_at(s: &[u8], t: &[u8], i: usize) -> u8
-    requires { graph.OwnEntry s.now t.now i }
-    ensures { result ≡ graph.node_tag s.now t.now i }
-{
-    if i < RIGHT_NODES {
-        s[4 * i]
-    } else {
-        t[4 * (i - RIGHT_NODES)]
-    }
+// The entries of both terms. `zs` and `zt` have the sizes of the terms at the entries of each side.
+#[derive(Clone, Copy)]
+pub struct Graph<'a> {
+    pub s: &'a [u8],
+    pub t: &'a [u8],
+    pub zs: &'a [u8],
+    pub zt: &'a [u8],
+    pub ghost terms: { ∥ graph.TwoTerms s.now t.now ∥₁ },
+    pub ghost left: { graph.SizesOf s.now zs.now },
+    pub ghost right: { graph.SizesOf t.now zt.now },
 }
 
-// The value of the entry at a node.
-pub fn value_at(s: &[u8], t: &[u8], i: usize) -> usize
-    requires { graph.OwnEntry s.now t.now i }
-    ensures { result ≡ graph.node_value s.now t.now i }
-{
-    if i < RIGHT_NODES {
-        value(&s[4 * i..])
-    } else {
-        value(&t[4 * (i - RIGHT_NODES)..])
+impl Graph<'_> {
+    // The node of entry k of the first term.
+    pub fn left_home(&self, k: usize) -> usize
+        requires { 4 * (k + 1) ≤ length self.now.s.now }
+        ensures { (result ≡ graph.home self.now.s.now 0 graph.variable_nodes k) × graph.AtHome self.now.s.now self.now.t.now result }
+    {
+        home(self.s, k, 0, VARIABLE_NODES)
     }
-}
 
-// The node of the first child of a pair, or of the term that something is put around.
-pub fn first_child(s: &[u8], t: &[u8], i: usize) -> usize
-    requires { graph.TwoTerms s.now t.now × graph.HasChild s.now t.now i }
-    ensures { (result ≡ graph.first_child s.now t.now i) × graph.AtHome s.now t.now result }
-{
-    if i < RIGHT_NODES {
-        home(s, i + 1, 0, VARIABLE_NODES)
-    } else {
-        home(t, i - RIGHT_NODES + 1, RIGHT_NODES, RIGHT_VARIABLES)
+    // The node of entry k of the second term.
+    pub fn right_home(&self, k: usize) -> usize
+        requires { 4 * (k + 1) ≤ length self.now.t.now }
+        ensures { (result ≡ graph.home self.now.t.now graph.right_nodes graph.right_variables k) × graph.AtHome self.now.s.now self.now.t.now result }
+    {
+        home(self.t, k, RIGHT_NODES, RIGHT_VARIABLES)
     }
-}
 
-// The node of a pair's second child, by the sizes.
-pub fn second_child(s: &[u8], t: &[u8], zs: &[u8], zt: &[u8], i: usize) -> usize
-    requires { graph.TwoTerms s.now t.now × graph.SizesOf s.now zs.now × graph.SizesOf t.now zt.now × (graph.node_tag s.now t.now i ≡ pair_tag) }
-    ensures { (result ≡ graph.second_child s.now t.now i) × graph.AtHome s.now t.now result }
-{
-    if i < RIGHT_NODES {
-        home(s, i + 1 + wide(zs[i + 1]), 0, VARIABLE_NODES)
-    } else {
-        home(
-            t,
-            i - RIGHT_NODES + 1 + wide(zt[i - RIGHT_NODES + 1]),
-            RIGHT_NODES,
-            RIGHT_VARIABLES,
-        )
+    // The tag of the entry at a node.
+    pub fn tag_at(&self, i: usize) -> u8
+        requires { graph.OwnEntry self.now.s.now self.now.t.now i }
+        ensures { result ≡ graph.node_tag self.now.s.now self.now.t.now i }
+    {
+        if i < RIGHT_NODES {
+            self.s[4 * i]
+        } else {
+            self.t[4 * (i - RIGHT_NODES)]
+        }
+    }
+
+    // The value of the entry at a node.
+    pub fn value_at(&self, i: usize) -> usize
+        requires { graph.OwnEntry self.now.s.now self.now.t.now i }
+        ensures { result ≡ graph.node_value self.now.s.now self.now.t.now i }
+    {
+        if i < RIGHT_NODES {
+            value(&self.s[4 * i..])
+        } else {
+            value(&self.t[4 * (i - RIGHT_NODES)..])
+        }
+    }
+
+    // The node of the first child of a pair, or of the term that something is put around.
+    pub fn first_child(&self, i: usize) -> usize
+        requires { graph.HasChild self.now.s.now self.now.t.now i }
+        ensures { (result ≡ graph.first_child self.now.s.now self.now.t.now i) × graph.AtHome self.now.s.now self.now.t.now result }
+    {
+        if i < RIGHT_NODES {
+            self.left_home(i + 1)
+        } else {
+            self.right_home(i - RIGHT_NODES + 1)
+        }
+    }
+
+    // The node of a pair's second child, by the sizes.
+    pub fn second_child(&self, i: usize) -> usize
+        requires { graph.node_tag self.now.s.now self.now.t.now i ≡ pair_tag }
+        ensures { (result ≡ graph.second_child self.now.s.now self.now.t.now i) × graph.AtHome self.now.s.now self.now.t.now result }
+    {
+        if i < RIGHT_NODES {
+            self.left_home(i + 1 + wide(self.zs[i + 1]))
+        } else {
+            let k = i - RIGHT_NODES + 1;
+            self.right_home(k + wide(self.zt[k]))
+        }
     }
 }

@@ -21,25 +21,22 @@ use crate::classes::{alone, find, unite};
 use crate::ending::is_finite;
 use crate::entry::children;
 use crate::matching::{run_on, same_entry, slot};
-use crate::node::{
-    ALL_NODES, RIGHT_NODES, RIGHT_VARIABLES, VARIABLE_NODES, home, tag_at, value_at,
-};
+use crate::node::{ALL_NODES, Graph, RIGHT_VARIABLES, VARIABLE_NODES};
 use crate::tag::{ANY_SLOTS, ATOM, SLOTS, is_variable};
 use blocks::wide;
 
-// Room for the entries noted: those of the first term from 0, those of the second from 64.
-const NOTES: usize = 128;
-
-const RIGHT_NOTES: usize = 64;
-
-// How the walk over both terms ended: at different symbols, or with so many entries noted.
+// Two entries that stand beside each other, of the first term and of the second.
 #[derive(Clone, Copy)]
-enum Walk {
-    Apart,
-    Through(usize),
+struct Beside {
+    i: u8,
+    j: u8,
 }
 
-// How far a walk has come: the entry of each side, the terms left, and the entries noted.
+// Room for the entries noted.
+const NOTES: usize = 64;
+
+// How far a walk has come: the entry of each side, the terms left, and the entries noted. `meet` and `note` get them one by one:
+// handed over as one value, in memory, they make a sharing test up to a fifth slower.
 #[derive(Clone, Copy)]
 struct Passed {
     i: usize,
@@ -53,31 +50,23 @@ fn leaves_meet(p: u8, q: u8) -> bool
     requires { (p ≤ signature_tag) × (q ≤ signature_tag) }
     ensures { result ≡ true → (children_of p ≡ 0) × (children_of q ≡ 0) }
 {
-    if !is_variable(p) {
-        if !is_variable(q) {
-            return false;
-        }
-    }
-    if children(p) != 0 {
-        return false;
-    }
-    children(q) == 0
+    (is_variable(p) || is_variable(q)) && children(p) == 0 && children(q) == 0
 }
 
 // Walks on as long as entry stands beside entry: the same symbol, or a variable beside a leaf, which are noted.
 fn pass(
-    s: &[u8],
-    t: &[u8],
-    m: &mut [u8; NOTES],
+    g: &Graph,
+    m: &mut [Beside; NOTES],
     first: usize,
     second: usize,
     need: usize,
     noted: usize,
 ) -> Passed
-    requires { TwoTerms s.now t.now × Walking s.now t.now m.old noted first second need }
-    ensures { Walking s.now t.now m.new result.n result.i result.j result.left × (first ≤ result.i)
-        × (¬ (result.left ≡ 0) → Stops s.now t.now result.i result.j) }
+    requires { Walking g.now.s.now g.now.t.now m.old noted first second need }
+    ensures { Walking g.now.s.now g.now.t.now m.new result.n result.i result.j result.left × (first ≤ result.i)
+        × (¬ (result.left ≡ 0) → Stops g.now.s.now g.now.t.now result.i result.j) }
 {
+    let Graph { s, t, .. } = *g;
     let mut i = first;
     let mut j = second;
     let mut left = need;
@@ -88,14 +77,13 @@ fn pass(
         i += count;
         j += count;
         left = run.left;
-        if left == 0 {
+        if left == 0 || !leaves_meet(s[4 * i], t[4 * j]) {
             return Passed { i, j, left, n };
         }
-        if !leaves_meet(s[4 * i], t[4 * j]) {
-            return Passed { i, j, left, n };
-        }
-        m[n] = i as u8;
-        m[RIGHT_NOTES + n] = j as u8;
+        m[n] = Beside {
+            i: i as u8,
+            j: j as u8,
+        };
         i += 1;
         j += 1;
         left -= 1;
@@ -104,119 +92,85 @@ fn pass(
     Passed { i, j, left, n }
 }
 
-// Walks on with `need` terms left on each side, from entry i of s and entry j of t. n entries of each are noted in m: those of
-// s from 0, those of t from 64.
+// Walks on with `need` terms left on each side, from entry i of s and entry j of t. n entries of each are noted in m. None where
+// the terms are apart, or how many entries are noted at the end.
 #[cycle(meet_note)]
 fn meet(
-    s: &[u8],
-    t: &[u8],
-    zs: &[u8],
-    zt: &[u8],
-    m: &mut [u8; NOTES],
+    g: &Graph,
+    m: &mut [Beside; NOTES],
     i: usize,
     j: usize,
     need: usize,
     n: usize,
-) -> Walk
-    requires { TwoTerms s.now t.now × SizesOf s.now zs.now × SizesOf t.now zt.now × Walking s.now t.now m.old n i j need }
-    ensures { WalkSays s.now t.now m.new result }
+) -> Option<usize>
+    requires { Walking g.now.s.now g.now.t.now m.old n i j need }
+    ensures { WalkSays g.now.s.now g.now.t.now m.new result }
 {
-    let to = pass(s, t, m, i, j, need, n);
+    let to = pass(g, m, i, j, need, n);
     if to.left == 0 {
-        return Walk::Through(to.n);
+        return Some(to.n);
     }
-    note(s, t, zs, zt, m, to.i, to.j, to.left, to.n)
+    note(g, m, to.i, to.j, to.left, to.n)
 }
 
 // The walk has come to entries that are not the same symbol: a variable stands on one side, or the terms are apart.
 #[cycle(meet_note)]
 fn note(
-    s: &[u8],
-    t: &[u8],
-    zs: &[u8],
-    zt: &[u8],
-    m: &mut [u8; NOTES],
+    g: &Graph,
+    m: &mut [Beside; NOTES],
     i: usize,
     j: usize,
     left: usize,
     n: usize,
-) -> Walk
-    requires { TwoTerms s.now t.now × SizesOf s.now zs.now × SizesOf t.now zt.now × Walking s.now t.now m.old n i j left × ¬ (left ≡ 0) × Stops s.now t.now i j }
-    ensures { WalkSays s.now t.now m.new result }
+) -> Option<usize>
+    requires { Walking g.now.s.now g.now.t.now m.old n i j left × ¬ (left ≡ 0) × Stops g.now.s.now g.now.t.now i j }
+    ensures { WalkSays g.now.s.now g.now.t.now m.new result }
 {
-    if !is_variable(s[4 * i]) {
-        if !is_variable(t[4 * j]) {
-            return Walk::Apart;
-        }
+    if !is_variable(g.s[4 * i]) && !is_variable(g.t[4 * j]) {
+        return None;
     }
-    m[n] = i as u8;
-    m[RIGHT_NOTES + n] = j as u8;
-    meet(
-        s,
-        t,
-        zs,
-        zt,
-        m,
-        i + wide(zs[i]),
-        j + wide(zt[j]),
-        left - 1,
-        n + 1,
-    )
+    m[n] = Beside {
+        i: i as u8,
+        j: j as u8,
+    };
+    meet(g, m, i + wide(g.zs[i]), j + wide(g.zt[j]), left - 1, n + 1)
 }
 
 // Unites the classes of the noted entries, two and two.
-fn unite_noted(
-    s: &[u8],
-    t: &[u8],
-    zs: &[u8],
-    zt: &[u8],
-    m: &[u8; NOTES],
-    n: usize,
-    c: &mut [u8; ALL_NODES],
-) -> bool
-    requires { TwoTerms s.now t.now × SizesOf s.now zs.now × SizesOf t.now zt.now × Noted s.now t.now m.now n × Linked s.now t.now c.old }
-    ensures { Linked s.now t.now c.new
-        × Outcome (node_of s.now t.now) Any (name_of c.old) (name_of c.new)
-        (AllEqual s.now t.now m.now n) result }
+fn unite_noted(g: &Graph, m: &[Beside; NOTES], n: usize, c: &mut [u8; ALL_NODES]) -> bool
+    requires { Noted g.now.s.now g.now.t.now m.now n × Linked g.now.s.now g.now.t.now c.old }
+    ensures { Linked g.now.s.now g.now.t.now c.new
+        × Outcome (node_of g.now.s.now g.now.t.now) Any (name_of c.old) (name_of c.new)
+        (AllEqual g.now.s.now g.now.t.now m.now n) result }
 {
-    let mut k = 0;
-    while k < n {
-        let i = home(s, wide(m[k]), 0, VARIABLE_NODES);
-        let j = home(t, wide(m[RIGHT_NOTES + k]), RIGHT_NODES, RIGHT_VARIABLES);
-        if !unite(s, t, zs, zt, c, i, j) {
+    for k in 0..n {
+        let i = g.left_home(wide(m[k].i));
+        let j = g.right_home(wide(m[k].j));
+        if !unite(g, c, i, j) {
             return false;
         }
-        k += 1;
     }
     true
 }
 
 // May a class of this name hold a nonce variable? It is named by a variable, or by a nonce.
-fn may_be_nonce(s: &[u8], t: &[u8], a: usize, nonces: &[u8]) -> bool
-    requires { TwoTerms s.now t.now × AtHome s.now t.now a }
-    ensures { (atoms : List Atom) → NoncesIn atoms nonces.now → Says result (NonceNode atoms (node_of s.now t.now a)) }
+fn may_be_nonce(g: &Graph, a: usize, nonces: &[u8]) -> bool
+    requires { AtHome g.now.s.now g.now.t.now a }
+    ensures { (atoms : List Atom) → NoncesIn atoms nonces.now → Says result (NonceNode atoms (node_of g.now.s.now g.now.t.now a)) }
 {
-    if VARIABLE_NODES <= a {
-        return true;
-    }
-    if tag_at(s, t, a) != ATOM {
-        return false;
-    }
-    is_nonce(nonces, value_at(s, t, a))
+    VARIABLE_NODES <= a || g.tag_at(a) == ATOM && is_nonce(nonces, g.value_at(a))
 }
 
 // May the classes of all nonce variables hold one, on the side whose variables begin at this node?
-fn side_keeps(s: &[u8], t: &[u8], c: &[u8; ALL_NODES], slots: usize, nonces: &[u8]) -> bool
-    requires { TwoTerms s.now t.now × Linked s.now t.now c.now × (variable_nodes ≤ slots) × (slots ≤ right_variables) }
+fn side_keeps(g: &Graph, c: &[u8; ALL_NODES], slots: usize, nonces: &[u8]) -> bool
+    requires { Linked g.now.s.now g.now.t.now c.now × (variable_nodes ≤ slots) × (slots ≤ right_variables) }
     ensures { (atoms : List Atom) → NoncesIn atoms nonces.now
-        → Says result (SideKeeps atoms s.now t.now (name_of c.now) slots) }
+        → Says result (SideKeeps atoms g.now.s.now g.now.t.now (name_of c.now) slots) }
 {
-    let mut k = ANY_SLOTS;
-    while k < SLOTS {
-        if !may_be_nonce(s, t, find(c, slots + k), nonces) {
+    for k in ANY_SLOTS..SLOTS {
+        if !may_be_nonce(g, find(c, slots + k), nonces) {
             return false;
         }
-        k += 1;
     }
     true
 }
@@ -225,86 +179,59 @@ fn side_keeps(s: &[u8], t: &[u8], c: &[u8; ALL_NODES], slots: usize, nonces: &[u
 fn and_same(before: bool, a: u8, b: u8) -> bool
     ensures { result ≡ true → (before ≡ true) × (a ≡ b) }
 {
-    if before { a == b } else { false }
+    before && a == b
 }
 
 // Is every nonce variable a class by itself, as in terms that have none? All are asked, which the compiler does many at a time.
 fn nonces_alone(c: &[u8; ALL_NODES]) -> bool
-    requires { length c.now ≡ all_nodes }
     ensures { result ≡ true → NoncesAlone (name_of c.now) }
 {
     let mut alone = true;
-    let mut k = ANY_SLOTS;
-    while k < SLOTS {
+    for k in ANY_SLOTS..SLOTS {
         let left = VARIABLE_NODES + k;
         let right = RIGHT_VARIABLES + k;
         alone = and_same(alone, c[left], left as u8);
         alone = and_same(alone, c[right], right as u8);
-        k += 1;
     }
     alone
 }
 
 // And on both sides?
-fn keep_nonces(s: &[u8], t: &[u8], c: &[u8; ALL_NODES], nonces: &[u8]) -> bool
-    requires { TwoTerms s.now t.now × Linked s.now t.now c.now }
+fn keep_nonces(g: &Graph, c: &[u8; ALL_NODES], nonces: &[u8]) -> bool
+    requires { Linked g.now.s.now g.now.t.now c.now }
     ensures { (atoms : List Atom) → NoncesIn atoms nonces.now
-        → Says result (NoncesKept atoms s.now t.now (name_of c.now)) }
+        → Says result (NoncesKept atoms g.now.s.now g.now.t.now (name_of c.now)) }
 {
-    if nonces_alone(c) {
-        return true;
-    }
-    if side_keeps(s, t, c, VARIABLE_NODES, nonces) {
-        side_keeps(s, t, c, RIGHT_VARIABLES, nonces)
-    } else {
-        false
-    }
+    nonces_alone(c)
+        || side_keeps(g, c, VARIABLE_NODES, nonces) && side_keeps(g, c, RIGHT_VARIABLES, nonces)
 }
 
 // Do messages for the variables make the noted entries equal, nonces for the nonce variables?
-fn have_solution(
-    s: &[u8],
-    t: &[u8],
-    zs: &[u8],
-    zt: &[u8],
-    m: &[u8; NOTES],
-    n: usize,
-    nonces: &[u8],
-) -> bool
-    requires { TwoTerms s.now t.now × SizesOf s.now zs.now × SizesOf t.now zt.now × Reduced s.now t.now m.now n }
-    ensures { (atoms : List Atom) → NoncesIn atoms nonces.now → result ≡ answer (share? atoms (term_of s.now) (term_of t.now)) }
+fn have_solution(g: &Graph, m: &[Beside; NOTES], n: usize, nonces: &[u8]) -> bool
+    requires { Reduced g.now.s.now g.now.t.now m.now n }
+    ensures { (atoms : List Atom) → NoncesIn atoms nonces.now → result ≡ answer (share? atoms (term_of g.now.s.now) (term_of g.now.t.now)) }
 {
     let mut c = alone();
-    if unite_noted(s, t, zs, zt, m, n, &mut c) {
-        if keep_nonces(s, t, &c, nonces) {
-            is_finite(s, t, zs, zt, &c)
-        } else {
-            false
-        }
-    } else {
-        false
+    if !unite_noted(g, m, n, &mut c) {
+        return false;
     }
+    keep_nonces(g, &c, nonces) && is_finite(g, &c)
 }
 
 // Is a variable for any message noted at each of the n entries of s, and each time another one? Then these can take what stands
 // opposite.
-fn is_free_match(s: &[u8], m: &[u8; NOTES], n: usize) -> bool
+fn is_free_match(s: &[u8], m: &[Beside; NOTES], n: usize) -> bool
     requires { Begins s.now × (length s.now ≤ most_term_bytes) × NotedIn s.now m.now n }
     ensures { result ≡ true → Distinct s.now m.now n }
 {
-    let mut seen = [0u8; ANY_SLOTS];
-    let mut k = 0;
-    while k < n {
-        let at = wide(m[k]);
+    let mut seen = [false; ANY_SLOTS];
+    for k in 0..n {
+        let at = wide(m[k].i);
         let x = slot(&s[4 * at..]);
-        if ANY_SLOTS <= x {
+        if ANY_SLOTS <= x || seen[x] {
             return false;
         }
-        if seen[x] == 1 {
-            return false;
-        }
-        seen[x] = 1;
-        k += 1;
+        seen[x] = true;
     }
     true
 }
@@ -314,13 +241,7 @@ fn roots_differ(s: &[u8], t: &[u8]) -> bool
     requires { Begins s.now × Begins t.now }
     ensures { result ≡ true → RootsDiffer s.now t.now }
 {
-    if is_variable(s[0]) {
-        return false;
-    }
-    if is_variable(t[0]) {
-        return false;
-    }
-    !same_entry(s, t)
+    !is_variable(s[0]) && !is_variable(t[0]) && !same_entry(s, t)
 }
 
 // Two terms share an instance: some finite message is an instance of both, each term with variables of its own. Most
@@ -332,16 +253,10 @@ pub fn shares(s: &[u8], t: &[u8], zs: &[u8], zt: &[u8], nonces: &[u8]) -> bool
     if roots_differ(s, t) {
         return false;
     }
-    let mut m = [0u8; NOTES];
-    let walk = meet(s, t, zs, zt, &mut m, 0, 0, 1, 0);
-    match walk {
-        Walk::Apart => false,
-        Walk::Through(n) => {
-            if is_free_match(s, &m, n) {
-                true
-            } else {
-                have_solution(s, t, zs, zt, &m, n, nonces)
-            }
-        }
-    }
+    let mut m = [Beside { i: 0, j: 0 }; NOTES];
+    let g = Graph { s, t, zs, zt };
+    let Some(n) = meet(&g, &mut m, 0, 0, 1, 0) else {
+        return false;
+    };
+    is_free_match(s, &m, n) || have_solution(&g, &m, n, nonces)
 }

@@ -1,4 +1,5 @@
-// Tags of term entries (document 01, "Term entry"), and what code has to know of one.
+// Tags of term entries (document 01, "Term entry"), and what code has to know of one. They stay bytes: entries are read in place,
+// as the file has them, and an enum made of each would have a failing case at every step of a walk.
 ghost use Rattle.terms.specs.Decisions.{Says};
 ghost use Rattle.std.specs.Prelude.{◌≡◌, ◌*◌, ◌-◌, ◌≤◌};
 ghost use Rattle.terms.specs.Tag.{VariableTag, MarkedTag, plain_tag, variables};
@@ -45,10 +46,7 @@ pub fn is_variable(tag: u8) -> bool
 pub fn is_marked(tag: u8) -> bool
     ensures { Says result (MarkedTag tag) }
 {
-    if tag == MARKED {
-        return true;
-    }
-    tag == MARKED_NONCE
+    matches!(tag, MARKED | MARKED_NONCE)
 }
 
 // The first slot of the variables with this tag; at most 8 times 251.

@@ -1,6 +1,9 @@
 // What one call of read or write did, as its answer says.
 ghost use Rattle.std.specs.Prelude.{◌≡◌};
+ghost use Rattle.std.specs.Result.{result_unwrap_or};
 ghost use Rattle.zepayong.specs.Transfer.{called_of, CallWithin};
+
+use std::io::{self, ErrorKind};
 
 #[derive(Clone, Copy)]
 pub enum Called {
@@ -10,23 +13,17 @@ pub enum Called {
     Nothing,
     // A signal came before it moved a byte.
     Interrupted,
-    Failed,
 }
 
-// What a call's answer says, by its sign, the bytes it counts, and whether the error that it left is an interruption.
-pub fn said(negative: bool, count: usize, interrupted: bool) -> Called
-    ensures value { result ≡ called_of negative count interrupted }
-    ensures call_within { CallWithin result count }
+// What a call's answer says; an error that is no interruption stays one.
+pub fn said(answer: io::Result<usize>) -> io::Result<Called>
+    ensures value { result ≡ called_of answer }
+    ensures call_within { CallWithin result (result_unwrap_or answer 0) }
 {
-    if negative {
-        if interrupted {
-            Called::Interrupted
-        } else {
-            Called::Failed
-        }
-    } else if count == 0 {
-        Called::Nothing
-    } else {
-        Called::Bytes(count)
+    match answer {
+        Ok(0) => Ok(Called::Nothing),
+        Ok(count) => Ok(Called::Bytes(count)),
+        Err(error) if error.kind() == ErrorKind::Interrupted => Ok(Called::Interrupted),
+        Err(error) => Err(error),
     }
 }

@@ -1,27 +1,37 @@
--- `blocks::check_of` meets its contract: the sums are those of the header and of the columns before `from`, and small enough to
--- fit. Assumes nothing.
+-- `blocks::check_of` meets its contract: the sums are those of the header and of eight columns for each turn. Assumes nothing.
 use mathlib.Core.Path.{◌≡◌, ap, ◌∙◌}
-use Prim.Native.Nat.{ℕ, ◌%◌}
+use Prim.Native.Nat.{ℕ, ◌+◌, ◌*◌, ◌%◌}
 use native.Mathlib.Omega.{arith}
 use Rattle.blocks.specs.Columns.{sum_of, column_sum, column_weighted}
 use Rattle.blocks.proofs.ColumnLaws.{sum-split, columns-a, columns-b}
 use borrow.Author.Rules.{rules}
 use Rattle.blocks.proofs.check_of.Goals as goal
 
-pub loop-from-init : goal.loop-from-init
-unfolding sum_of
-loop-from-init c = search rules
+-- Eight columns more.
+eight-more : (f : ℕ → ℕ) (header i : ℕ) {s x : ℕ} → s ≡ header + sum_of f (8 * i) → x ≡ sum_of (λ k. f (8 * i + k)) 8
+    → s + x ≡ header + sum_of f (8 * (i + 1))
+eight-more f header i p q =
+    let next : 8 * (i + 1) ≡ 8 * i + 8 = omega arith in
+    rw next (omega (arith, sum-split f (8 * i) 8))
 
-pub loop-from-preserved : goal.loop-from-preserved
-loop-from-preserved c =
-    let from = c.loop-from.from in let block = c.args.block.now in (
-      (omega arith, omega arith),
-      (
-        omega (arith, sum-split (column_sum block) from 8),
-        (omega (arith, sum-split (column_weighted block) from 8), (omega arith, omega arith)),
-      ),
+pub loop-turn-init : goal.loop-turn-init
+unfolding sum_of
+loop-turn-init c = search rules
+
+pub loop-turn-preserved : goal.loop-turn-preserved
+loop-turn-preserved c =
+    let i = c.loop-turn.turn in let inv = c.loop-turn.invariant in let block = c.args.block.now in
+    let eight = c.eight_sums-eight.ensures in (
+      eight-more (column_sum block) _ i inv.0 eight.a,
+      (eight-more (column_weighted block) _ i inv.1.0 eight.b, (omega arith, omega arith)),
     )
 
-pub returns : goal.returns
-returns c =
-    let inv = c.loop-from.invariant in let block = c.args.block.now in let all : c.loop-from.from ≡ 24 = omega arith in record { a = ap (λ (n : ℕ). n % 65521) (rw all at inv.1.0) ∙ columns-a block (omega arith); b = ap (λ (n : ℕ). n % 65521) (rw all at inv.1.1.0) ∙ columns-b block (omega arith); small = search rules }
+pub returns-clause-a : goal.returns-clause-a
+returns-clause-a c =
+    let all : c.loop-turn.turn ≡ 3 = omega arith in
+    ap (λ (n : ℕ). n % 65521) (rw all at c.loop-turn.invariant.0) ∙ columns-a c.args.block.now (omega arith)
+
+pub returns-clause-b : goal.returns-clause-b
+returns-clause-b c =
+    let all : c.loop-turn.turn ≡ 3 = omega arith in
+    ap (λ (n : ℕ). n % 65521) (rw all at c.loop-turn.invariant.1.0) ∙ columns-b c.args.block.now (omega arith)

@@ -1,11 +1,12 @@
 -- `blocks::seal` meets its contract. Assumes nothing.
-use Rattle.blocks.proofs.Sealing.{seal-done, seal-refused}
+use mathlib.Core.Path.{ap, ◌∙◌}
+use Rattle.blocks.specs.Check.{bytes_of}
+use Rattle.blocks.proofs.Sealing.{words-put}
 use Rattle.blocks.proofs.seal.Goals as goal
 
-pub returns-then-block-ne-BLOCK_SIZE : goal.returns-then-block-ne-BLOCK_SIZE
-returns-then-block-ne-BLOCK_SIZE c =
-    record { answer = (seal-refused _ c.if-block-ne-BLOCK_SIZE.true).0; values = (seal-refused _ c.if-block-ne-BLOCK_SIZE.true).1.0; bytes = (seal-refused _ c.if-block-ne-BLOCK_SIZE.true).1.1 }
-
-pub returns : goal.returns
-returns c =
-    record { answer = (seal-done _ c.if-block-ne-BLOCK_SIZE.false c.check_of-check.ensures.a c.check_of-check.ensures.b).0; values = (seal-done _ c.if-block-ne-BLOCK_SIZE.false c.check_of-check.ensures.a c.check_of-check.ensures.b).1.0; bytes = (seal-done _ c.if-block-ne-BLOCK_SIZE.false c.check_of-check.ensures.a c.check_of-check.ensures.b).1.1 }
+pub returns-clause-bytes : goal.returns-clause-bytes
+returns-clause-bytes c =
+    let check = c.check_of-check.ensures in
+    words-put _ c.if-block-ne-BLOCK_SIZE.false
+    (c.copy_from_slice.ensures.after ∙ c.to_le_bytes.ensures ∙ ap bytes_of check.a)
+    (c.copy_from_slice-2.ensures.after ∙ c.to_le_bytes-2.ensures ∙ ap bytes_of check.b)

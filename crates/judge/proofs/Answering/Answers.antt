@@ -1,30 +1,16 @@
 -- Laws of specs/Answer.antt: the answers of the code, and what tells a verdict. Assumes nothing.
 use mathlib.Core.Path.{◌≡◌, refl, sym, ap, ◌∙◌}
-use mathlib.Core.Bool.{Bool, true, false}
-use mathlib.Core.Logic.{◌⊎◌, inl, inr}
 use mathlib.Core.List.{List, [], ◌∷◌}
-use Prim.Native.Nat.{ℕ, ◌+◌, ◌*◌, ◌≤◌}
+use Prim.Native.Nat.{ℕ, ◌≤◌}
 use native.Mathlib.Omega.{arith}
 use lib.ListN.{get_or}
-use borrow.Author.Tests.{ne_eqb, leb-true}
-use Rattle.blocks.specs.Limits.{block_size}
-use Rattle.blocks.specs.Block.{HasBlock, has_block, block_at, behind}
 use Rattle.judge.specs.declared.verdict.Fault.{Fault}
 use Rattle.judge.specs.declared.verdict.Fault.TheVariants.{Length, Check, Kind, Missing, Layout, AtomEntry}
 use Rattle.judge.specs.declared.verdict.Fault.TheVariants.{TermEntry, NotOneTerm, KnownSecret, NotClosed, KeyNotKept, Uncovered, OpenSecret, Loader}
-use Rattle.judge.specs.declared.verdict.Counts.{Counts}
 use Rattle.judge.specs.declared.verdict.Verdict.{Verdict}
 use Rattle.judge.specs.declared.verdict.Verdict.TheVariants.{Accepted, Refused}
-use Rattle.judge.specs.declared.answer.Row.{Row}
-use Rattle.judge.specs.Answer.{row_of, number_of, block_of, place_of, packed_of}
-use Rattle.judge.specs.Answer.{partless, block_or_none, block_start, part_of, part_start}
+use Rattle.judge.specs.Answer.{number_of, block_of, place_of}
 use Rattle.judge.specs.Values.{VerdictValues, verdict_values}
-
--- ---- the packed number
-
-pub packed-refused : {v : Verdict} {f : Fault} {n b p : ℕ} → v ≡ Refused f → n ≡ number_of f → b ≡ block_of f → p ≡ place_of f
-    → n * 65536 + b * 256 + p ≡ packed_of v
-packed-refused e n b p = rw (e, n, b, p)
 
 -- Every number is one of 1 to 16.
 pub numbers : (f : Fault) → (1 ≤ number_of f) × (number_of f ≤ 16)
@@ -42,9 +28,6 @@ numbers (KeyNotKept b) = omega arith
 numbers (Uncovered b p) = omega arith
 numbers (OpenSecret b p) = omega arith
 numbers Loader = omega arith
-
-pub number_is : {r : Row} (f : Fault) → r ≡ row_of f → (r.number ≡ number_of f) × (r.number ≤ 16)
-number_is f e = let same = ap (λ (r : Row). r.number) e in (same, omega (arith, numbers f))
 
 -- ---- a verdict is told by its number and values
 
@@ -88,53 +71,3 @@ same-values (Refused f) (Accepted c) e =
 same-values (Refused f) (Refused g) e =
     let l = ap (λ (x : VerdictValues). x.values) e in
     ap Refused (same-fault f g (ap (λ (x : VerdictValues). x.number) e) (ap (λ (m : List ℕ). get_or m 0 0) l) (ap (λ (m : List ℕ). get_or m 1 0) l))
-
--- ---- the refused part
-
--- What the test of a block says.
-pub has : (file : List ℕ) (i : ℕ) {t : Bool} → t ≡ has_block file i → t ≡ true → HasBlock file i
-has file i e h = leb-true _ _ (sym e ∙ h)
-
--- A part of a file that begins at `start`: it is the block or empty, and stands where that does.
-module _ (file : List ℕ) (start : ℕ × ℕ) (i : ℕ) {t : Bool} (e : t ≡ has_block file i) where
-  abbrev IsBlock : List ℕ → ℕ × ℕ → Type 0
-  IsBlock part place = (part ≡ block_or_none file i) × (place ≡ behind (block_start file i) start)
-
-  pub block-there : t ≡ true → {part : List ℕ} {place : ℕ × ℕ} → part ≡ block_at file i → place ≡ behind (block_size * i) start
-      → IsBlock part place
-  unfolding block_or_none block_start
-  block-there h p q = (rw (← e, h) p, rw (← e, h) q)
-
-  pub block-lacking : t ≡ false → IsBlock [] (behind 0 start)
-  unfolding block_or_none block_start
-  block-lacking h = (rw (← e, h), rw (← e, h))
-
--- Which numbers have none.
-pub partless-yes : (n : ℕ) → (n ≡ 1) ⊎ ((n ≡ 4) ⊎ (n ≡ 16)) → true ≡ partless n
-unfolding partless
-partless-yes n (inl h) = rw h
-partless-yes n (inr (inl h)) = rw h
-partless-yes n (inr (inr h)) = rw h
-
-pub partless-no : (n : ℕ) → ¬ ((n ≡ 1) ⊎ ((n ≡ 4) ⊎ (n ≡ 16))) → false ≡ partless n
-unfolding partless
-partless-no n h = rw (ne_eqb n 1 (λ e. h (inl e)), ne_eqb n 4 (λ e. h (inr (inl e))), ne_eqb n 16 (λ e. h (inr (inr e))))
-
--- The same of the refused part.
-module _ (file : List ℕ) (start : ℕ × ℕ) where
-  abbrev IsPart : Verdict → List ℕ → ℕ × ℕ → Type 0
-  IsPart v part place = (part ≡ part_of file v) × (place ≡ behind (part_start file v) start)
-
-  pub part-accepted : {v : Verdict} {c : Counts} → v ≡ Accepted c → IsPart v [] (behind 0 start)
-  unfolding part_of part_start
-  part-accepted e = (rw e, rw e)
-
-  module _ {v : Verdict} {f : Fault} (e : v ≡ Refused f) {n : ℕ} (number : n ≡ number_of f) where
-    pub part_none : true ≡ partless n → IsPart v [] (behind 0 start)
-    unfolding part_of part_start
-    part_none h = (rw (e, ← number, ← h), rw (e, ← number, ← h))
-
-    pub part-there : false ≡ partless n → {b : ℕ} {part : List ℕ} {place : ℕ × ℕ} → b ≡ block_of f
-        → (part ≡ block_or_none file b) × (place ≡ behind (block_start file b) start) → IsPart v part place
-    unfolding part_of part_start
-    part-there h q p = (rw (e, ← number, ← h, ← q) p.0, rw (e, ← number, ← h, ← q) p.1)

@@ -1,23 +1,21 @@
 -- Laws of specs/Line.antt: texts written one behind the other, the line's length, and what printing answers. Assumes
 -- nothing.
+use native.Mathlib.Nat.{add-zero}
 use mathlib.Core.Path.{◌≡◌, refl, sym, ap, ◌∙◌}
 use mathlib.Core.List.{List, [], ◌∷◌, ◌++◌, append_assoc}
 use Prim.Native.Nat.{ℕ, ◌+◌, ◌/◌, ◌%◌, ◌≤◌, ◌<◌}
-use native.Mathlib.Nat.{zero-add, add-zero}
 use native.Mathlib.Numerals.{add-one}
 use native.Mathlib.Omega.{arith}
-use lib.ListN.{length, get_or, take, drop, set, length-append, length-drop, take-append-drop}
-use lib.Seq.{take_at, drop_at, drop-drop, length-take-le, take-suc, take_all, set_split}
-use borrow.Author.Tests.{le-leb, lt-leb}
-use Rattle.blocks.specs.declared.Writing.TheVariants.{Wrote, ShortBuffer}
-use Rattle.blocks.specs.Check.{values_of}
+use lib.ListN.{length, take, drop, set, length-append, length-drop, get_or, take-append-drop}
+use lib.Seq.{take_at, drop_at, drop-drop, length-take-le, set_split, take-suc, take_all}
+use borrow.Rule.Slice.PartMut.{put_mid}
 use Rattle.judge.specs.declared.verdict.Counts.{Counts}
 use Rattle.judge.specs.declared.verdict.Fault.{Fault}
 use Rattle.judge.specs.declared.verdict.Verdict.{Verdict}
 use Rattle.judge.specs.declared.verdict.Verdict.TheVariants.{Accepted, Refused}
 use Rattle.judge.specs.Answer.{number_of, block_of, place_of}
-use Rattle.judge.specs.Line.{digits_of, field_of, newline, three_fields, accepted_line, refused_line, line_of}
-use Rattle.judge.specs.Line.{pasted, Room, Put, printing, printing_values, after_printing}
+use Rattle.judge.specs.Line.{digits_of, field_of, newline, three_fields, accepted_line, refused_line, line_of, Put, Room, pasted}
+use Rattle.judge.specs.Line.{pasted, Room, Put}
 use Rattle.judge.proofs.Answering.Digits.{digits-one, digits_more}
 
 -- ---- a text written into a buffer
@@ -62,6 +60,11 @@ pasted-byte : (b : List ℕ) (at x : ℕ) → at < length b → set b at x ≡ p
 unfolding pasted
 pasted-byte b at x h = set_split b at x h ∙ rw add-one
 
+-- A part that holds the text is that text.
+pub part-pasted : (b : List ℕ) (at k : ℕ) {t part : List ℕ} → part ≡ t → k ≡ length t → put_mid at k b part ≡ pasted b at t
+unfolding pasted
+part-pasted b at k {t} e f = rw (e, f, drop-drop (length t) at b)
+
 -- ---- the loop of the code: none of the text, one byte more, and all of it
 
 pub pasted-none : (b : List ℕ) (at : ℕ) → b ≡ pasted b at []
@@ -79,8 +82,8 @@ module _ {b c t : List ℕ} {at i : ℕ} (begun : c ≡ pasted b at (take i t)) 
       let more : take i t ++ x ≡ take (i + 1) t = rw (add-one, take-suc t i 0 h) in
       stored ∙ behind ∙ ap (pasted b at) more
 
-  pub put_all : i ≤ length t → length t ≤ i → Put b at t c (at + i)
-  put_all l h = record { bytes = rw (take_all i t h) at begun; end = omega arith }
+  pub put_all : length t ≤ i → Put b at t c (at + length t)
+  put_all h = record { bytes = rw (take_all i t h) at begun; end = refl }
 
 -- ---- one text behind another
 
@@ -152,24 +155,3 @@ pub line_refused : {v : Verdict} {f : Fault} {x y z : ℕ} → v ≡ Refused f �
     → line_of v ≡ refused_line x y z
 unfolding line_of
 line_refused e n b p = rw (e, n, b, p)
-
--- ---- the answers of the code
-
-module _ (v : Verdict) (b : List ℕ) {n : ℕ} (size : n ≡ length (line_of v)) where
-  pub print-refused : length b < n
-      → (ShortBuffer ≡ printing v b) × ((values_of ShortBuffer ≡ printing_values v b) × (b ≡ after_printing v b))
-  unfolding printing printing_values after_printing
-  print-refused h =
-      let short = lt-leb (length (line_of v)) (length b) (rw size at h) in
-      (rw short, (rw short, rw short))
-
-  pub print-room : n ≤ length b → Room b 0 (line_of v)
-  print-room h = record { fits = omega arith }
-
-  pub print-done : n ≤ length b → {after : List ℕ} {end : ℕ} → Put b 0 (line_of v) after end
-      → (Wrote end ≡ printing v b) × ((values_of (Wrote end) ≡ printing_values v b) × (after ≡ after_printing v b))
-  unfolding printing printing_values after_printing pasted
-  print-done h {after} {end} p =
-      let holds = le-leb (length (line_of v)) (length b) (rw size at h) in
-      let all : end ≡ length (line_of v) = p.end ∙ zero-add (length (line_of v)) in
-      (rw (holds, all), (rw (holds, all), rw holds (p.bytes ∙ rw zero-add)))

@@ -1,6 +1,6 @@
 -- Laws of marks at, above or below an entry: what laying a pattern around a term flags, by the symbols of both. Assumes nothing.
 use mathlib.Core.Path.{◌≡◌, refl, sym, ap, ◌∙◌}
-use mathlib.Core.Bool.{Bool, true, false}
+use mathlib.Core.Bool.{Bool, true, false, false≢true, ◌||◌}
 use mathlib.Core.List.{List, [], ◌∷◌, ◌++◌}
 use mathlib.Core.Logic.{◌⊎◌, inl, inr, ◌↔◌}
 use mathlib.Core.Option.{some, none-ne-some}
@@ -28,8 +28,10 @@ use Rattle.terms.proofs.PlacedLaws.{placed, placed-within, placed-begins, spotte
 use Rattle.judge.specs.Hat.{mark_named, MarkAt, Marked}
 use Rattle.judge.specs.File.{pattern_of}
 use Rattle.judge.specs.Listed.{MarkTag, LastMark, Noted, TermPart}
-use Rattle.judge.specs.CoverEntries.{sub_at, On, Bits, either, put_on, Painted, Raised, MarkOver, MarkUnder, MarkAround, LayingAround}
-use Rattle.judge.proofs.Covering.Flags.{painted-raised, raised-none, raised-as, raised-twice}
+use Rattle.judge.specs.CoverEntries.{sub_at, On, Painted, Raised, MarkOver, MarkUnder, MarkAround, LayingAround}
+use Rattle.std.proofs.lemmas.Bool.{or_cases}
+use Rattle.terms.proofs.AnswerLaws.{says-yes}
+use Rattle.judge.proofs.Covering.Flags.{yes-says, painted-raised, raised-none, raised-as, raised-twice}
 use Rattle.judge.proofs.Covering.Marks.{mark-marked, mark-pair, mark-wrapped, from-reads}
 
 -- ---- terms
@@ -339,43 +341,40 @@ bad-noted {file} {t} {i} {v} is part last = record {
     none z w = last.behind w.number (omega arith) w.tag
 
 -- The flag of one entry, put on or as it is.
-put-on-raised : {flags : List ℕ} {h v : ℕ} {P : Type 0} → length flags ≡ 64 → h < 64 → (r : Bool) → Says r P → v ≡ put_on (get_or flags h 0) r
-    → Raised flags (set flags h v) (λ k. P × (k ≡ h))
-unfolding put_on
-put-on-raised {flags} {h} {v} {P} long small r says is = record {
-  long = length-set flags h v ∙ long;
-  bits = λ b k. bits b k (ℕ_discrete k h);
-  on = λ k. (λ o. to r says is k o (ℕ_discrete k h), back r says is k);
+put-on-raised : {flags : List Bool} {h : ℕ} {P : Type 0} → length flags ≡ 64 → h < 64 → (r : Bool) → Says r P
+    → Raised flags (set flags h (get_or flags h false || r)) (λ k. P × (k ≡ h))
+put-on-raised {flags} {h} {P} long small r says = record {
+  long = length-set flags h (get_or flags h false || r) ∙ long;
+  on = λ k. (λ o. to k o (ℕ_discrete k h), λ w. back k w (ℕ_discrete k h));
 }
   where
-    here : get_or (set flags h v) h 0 ≡ v
-    here = get_or-set_same flags h v 0 (omega arith)
+    here : get_or (set flags h (get_or flags h false || r)) h false ≡ (get_or flags h false || r)
+    here = get_or-set_same flags h (get_or flags h false || r) false (omega arith)
 
-    small-value : (r : Bool) → v ≡ put_on (get_or flags h 0) r → get_or flags h 0 ≤ 1 → v ≤ 1
-    small-value true is low = omega arith
-    small-value false is low = omega arith
-
-    bits : Bits flags → (k : ℕ) → Dec (k ≡ h) → get_or (set flags h v) k 0 ≤ 1
-    bits b k (yes e) = let low = small-value r is (b h) in rw (e, here) low
-    bits b k (no n) = rw (get_or-set_other flags h k v 0 n) (b k)
-
-    to : (r : Bool) → Says r P → v ≡ put_on (get_or flags h 0) r → (k : ℕ) → On (set flags h v) k → Dec (k ≡ h) → On flags k ⊎ (P × (k ≡ h))
-    to r says is k o (no n) = inl (sym (get_or-set_other flags h k v 0 n) ∙ o)
-    to true says is k o (yes e) = inr (says, e)
-    to false says is k o (yes e) = inl (rw e (sym is ∙ sym here ∙ rw e at o))
-
-    back : (r : Bool) → Says r P → v ≡ put_on (get_or flags h 0) r → (k : ℕ) → On flags k ⊎ (P × (k ≡ h)) → On (set flags h v) k
-    back r says is k w = go r says is w (ℕ_discrete k h)
+    to : (k : ℕ) → On (set flags h (get_or flags h false || r)) k → Dec (k ≡ h) → On flags k ⊎ (P × (k ≡ h))
+    to k o (no n) = inl (sym (get_or-set_other flags h k (get_or flags h false || r) false n) ∙ o)
+    to k o (yes e) = go (or_cases (get_or flags h false) r (sym here ∙ rw e at o))
       where
-        go : (r : Bool) → Says r P → v ≡ put_on (get_or flags h 0) r → On flags k ⊎ (P × (k ≡ h)) → Dec (k ≡ h) → On (set flags h v) k
-        go true says is w (yes e) = rw (e, here) is
-        go false says is (inl o) (yes e) = rw (e, here) (is ∙ rw e at o)
-        go false says is (inr w) (yes e) = absurd (says w.0)
-        go r says is (inl o) (no n) = get_or-set_other flags h k v 0 n ∙ o
-        go r says is (inr w) (no n) = absurd (n w.1)
+        go : (get_or flags h false ≡ true) ⊎ (r ≡ true) → On flags k ⊎ (P × (k ≡ h))
+        go (inl on) = inl (rw e on)
+        go (inr one) = inr (says-yes r says one, e)
+
+    left-on : (x : Bool) → x ≡ true → (x || r) ≡ true
+    left-on true e = refl
+    left-on false e = absurd (false≢true e)
+
+    right-on : (x : Bool) → r ≡ true → (x || r) ≡ true
+    right-on true e = refl
+    right-on false e = e
+
+    back : (k : ℕ) → On flags k ⊎ (P × (k ≡ h)) → Dec (k ≡ h) → On (set flags h (get_or flags h false || r)) k
+    back k (inl o) (yes e) = rw (e, here) (left-on (get_or flags h false) (rw e at o))
+    back k (inr w) (yes e) = rw (e, here) (right-on (get_or flags h false) (yes-says r says w.0))
+    back k (inl o) (no n) = get_or-set_other flags h k (get_or flags h false || r) false n ∙ o
+    back k (inr w) (no n) = absurd (n w.1)
 
 -- The flags that are left are these.
-pub raised-to : {P : ℕ → Type 0} {first left new : List ℕ} → new ≡ left → Raised first left P → Raised first new P
+pub raised-to : {P : ℕ → Type 0} {first left new : List Bool} → new ≡ left → Raised first left P → Raised first new P
 raised-to is r = rw is r
 
 -- The steps of the walk that lays a pattern around the term at entry h.
@@ -419,17 +418,17 @@ module _ {p y e z : List ℕ} {last i h : ℕ} (l : LayingAround p y last i e z 
   unfolding subterm_at
   mark-found tag = let x = marked-root p i l.pattern tag in record { name = x.0; place = []; stands = ap some x.1 }
 
-  pub mark-laid : MarkedTag (get_or p (4 * i) 0) → {a b : List ℕ} {end : ℕ} → end ≡ h + size (sub_at e h) → Painted a b h end 1
+  pub mark-laid : MarkedTag (get_or p (4 * i) 0) → {a b : List Bool} {end : ℕ} → end ≡ h + size (sub_at e h) → Painted a b h end true
       → Raised a b (MarkAround (sub_at p i) (sub_at e h) h)
   mark-laid tag {end = end} is painted =
       let x = marked-root p i l.pattern tag in
       raised-as (painted-raised painted) (λ k. (let m = marked-around x.0 (sub_at e h) {h = h} {k = k} in rw (x.1, is) (m.1, m.0)))
 
   -- Other symbols.
-  pub around-differ : ¬ MarkedTag (get_or p (4 * i) 0) → ¬ (children_of (get_or p (4 * i) 0) ≡ children_of (get_or e (4 * h) 0)) → {a : List ℕ} {v : ℕ} → length a ≡ 64 → (r : Bool)
-      → Says r (Marked (sub_at p i)) → v ≡ put_on (get_or a h 0) r → Raised a (set a h v) (MarkAround (sub_at p i) (sub_at e h) h)
-  around-differ off other long r says is =
-      raised-as (put-on-raised long flag-inside r says is) (λ k. (let m = differ-around {h = h} {k = k} (no-mark-root off) shape in (m.1, m.0)))
+  pub around-differ : ¬ MarkedTag (get_or p (4 * i) 0) → ¬ (children_of (get_or p (4 * i) 0) ≡ children_of (get_or e (4 * h) 0)) → {a : List Bool} → length a ≡ 64 → (r : Bool)
+      → Says r (Marked (sub_at p i)) → Raised a (set a h (get_or a h false || r)) (MarkAround (sub_at p i) (sub_at e h) h)
+  around-differ off other long r says =
+      raised-as (put-on-raised long flag-inside r says) (λ k. (let m = differ-around {h = h} {k = k} (no-mark-root off) shape in (m.1, m.0)))
     where
       shape : ¬ SameShape (sub_at p i) (sub_at e h)
       shape (pairs a b) = other (sym (two-children (pair-tag p i l.pattern a)) ∙ two-children (pair-tag e h l.term b))
@@ -442,7 +441,7 @@ module _ {p y e z : List ℕ} {last i h : ℕ} (l : LayingAround p y last i e z 
   pub none-behind : last ≤ i → ¬ Marked (sub_at p i)
   none-behind past m = let w = (marks-by-tags {e = p} {i = i} l.pattern refl).1 m in let low = w.above in l.behind w.number (omega arith) w.tag
 
-  pub none-laid : ¬ Marked (sub_at p i) → {a : List ℕ} → length a ≡ 64 → Raised a a (MarkAround (sub_at p i) (sub_at e h) h)
+  pub none-laid : ¬ Marked (sub_at p i) → {a : List Bool} → length a ≡ 64 → Raised a a (MarkAround (sub_at p i) (sub_at e h) h)
   none-laid none long = raised-none long (λ k m. none (around-marked m))
 
   -- The next part on both sides.
@@ -486,19 +485,18 @@ module _ {p y e z : List ℕ} {last i h : ℕ} (l : LayingAround p y last i e z 
       term-whole : sub_at e h ≡ pair (sub_at e (h + 1)) (sub_at e (h + 1 + n))
       term-whole = rw right_is term-pair.term
 
-      pub pair-marked : (a b : Bool) {r : Bool} → r ≡ either a b → Says a (Marked (sub_at p (i + 1))) → Says b (Marked (sub_at p (i + 1 + m))) → Says r (Marked (sub_at p i))
-      unfolding either
-      pair-marked true b is left-says right-says = rw (is, pattern-whole) (marked-pair.1 (inl left-says))
-      pair-marked false b is left-says right-says = rw (is, pattern-whole) (says_same b (λ w. marked-pair.1 (inr w)) (λ w. go (marked-pair.0 w)) right-says)
+      pub pair-marked : (a b : Bool) → Says a (Marked (sub_at p (i + 1))) → Says b (Marked (sub_at p (i + 1 + m))) → Says (a || b) (Marked (sub_at p i))
+      pair-marked true b left-says right-says = rw pattern-whole (marked-pair.1 (inl left-says))
+      pair-marked false b left-says right-says = rw pattern-whole (says_same b (λ w. marked-pair.1 (inr w)) (λ w. go (marked-pair.0 w)) right-says)
         where
           go : Marked (sub_at p (i + 1)) ⊎ Marked (sub_at p (i + 1 + m)) → Marked (sub_at p (i + 1 + m))
           go (inl w) = absurd (left-says w)
           go (inr w) = w
 
-      pub pair-laid-around : {a b c : List ℕ} {v : ℕ} → Raised a b (MarkAround (sub_at p (i + 1)) (sub_at e (h + 1)) (h + 1))
+      pub pair-laid-around : {a b c : List Bool} → Raised a b (MarkAround (sub_at p (i + 1)) (sub_at e (h + 1)) (h + 1))
           → Raised b c (MarkAround (sub_at p (i + 1 + m)) (sub_at e (h + 1 + n)) (h + 1 + n)) → (r : Bool) → Says r (Marked (sub_at p i))
-          → v ≡ put_on (get_or c h 0) r → Raised a (set c h v) (MarkAround (sub_at p i) (sub_at e h) h)
-      pair-laid-around {a} {b} {c} {v} r s t says is = raised-as (raised-twice (raised-twice r s) (put-on-raised s.long flag-inside t says is)) same_flags
+          → Raised a (set c h (get_or c h false || r)) (MarkAround (sub_at p i) (sub_at e h) h)
+      pair-laid-around r s t says = raised-as (raised-twice (raised-twice r s) (put-on-raised s.long flag-inside t says)) same_flags
         where
           same_flags : (k : ℕ) → ((MarkAround (sub_at p (i + 1)) (sub_at e (h + 1)) (h + 1) k ⊎ MarkAround (sub_at p (i + 1 + m)) (sub_at e (h + 1 + n)) (h + 1 + n) k)
               ⊎ (Marked (sub_at p i) × (k ≡ h))) ↔ MarkAround (sub_at p i) (sub_at e h) h k
@@ -524,8 +522,8 @@ module _ {p y e z : List ℕ} {last i h : ℕ} (l : LayingAround p y last i e z 
     wrapped-marked b says =
         rw pattern-wrapped.term (says_same b (λ w. marked-wrapped.1 w) (λ w. marked-wrapped.0 w) says)
 
-    pub wrapped-laid-around : {a b : List ℕ} {v : ℕ} → Raised a b (MarkAround (sub_at p (i + 1)) (sub_at e (h + 1)) (h + 1)) → (r : Bool)
-        → Says r (Marked (sub_at p i)) → v ≡ put_on (get_or b h 0) r → Raised a (set b h v) (MarkAround (sub_at p i) (sub_at e h) h)
-    wrapped-laid-around r t says is = raised-as (raised-twice r (put-on-raised r.long flag-inside t says is)) (λ k. (
+    pub wrapped-laid-around : {a b : List Bool} → Raised a b (MarkAround (sub_at p (i + 1)) (sub_at e (h + 1)) (h + 1)) → (r : Bool)
+        → Says r (Marked (sub_at p i)) → Raised a (set b h (get_or b h false || r)) (MarkAround (sub_at p i) (sub_at e h) h)
+    wrapped-laid-around r t says = raised-as (raised-twice r (put-on-raised r.long flag-inside t says)) (λ k. (
         let w = wrapped-around {h = h} {k = k} pattern-wrapped.wrapping term-wrapped.wrapping pattern-wrapped.key term-wrapped.key (sub_at p (i + 1)) (sub_at e (h + 1)) in
         rw (pattern-wrapped.term, term-wrapped.term) (w.1, w.0)))

@@ -10,7 +10,7 @@ use native.Mathlib.Omega.{arith}
 use native.Mathlib.Decide.{ℕ_discrete}
 use borrow.Author.Rules.{part_to_end}
 use borrow.Author.Tests.{eq-eqb, ne_eqb}
-use lib.ListN.{length, get_or, set, drop, replicate}
+use lib.ListN.{length, set, drop, replicate}
 use Rattle.blocks.specs.Kinds.{secret_kind}
 use Rattle.blocks.specs.Block.{first_count, second_count, first_entries, second_entries}
 use Rattle.terms.specs.First.{Found, FirstNot, fails, holds}
@@ -32,9 +32,9 @@ use Rattle.judge.specs.Laid.{Laid, RuleBlock}
 use Rattle.judge.specs.Cover.{SecretOpenAt, Risky, Covered, sure_hat, in_premise, AtOpenPlace}
 use Rattle.judge.specs.Verdict.{spot_at, no_secret?, open_secret, FineSpot, fine?, uncovered}
 use Rattle.judge.specs.Listed.{SharesListed, IsSecret}
-use Rattle.judge.specs.CoverEntries.{sub_at, On, flag_of, Cleared, Flags, Standing, HatBelow, Entries, OpenEntry, OpenFlags, OpenHolds, Flagged, FlaggedWith, SomeFlagged}
+use Rattle.judge.specs.CoverEntries.{sub_at, On, Cleared, Flags, Standing, HatBelow, Entries, OpenEntry, OpenFlags, OpenHolds, Flagged, FlaggedWith, SomeFlagged}
 use Rattle.judge.specs.CoverEntries.{EntryWith, RiskyEntry, AskedEntry, Wanted, is_secret, is_risky, WantedEntry, FineEntry, Concluded}
-use Rattle.judge.proofs.Covering.Flags.{RaisedBelow, raised-more, raised-over, zero-off, zero_bits}
+use Rattle.judge.proofs.Covering.Flags.{RaisedBelow, raised-more, raised-over, none-at, on?}
 use Rattle.judge.proofs.Stages.ListedLaws.{secret-term, risky-is}
 use Rattle.judge.proofs.Files.Spots.{spot-stands}
 use Rattle.judge.proofs.Covering.Hats.{hat-place}
@@ -48,30 +48,19 @@ pub standing-entries : {file e : List ℕ} {k : ℕ} → Laid file → Entries e
 standing-entries {k = k} laid e inside =
     record { laid = laid; term = begins-at k (e.some_term (omega arith)) inside; inside = inside; short = e.short }
 
-pub standing-flagged : {file e flags : List ℕ} {k : ℕ} → Laid file → Flagged e flags → 4 * k < length e → Standing file e k
+pub standing-flagged : {file e : List ℕ} {flags : List Bool} {k : ℕ} → Laid file → Flagged e flags → 4 * k < length e → Standing file e k
 standing-flagged laid f inside = standing-entries laid f.entries inside
 
-pub flagged-begins : {e flags : List ℕ} (k : ℕ) → Flagged e flags → 4 * k < length e → Begins (from (4 * k) e)
+pub flagged-begins : {e : List ℕ} {flags : List Bool} (k : ℕ) → Flagged e flags → 4 * k < length e → Begins (from (4 * k) e)
 flagged-begins k f inside = begins-at k (f.entries.some_term (omega arith)) inside
 
-pub flagged-below : {e flags : List ℕ} {n : ℕ} → Flagged e flags → length e / 4 ≤ n → (k : ℕ) → On flags k → k < n
+pub flagged-below : {e : List ℕ} {flags : List Bool} {n : ℕ} → Flagged e flags → length e / 4 ≤ n → (k : ℕ) → On flags k → k < n
 flagged-below f past k on =
     let inside = f.within k on in
     let whole = f.entries.whole (λ z. omega arith) in omega arith
 
 pub standing-concluded : {file e : List ℕ} {k : ℕ} → Concluded file e → 4 * k < length e → Standing file e k
 standing-concluded {k = k} w inside = record { laid = w.laid; term = begins-at k w.term inside; inside = inside; short = w.short }
-
--- Searches through the flagged entries.
-pub flagged-holds : (e flags : List ℕ) (P : Term Variable → Type 0) (k : ℕ) → On flags k → (b : Bool) → Says b (P (sub_at e k)) → Says b (FlaggedWith e flags P k)
-flagged-holds e flags P k on b says = says_same b (λ h. record { on = on; holds = h }) (λ w. w.holds) says
-
-module _ {e flags : List ℕ} {P : Term Variable → Type 0} where
-  pub flagged-found : {k : ℕ} → FlaggedWith e flags P k → SomeFlagged e flags P
-  flagged-found w = record { number = _; is = w }
-
-  pub none-flagged : {k : ℕ} → Flagged e flags → length e ≤ 4 * k → ((j : ℕ) → j < k → ¬ FlaggedWith e flags P j) → ¬ SomeFlagged e flags P
-  none-flagged f past empty w = let l = f.within w.number w.is.on in empty w.number (omega arith) w.is
 
 -- A risky place: a variable, or what the search for a secret says.
 module _ (c : Certificate) {t : List ℕ} (b : Begins t) where
@@ -101,11 +90,10 @@ pub concluded-entries : {file e : List ℕ} → Concluded file e → Entries e
 concluded-entries w = record { some_term = λ n. w.term; whole = λ n. w.whole; short = w.short }
 
 -- The entries with P that stand at places, as they are flagged.
-pub entries-flags : {e flags : List ℕ} {P : ℕ → Type 0} {n : ℕ} → Entries e → RaisedBelow flags (λ k. PlaceEntry e k × P k) n → length e / 4 ≡ n
+pub entries-flags : {e : List ℕ} {flags : List Bool} {P : ℕ → Type 0} {n : ℕ} → Entries e → RaisedBelow flags (λ k. PlaceEntry e k × P k) n → length e / 4 ≡ n
     → Flags flags (EntryWith e P)
 entries-flags {e} {n = n} entries w all = record {
   long = w.long;
-  bits = w.bits;
   on = λ k. (
     λ o. (let v = (w.on k).0 o in record { inside = let l = v.0 in omega arith; place = v.1.0; holds = v.1.1 }),
     λ r. (w.on k).1 (below k r.inside, (r.place, r.holds)),
@@ -116,34 +104,32 @@ entries-flags {e} {n = n} entries w all = record {
     below k l = let whole = entries.whole (λ z. omega arith) in omega arith
 
 -- One more place, and up to the next one no other.
-pub places-more : {e flags : List ℕ} {P : ℕ → Type 0} {k n v : ℕ} → RaisedBelow flags (λ j. PlaceEntry e j × P j) k → PlaceEntry e k → k < 64 → (b : Bool)
-    → v ≡ flag_of b → Says b (P k) → k < n → ((j : ℕ) → k < j → j < n → ¬ PlaceEntry e j) → RaisedBelow (set flags k v) (λ j. PlaceEntry e j × P j) n
-places-more w place small b is says further between =
-    raised-over (raised-more w small b is (says_same b (λ p. (place, p)) (λ h. h.1) says)) (omega arith) (λ j low high h. between j (omega arith) high h.0)
+pub places-more : {e : List ℕ} {flags : List Bool} {P : ℕ → Type 0} {k n : ℕ} → RaisedBelow flags (λ j. PlaceEntry e j × P j) k → PlaceEntry e k → k < 64 → (b : Bool)
+    → Says b (P k) → k < n → ((j : ℕ) → k < j → j < n → ¬ PlaceEntry e j) → RaisedBelow (set flags k b) (λ j. PlaceEntry e j × P j) n
+places-more w place small b says further between =
+    raised-over (raised-more w small b (says_same b (λ p. (place, p)) (λ h. h.1) says)) (omega arith) (λ j low high h. between j (omega arith) high h.0)
 
-pub entries-flagged : {e flags : List ℕ} {P : ℕ → Type 0} → Entries e → Flags flags (EntryWith e P) → Flagged e flags
+pub entries-flagged : {e : List ℕ} {flags : List Bool} {P : ℕ → Type 0} → Entries e → Flags flags (EntryWith e P) → Flagged e flags
 entries-flagged entries f = record { entries = entries; long = f.long; within = λ k o. ((f.on k).0 o).inside }
 
 -- The risky entries, if they are asked for.
 module _ {asked : Bool} {c : Certificate} {e : List ℕ} where
-  pub asked-flags : {flags : List ℕ} → asked ≡ true → Flags flags (RiskyEntry c e) → Flags flags (AskedEntry asked c e)
+  pub asked-flags : {flags : List Bool} → asked ≡ true → Flags flags (RiskyEntry c e) → Flags flags (AskedEntry asked c e)
   asked-flags on f = record {
     long = f.long;
-    bits = f.bits;
     on = λ k. (
       λ o. (let w = (f.on k).0 o in record { inside = w.inside; place = w.place; holds = (on, w.holds) }),
       λ w. (f.on k).1 (record { inside = w.inside; place = w.place; holds = w.holds.1 }),
     );
   }
 
-  pub unasked-flags : asked ≡ false → Flags (replicate 64 0) (AskedEntry asked c e)
+  pub unasked-flags : asked ≡ false → Flags (replicate 64 false) (AskedEntry asked c e)
   unasked-flags off =
-      record { long = refl; bits = zero_bits; on = λ k. (λ o. absurd (zero-off k o), λ w. absurd (false≢true (sym off ∙ w.holds.0))) }
+      record { long = refl; on = λ k. (λ o. absurd (none-at k o), λ w. absurd (false≢true (sym off ∙ w.holds.0))) }
 
-  pub flags-asked : {flags : List ℕ} → asked ≡ true → Flags flags (AskedEntry asked c e) → Flags flags (RiskyEntry c e)
+  pub flags-asked : {flags : List Bool} → asked ≡ true → Flags flags (AskedEntry asked c e) → Flags flags (RiskyEntry c e)
   flags-asked on f = record {
     long = f.long;
-    bits = f.bits;
     on = λ k. (
       λ o. (let w = (f.on k).0 o in record { inside = w.inside; place = w.place; holds = w.holds.1 }),
       λ w. (f.on k).1 (record { inside = w.inside; place = w.place; holds = (on, w.holds) }),
@@ -151,16 +137,7 @@ module _ {asked : Bool} {c : Certificate} {e : List ℕ} where
   }
 
 -- The wanted entries of the premise.
-module _ (c : Certificate) (premise conclusion risky : List ℕ) (k : ℕ) where
-  pub wanted-risky : ¬ IsSecret c (sub_at premise k) → (b : Bool) → Says b (SomeFlagged conclusion risky (λ s. s ≡ sub_at premise k))
-      → Says b (Wanted c premise conclusion risky k)
-  wanted-risky off b says = says_same b (λ w. is_risky w) go says
-    where
-      go : Wanted c premise conclusion risky k → SomeFlagged conclusion risky (λ s. s ≡ sub_at premise k)
-      go (is_secret s) = absurd (off s)
-      go (is_risky w) = w
-
-pub wanted-none : {c : Certificate} {premise conclusion risky : List ℕ} {k : ℕ} → ¬ IsSecret c (sub_at premise k)
+pub wanted-none : {c : Certificate} {premise conclusion : List ℕ} {risky : List Bool} {k : ℕ} → ¬ IsSecret c (sub_at premise k)
     → ¬ SomeFlagged conclusion risky (λ s. s ≡ sub_at premise k) → ¬ Wanted c premise conclusion risky k
 wanted-none off empty (is_secret s) = off s
 wanted-none off empty (is_risky w) = empty w
@@ -172,7 +149,7 @@ pub record PremiseIs (e : List ℕ) (premise : Option (Term Variable)) : Type 0 
   pub term : ¬ (length e ≡ 0) → premise ≡ some (term_of e)
 
 -- Among the flags of open entries, those of a claim that makes an entry wanted are all that hold it.
-pub open-flags : {c : Certificate} {e wanted opened : List ℕ} → OpenFlags c e wanted opened → (P : Term Variable → Type 0)
+pub open-flags : {c : Certificate} {e : List ℕ} {wanted opened : List Bool} → OpenFlags c e wanted opened → (P : Term Variable → Type 0)
     → ((k : ℕ) → On wanted k → PlaceEntry e k) → ((k : ℕ) → PlaceEntry e k → OpenEntry c e k → P (sub_at e k) → On wanted k)
     → SomeFlagged e opened P ↔ OpenHolds c e P
 open-flags f P place want = (
@@ -221,7 +198,7 @@ module _ {file : List ℕ} (laid : Laid file) (rule : Rule) {e : List ℕ} (is :
           }
 
   -- Number 15, by the flags of the open entries among those that are wanted, with all secrets at places among them.
-  module _ {conclusion risky wanted opened : List ℕ} (f : OpenFlags (certificate_of file) e wanted opened)
+  module _ {conclusion : List ℕ} {risky wanted opened : List Bool} (f : OpenFlags (certificate_of file) e wanted opened)
       (want : Flags wanted (WantedEntry (certificate_of file) e conclusion risky)) where
     abbrev FlaggedSecret : ℕ → Type 0
     FlaggedSecret = FlaggedWith e opened (IsSecret (certificate_of file))
@@ -281,7 +258,7 @@ module _ {file : List ℕ} (laid : Laid file) (rule : Rule) {e : List ℕ} (is :
             (rw count at found)))
 
   -- Number 12, by the flags of the open entries among the wanted ones.
-  module _ {conclusion risky wanted opened : List ℕ} (want : Flags wanted (WantedEntry (certificate_of file) e conclusion risky))
+  module _ {conclusion : List ℕ} {risky wanted opened : List Bool} (want : Flags wanted (WantedEntry (certificate_of file) e conclusion risky))
       (f : OpenFlags (certificate_of file) e wanted opened) where
     -- The places of the conclusion, entry by entry.
     module _ (concluded : Concluded file conclusion) (term : rule.conclusion ≡ term_of conclusion)
@@ -318,7 +295,7 @@ module _ {file : List ℕ} (laid : Laid file) (rule : Rule) {e : List ℕ} (is :
       fine-at k inside = fine-entry k (spot-placed rule.conclusion k ([], rule.conclusion) inside)
 
       -- A flag that is left on is at an entry that is not fine, and the others are at fine ones.
-      module _ {bare left : List ℕ} (b : Cleared risky bare (λ k. SomeFlagged e opened (λ s. s ≡ sub_at conclusion k)))
+      module _ {bare left : List Bool} (b : Cleared risky bare (λ k. SomeFlagged e opened (λ s. s ≡ sub_at conclusion k)))
           (l : Cleared bare left (HatBelow (certificate_of file) conclusion (size (term_of conclusion)))) where
         stands-open : (k : ℕ) → On risky k → SomeFlagged e opened (λ s. s ≡ sub_at conclusion k) ↔ OpenHolds (certificate_of file) e (λ s. s ≡ sub_at conclusion k)
         stands-open k o = open-flags f (λ s. s ≡ sub_at conclusion k) (λ j on. ((want.on j).0 on).place) (λ j place w same. (want.on j).1 (record {
@@ -342,7 +319,7 @@ module _ {file : List ℕ} (laid : Laid file) (rule : Rule) {e : List ℕ} (is :
         fine : (k : ℕ) → k < size (term_of conclusion) → ¬ On left k → FineEntry (certificate_of file) e conclusion k
         fine k inside off = record {
           covered = λ place r. (
-              let on : On risky k = (g.on k).1 (record { inside = let w = concluded.whole in omega arith; place = place; holds = r }) in go on (ℕ_discrete (get_or bare k 0) 1)
+              let on : On risky k = (g.on k).1 (record { inside = let w = concluded.whole in omega arith; place = place; holds = r }) in go on (on? bare k)
               );
         }
           where

@@ -1,6 +1,7 @@
 -- Laws of sure hats on the entries: what laying the patterns of one kind covers, what the marked bad ones take away, and what
 -- is then left at every entry. Assumes nothing.
 use mathlib.Core.Path.{◌≡◌, refl, sym, ap, subst, ◌∙◌}
+use mathlib.Core.Bool.{Bool, false}
 use mathlib.Core.List.{List, ◌∷◌}
 use mathlib.Core.Logic.{◌⊎◌, inl, inr, ◌↔◌}
 use Prim.Native.Nat.{ℕ, ◌+◌, ◌*◌, ◌-◌, ◌<◌, ◌≤◌}
@@ -30,11 +31,11 @@ use Rattle.judge.specs.Hat.{Marked}
 use Rattle.judge.specs.Cover.{SureHat}
 use Rattle.judge.specs.Listed.{atoms_in, listed_of, AnyListed, HoldsAt, HeldAmong, Searching, SharesUnmarked, TermPart, listed_rows, mark_slot, SizesIn}
 use Rattle.judge.specs.CoverEntries.{sub_at, On, Raised, Cleared, SomeOn, SomeBoth, Flags, MarkAround, Lays, LaysAround, MayCancelOver, Laying, LayingAround, Standing, HatOver, HatBelow}
-use Rattle.judge.proofs.Covering.Flags.{raised-none, raised-as, raised-twice, zero-off, zero_bits, cleared-none, cleared-as, cleared-twice}
+use Rattle.judge.proofs.Covering.Flags.{raised-none, raised-as, raised-twice, none-at, on?, cleared-none, cleared-as, cleared-twice}
 use Rattle.judge.proofs.Covering.Around.{around-marked}
 use Rattle.judge.proofs.Covering.Marks.{mark-inside, mark-place, may-cancel-place}
 use Rattle.judge.proofs.Stages.Listing.{one_found, none_found, held_at, one-among}
-use Rattle.judge.proofs.Stages.Tables.{none-marked}
+use Rattle.judge.proofs.Stages.Tables.{unmarked-counts, none-marked}
 
 -- What a search at entry h asks for.
 pub searching-at : {file e : List ℕ} {h kind : ℕ} → Standing file e h → ListsTerm kind → Searching file kind (from (4 * h) e)
@@ -52,10 +53,10 @@ standing-end {e = e} {h = h} s is =
 pub pattern-laying : {file e p : List ℕ} {h i : ℕ} → Standing file e h → TermPart file i p → Becomes (term_of p) (sub_at e h) → Laying p e h
 pattern-laying s part match = record { pattern = part.term; term = s.term; match = match; inside = let l = s.inside in omega arith; short = s.short }
 
--- What one block raises: of this kind, and of another.
+-- What one block of this kind raises.
 module _ {file : List ℕ} {kind i : ℕ} where
   pub pattern-raised : (P : ℕ → Term Variable → Type 0) {Q : ℕ → Type 0} → kind_of (block_at file i) ≡ kind → {p : List ℕ} → TermPart file i p
-      → ((k : ℕ) → Q k ↔ P k (term_of p)) → {old new : List ℕ} → Raised old new Q → Raised old new (λ k. HoldsAt file kind (P k) i)
+      → ((k : ℕ) → Q k ↔ P k (term_of p)) → {old new : List Bool} → Raised old new Q → Raised old new (λ k. HoldsAt file kind (P k) i)
   unfolding pattern_of
   pattern-raised P is part same r =
       let term = ap term_of part.part in
@@ -64,14 +65,10 @@ module _ {file : List ℕ} {kind i : ℕ} where
         λ w. (same k).1 (subst (P k) (sym term) w.holds),
       ))
 
-  pub no-match-raised : {u : Term Variable} {h : ℕ} {p : List ℕ} → TermPart file i p → {old : List ℕ} → length old ≡ 64 → ¬ Matches (atoms_in file) (term_of p) u
+  pub no-match-raised : {u : Term Variable} {h : ℕ} {p : List ℕ} → TermPart file i p → {old : List Bool} → length old ≡ 64 → ¬ Matches (atoms_in file) (term_of p) u
       → Raised old old (λ k. HoldsAt file kind (Lays (atoms_in file) u h k) i)
   unfolding pattern_of
   no-match-raised {u} {h} part long off = raised-none long (λ k w. off (rw (← (ap term_of part.part)) at w.holds.0))
-
-  pub other-raised : {P : ℕ → Term Variable → Type 0} {old : List ℕ} → length old ≡ 64 → ¬ (kind_of (block_at file i) ≡ kind)
-      → Raised old old (λ k. HoldsAt file kind (P k) i)
-  other-raised long off = raised-none long (λ k w. off w.has_kind)
 
 -- A marked bad pattern laid around the term at entry h; one that shares no instance with it, and one without marks.
 pub exception-laying : {file e y z t : List ℕ} {h i : ℕ} → Standing file e h → TermPart file i t → SizesOf t y → SizesOf e z
@@ -90,7 +87,7 @@ exception-laying {t = t} s part pattern_sizes sizes behind = record {
 
 module _ {file : List ℕ} {i : ℕ} {u : Term Variable} {h : ℕ} where
   -- Its flags are put off if it shares an instance with the term.
-  pub exception-dropped : kind_of (block_at file i) ≡ bad_kind → {t : List ℕ} → TermPart file i t → {old new around : List ℕ}
+  pub exception-dropped : kind_of (block_at file i) ≡ bad_kind → {t : List ℕ} → TermPart file i t → {old new around : List Bool}
       → Flags around (MarkAround (sub_at t 0) u h) → HeldAmong file bad_kind (λ p. Share (atoms_in file) p u) i (i + 1) → Cleared old new (On around)
       → Cleared old new (λ k. HoldsAt file bad_kind (LaysAround (atoms_in file) u h k) i)
   unfolding pattern_of
@@ -102,26 +99,19 @@ module _ {file : List ℕ} {i : ℕ} {u : Term Variable} {h : ℕ} where
         λ w. (f.on k).1 (rw term w.holds.1),
       ))
 
-  -- Nothing has to be put off: it shares none, has its marks elsewhere, has no marks, or is of another kind.
-  module _ {old : List ℕ} (long : length old ≡ 64) where
-    pub exception-apart : ¬ HeldAmong file bad_kind (λ p. Share (atoms_in file) p u) i (i + 1) → Cleared old old (λ k. HoldsAt file bad_kind (LaysAround (atoms_in file) u h k) i)
-    exception-apart off =
-        cleared-none long (λ k o w. off ((one-among (λ p. Share (atoms_in file) p u)).1 (record { has_kind = w.has_kind; holds = w.holds.0 })))
-
-    pub exception-beside : {t : List ℕ} → TermPart file i t → {around : List ℕ} → Flags around (MarkAround (sub_at t 0) u h) → ¬ SomeBoth old around
+  -- Nothing has to be put off: it has its marks elsewhere, or none.
+  module _ {old : List Bool} (long : length old ≡ 64) where
+    pub exception-beside : {t : List ℕ} → TermPart file i t → {around : List Bool} → Flags around (MarkAround (sub_at t 0) u h) → ¬ SomeBoth old around
         → Cleared old old (λ k. HoldsAt file bad_kind (LaysAround (atoms_in file) u h k) i)
     unfolding pattern_of
     exception-beside {t} part f off =
         let term : sub_at t 0 ≡ pattern_of (block_at file i) = ap term_of (from_start t ∙ part.part) in
         cleared-none long (λ k o w. off (record { number = k; on = o; other = (f.on k).1 (rw term w.holds.1) }))
 
-    pub exception-unmarked : {sizes : List ℕ} → SizesIn file sizes → i < block_count file → kind_of (block_at file i) ≡ bad_kind
+    pub exception-unmarked : {sizes : List ℕ} → ∥ SizesIn file sizes ∥₁ → i < block_count file → kind_of (block_at file i) ≡ bad_kind
         → get_or sizes (mark_slot i) 0 ≡ 0 → Cleared old old (λ k. HoldsAt file bad_kind (LaysAround (atoms_in file) u h k) i)
     exception-unmarked all inside is none =
-        cleared-none long (λ k o w. (all.rows.marks i inside (bad-lists is)).marked.1 (is, around-marked w.holds.1) none)
-
-    pub exception-other : ¬ (kind_of (block_at file i) ≡ bad_kind) → Cleared old old (λ k. HoldsAt file bad_kind (LaysAround (atoms_in file) u h k) i)
-    exception-other off = cleared-none long (λ k o w. off w.has_kind)
+        cleared-none long (λ k o w. unmarked-counts all inside (bad-lists is) refl none (is, around-marked w.holds.1))
 
 -- Block after block, from the last one back: a block from number n on holds one.
 abbrev pub HeldFrom : List ℕ → ℕ → (Term Variable → Type 0) → ℕ → Type 0
@@ -156,35 +146,32 @@ module _ {file : List ℕ} {kind : ℕ} (P : Term Variable → Type 0) where
 
 module _ {file : List ℕ} {kind : ℕ} {P : ℕ → Term Variable → Type 0} where
   -- Flags raised so.
-  pub held_none : {n : ℕ} {old : List ℕ} → length old ≡ 64 → n ≡ block_count file → Raised old old (λ k. HeldFrom file kind (P k) n)
+  pub held_none : {n : ℕ} {old : List Bool} → length old ≡ 64 → n ≡ block_count file → Raised old old (λ k. HeldFrom file kind (P k) n)
   held_none long all = raised-none long (λ k w. (let l = w.above in let g = w.below in omega arith))
 
-  pub held_more : {n : ℕ} {a b c : List ℕ} → 0 < n → n ≤ block_count file → Raised a b (λ k. HeldFrom file kind (P k) n)
+  pub held_more : {n : ℕ} {a b c : List Bool} → 0 < n → n ≤ block_count file → Raised a b (λ k. HeldFrom file kind (P k) n)
       → Raised b c (λ k. HoldsAt file kind (P k) (n - 1)) → Raised a c (λ k. HeldFrom file kind (P k) (n - 1))
   held_more some_left within r s = raised-as (raised-twice r s) (λ k. held-step (P k) some_left within)
 
-  pub held_all : {n : ℕ} → Laid file → ListsTerm kind → n ≡ 0 → {old new : List ℕ} → Raised old new (λ k. HeldFrom file kind (P k) n)
+  pub held_all : {n : ℕ} → Laid file → ListsTerm kind → n ≡ 0 → {old new : List Bool} → Raised old new (λ k. HeldFrom file kind (P k) n)
       → Raised old new (λ k. AnyListed (certificate_of file) kind (P k))
   held_all laid lists none_left r = raised-as r (λ k. held-listed (P k) laid lists (λ i inside is. omega arith))
 
   pub held-lower : {n m : ℕ} → Laid file → ListsTerm kind → n < block_count file → m ≡ kind_of (block_at file n) → m < kind
-      → {old new : List ℕ} → Raised old new (λ k. HeldFrom file kind (P k) n) → Raised old new (λ k. AnyListed (certificate_of file) kind (P k))
+      → {old new : List Bool} → Raised old new (λ k. HeldFrom file kind (P k) n) → Raised old new (λ k. AnyListed (certificate_of file) kind (P k))
   held-lower laid lists here has_kind lower r = raised-as r (λ k. held_below (P k) laid lists here has_kind lower)
 
   -- And put off so.
-  pub dropped-none : {n : ℕ} {old : List ℕ} → length old ≡ 64 → n ≡ block_count file → Cleared old old (λ k. HeldFrom file kind (P k) n)
-  dropped-none long all = cleared-none long (λ k o w. (let l = w.above in let g = w.below in omega arith))
-
-  pub dropped-more : {n : ℕ} {a b c : List ℕ} → 0 < n → n ≤ block_count file → Cleared a b (λ k. HeldFrom file kind (P k) n)
+  pub dropped-more : {n : ℕ} {a b c : List Bool} → 0 < n → n ≤ block_count file → Cleared a b (λ k. HeldFrom file kind (P k) n)
       → Cleared b c (λ k. HoldsAt file kind (P k) (n - 1)) → Cleared a c (λ k. HeldFrom file kind (P k) (n - 1))
   dropped-more some_left within r s = cleared-as (cleared-twice r s) (λ k. held-step (P k) some_left within)
 
-  pub dropped-all : {n : ℕ} → Laid file → ListsTerm kind → n ≡ 0 → {old new : List ℕ} → Cleared old new (λ k. HeldFrom file kind (P k) n)
+  pub dropped-all : {n : ℕ} → Laid file → ListsTerm kind → n ≡ 0 → {old new : List Bool} → Cleared old new (λ k. HeldFrom file kind (P k) n)
       → Cleared old new (λ k. AnyListed (certificate_of file) kind (P k))
   dropped-all laid lists none_left r = cleared-as r (λ k. held-listed (P k) laid lists (λ i inside is. omega arith))
 
   pub dropped-lower : {n m : ℕ} → Laid file → ListsTerm kind → n < block_count file → m ≡ kind_of (block_at file n) → m < kind
-      → {old new : List ℕ} → Cleared old new (λ k. HeldFrom file kind (P k) n) → Cleared old new (λ k. AnyListed (certificate_of file) kind (P k))
+      → {old new : List Bool} → Cleared old new (λ k. HeldFrom file kind (P k) n) → Cleared old new (λ k. AnyListed (certificate_of file) kind (P k))
   dropped-lower laid lists here has_kind lower r = cleared-as r (λ k. held_below (P k) laid lists here has_kind lower)
 
 -- The term at entry h as a hat: what the good patterns lay and no marked bad one lies around is put off, if no bad pattern
@@ -207,9 +194,9 @@ module _ {c : Certificate} {u : Term Variable} {h : ℕ} where
           not-bad bad listed share (inl off) = fine (record { term = bad; listed = listed; holds = (λ m. off m.1, share) })
           not-bad bad listed share (inr m) = w.1 (record { term = bad; listed = listed; holds = (share, m) })
 
-  pub hat-taken : {old new marked hats : List ℕ} → Flags marked (λ k. AnyListed c good_kind (Lays c.atoms u h k))
+  pub hat-taken : {old new marked hats : List Bool} → Flags marked (λ k. AnyListed c good_kind (Lays c.atoms u h k))
       → Cleared marked hats (λ k. AnyListed c bad_kind (LaysAround c.atoms u h k)) → ¬ SharesUnmarked c u → Cleared old new (On hats) → Cleared old new (HatOver c u h)
-  hat-taken {marked = marked} {hats = hats} f d fine r = cleared-as r (λ k. (λ o. to k (d.kept k o), λ w. back k ((hat-is fine k).1 w) (ℕ_discrete (get_or hats k 0) 1)))
+  hat-taken {marked = marked} {hats = hats} f d fine r = cleared-as r (λ k. (λ o. to k (d.kept k o), λ w. back k ((hat-is fine k).1 w) (on? hats k)))
     where
       to : (k : ℕ) → On marked k × ¬ AnyListed c bad_kind (LaysAround c.atoms u h k) → HatOver c u h k
       to k w = (hat-is fine k).0 ((f.on k).0 w.0, w.1)
@@ -218,26 +205,26 @@ module _ {c : Certificate} {u : Term Variable} {h : ℕ} where
       back k w (yes on) = on
       back k w (no off) = absurd (w.1 (d.gone k ((f.on k).1 w.0) off))
 
-  pub hat-shares : {old : List ℕ} → length old ≡ 64 → SharesUnmarked c u → Cleared old old (HatOver c u h)
+  pub hat-shares : {old : List Bool} → length old ≡ 64 → SharesUnmarked c u → Cleared old old (HatOver c u h)
   unfolding listed_of
   hat-shares long shares = cleared-none long (λ k o w. w.not_bad shares.term shares.listed shares.holds.1 (inl (λ m. shares.holds.0 (refl, m))))
 
-pub marked-flags : {P : ℕ → Type 0} {new : List ℕ} → Raised (replicate 64 0) new P → Flags new P
-marked-flags {P} {new} r = record { long = r.long; bits = r.bits zero_bits; on = λ k. (λ o. to k ((r.on k).0 o), λ h. (r.on k).1 (inr h)) }
+pub marked-flags : {P : ℕ → Type 0} {new : List Bool} → Raised (replicate 64 false) new P → Flags new P
+marked-flags {P} {new} r = record { long = r.long; on = λ k. (λ o. to k ((r.on k).0 o), λ h. (r.on k).1 (inr h)) }
   where
-    to : (k : ℕ) → On (replicate 64 0) k ⊎ P k → P k
-    to k (inl o) = absurd (zero-off k o)
+    to : (k : ℕ) → On (replicate 64 false) k ⊎ P k → P k
+    to k (inl o) = absurd (none-at k o)
     to k (inr h) = h
 
 -- Where no bad pattern is marked, there is no exception.
-module _ {file sizes : List ℕ} (laid : Laid file) (all : SizesIn file sizes) (off : ¬ (get_or sizes listed_rows 0 ≡ 1)) where
+module _ {file sizes : List ℕ} (laid : Laid file) (all : ∥ SizesIn file sizes ∥₁) (off : ¬ (get_or sizes listed_rows 0 ≡ 1)) where
   marked-only : (P : Term Variable → Type 0) → ((p : Term Variable) → P p → Marked p) → ¬ AnyListed (certificate_of file) bad_kind P
   marked-only P marked a = none-marked laid all off (record { term = a.term; listed = a.listed; holds = marked a.term a.holds })
 
-  pub no-exceptions : {u : Term Variable} {h : ℕ} {old : List ℕ} → length old ≡ 64 → Cleared old old (λ k. AnyListed (certificate_of file) bad_kind (LaysAround (atoms_in file) u h k))
+  pub no-exceptions : {u : Term Variable} {h : ℕ} {old : List Bool} → length old ≡ 64 → Cleared old old (λ k. AnyListed (certificate_of file) bad_kind (LaysAround (atoms_in file) u h k))
   no-exceptions {u} {h} long = cleared-none long (λ k o. marked-only (LaysAround (atoms_in file) u h k) (λ p w. around-marked w.1))
 
-  pub none-excepted : {u : Term Variable} {h : ℕ} → Flags (replicate 64 0) (λ k. AnyListed (certificate_of file) bad_kind (Lays (atoms_in file) u h k))
+  pub none-excepted : {u : Term Variable} {h : ℕ} → Flags (replicate 64 false) (λ k. AnyListed (certificate_of file) bad_kind (Lays (atoms_in file) u h k))
   none-excepted {u} {h} = marked-flags (raised-none refl (λ k. marked-only (Lays (atoms_in file) u h k) (λ p w. around-marked (inl w.1))))
 
 -- A good pattern is an encryption, and so is what it matches.
@@ -265,7 +252,7 @@ encryption-tag e h b = (
 )
 
 -- No flag is put off by what is no encryption, or where none is on below it.
-module _ {file e : List ℕ} {h : ℕ} (s : Standing file e h) {old : List ℕ} (long : length old ≡ 64) where
+module _ {file e : List ℕ} {h : ℕ} (s : Standing file e h) {old : List Bool} (long : length old ≡ 64) where
   pub no-encryption : ¬ (get_or e (4 * h) 0 ≡ 3) → Cleared old old (HatOver (certificate_of file) (sub_at e h) h)
   no-encryption off =
       cleared-none long (λ k o w. off ((encryption-tag e h s.term).0 (match-encryption (good-encryption s.laid w.listed) (becomes w.match))))
@@ -276,10 +263,7 @@ module _ {file e : List ℕ} {h : ℕ} (s : Standing file e h) {old : List ℕ} 
       none (record { number = k; above = let l = inside.0 in omega arith; below = let l = inside.1 in omega arith; on = o }))
 
 -- Entry after entry.
-pub hats-none : {c : Certificate} {e flags : List ℕ} → length flags ≡ 64 → Cleared flags flags (HatBelow c e 0)
-hats-none long = cleared-none long (λ k o w. (let l = w.before in omega arith))
-
-pub hats-more : {c : Certificate} {e : List ℕ} {h : ℕ} {first old new : List ℕ} → Cleared first old (HatBelow c e h) → Cleared old new (HatOver c (sub_at e h) h)
+pub hats-more : {c : Certificate} {e : List ℕ} {h : ℕ} {first old new : List Bool} → Cleared first old (HatBelow c e h) → Cleared old new (HatOver c (sub_at e h) h)
     → Cleared first new (HatBelow c e (h + 1))
 hats-more {c} {e} {h} r s = cleared-as (cleared-twice r s) (λ k. (to k, λ w. back k w (ℕ_discrete w.over h)))
   where
@@ -290,9 +274,6 @@ hats-more {c} {e} {h} r s = cleared-as (cleared-twice r s) (λ k. (to k, λ w. b
     back : (k : ℕ) (w : HatBelow c e (h + 1) k) → Dec (w.over ≡ h) → HatBelow c e h k ⊎ HatOver c (sub_at e h) h k
     back k w (yes is) = inr (rw is at w.hat)
     back k w (no off) = inl (record { over = w.over; before = let l = w.before in omega arith; hat = w.hat })
-
-pub hats-all : {c : Certificate} {e first new : List ℕ} {h n : ℕ} → Cleared first new (HatBelow c e h) → h ≡ n → Cleared first new (HatBelow c e n)
-hats-all f is = rw is at f
 
 -- What stands strictly above a place stands at or above it.
 above_at : {q p : Place} → StrictlyAbove q p → AtOrAbove q p

@@ -1,39 +1,30 @@
 -- Laws of the table of flagged entries by the slots of their roots. Assumes nothing.
 use mathlib.Core.Path.{◌≡◌, refl, sym, ap, ◌∙◌}
+use mathlib.Core.Bool.{Bool}
 use mathlib.Core.List.{List}
-use Prim.Native.Nat.{ℕ, ◌+◌, ◌*◌, ◌/◌, ◌-◌, ◌<◌, ◌≤◌}
+use Prim.Native.Nat.{ℕ, ◌+◌, ◌*◌, ◌-◌, ◌<◌}
 use native.Mathlib.Omega.{arith}
 use native.Mathlib.Decide.{ℕ_discrete}
-use lib.Dec.{eqb}
 use lib.ListN.{length, get_or, set, length-set, replicate}
 use lib.Seq.{get_or-set_same, get_or-set_other}
 use Rattle.blocks.specs.Kinds.{secret_kind}
 use Rattle.blocks.proofs.KindLaws.{secret-lists}
 use Rattle.terms.specs.Entry.{Begins, term_of, from}
-use Rattle.terms.proofs.AnswerLaws.{says_eq}
-use Rattle.terms.specs.Decisions.{Says, says_same}
 use Rattle.judge.specs.File.{block_count, pattern_of, certificate_of}
 use Rattle.judge.specs.Laid.{Laid}
 use Rattle.judge.specs.Listed.{root_slots, slot_at, RootsOf, IsSecret, HoldsAt}
 use Rattle.judge.proofs.Stages.Listing.{none_found}
 use Rattle.judge.specs.CoverEntries.{On, Flagged, SomeFlagged, IndexedBelow, Indexed}
 use Rattle.judge.proofs.Covering.Flags.{zero-at}
-use Rattle.judge.proofs.Stages.Roots.{slot_same}
+use Rattle.judge.proofs.Stages.Roots.{slot_same, root-flagged}
 use Rattle.judge.proofs.Covering.Covers.{flagged-begins, flagged-below}
 
 -- Nothing is noted yet.
-pub index-none : {e flags : List ℕ} → IndexedBelow e flags 0 (replicate root_slots 0)
+pub index-none : {e : List ℕ} {flags : List Bool} → IndexedBelow e flags 0 (replicate root_slots 0)
 index-none = record { long = refl; points = λ s off. absurd (off (zero-at root_slots s)); noted = λ k l. absurd (omega arith) }
 
--- One entry more, which is flagged or not.
-module _ {e flags index : List ℕ} {k : ℕ} (w : IndexedBelow e flags k index) where
-  pub index-skip : ¬ On flags k → IndexedBelow e flags (k + 1) index
-  index-skip off = record { long = w.long; points = w.points; noted = λ j l on. noted j l on (ℕ_discrete j k) }
-    where
-      noted : (j : ℕ) → j < k + 1 → On flags j → Dec (j ≡ k) → ¬ (get_or index (slot_at (from (4 * j) e)) 0 ≡ 0)
-      noted j l on (yes is) = absurd (off (rw is at on))
-      noted j l on (no ne) = w.noted j (omega arith) on
-
+-- One entry more, which is flagged.
+module _ {e : List ℕ} {flags : List Bool} {index : List ℕ} {k : ℕ} (w : IndexedBelow e flags k index) where
   pub index-more : {r : ℕ} → r ≡ slot_at (from (4 * k) e) → r < root_slots → On flags k → IndexedBelow e flags (k + 1) (set index r (k + 1))
   index-more {r} is small on = record {
     long = length-set index r (k + 1) ∙ w.long;
@@ -57,12 +48,8 @@ module _ {e flags index : List ℕ} {k : ℕ} (w : IndexedBelow e flags k index)
           go (yes same) old = ne (ap (λ (n : ℕ). slot_at (from (4 * n) e)) same ∙ sym is)
           go (no off) old = w.noted j (omega arith) o old
 
--- All of them.
-pub index-all : {e flags index : List ℕ} {k : ℕ} → Flagged e flags → IndexedBelow e flags k index → length e / 4 ≤ k → Indexed e flags index
-index-all f w past = record { long = w.long; points = w.points; noted = λ j l on. w.noted j (flagged-below f past j on) on }
-
 -- What the table says of a term: it points at a flagged entry, or no flagged entry has the term.
-module _ {e flags index t : List ℕ} (f : Flagged e flags) (w : Indexed e flags index) (b : Begins t) {n : ℕ} (is : n ≡ get_or index (slot_at t) 0) where
+module _ {e : List ℕ} {flags : List Bool} {index t : List ℕ} (f : Flagged e flags) (w : Indexed e flags index) (b : Begins t) {n : ℕ} (is : n ≡ get_or index (slot_at t) 0) where
   pub index-absent : n ≡ 0 → ¬ SomeFlagged e flags (λ s. s ≡ term_of t)
   index-absent none v =
       let on = v.is.on in
@@ -75,19 +62,12 @@ module _ {e flags index t : List ℕ} (f : Flagged e flags) (w : Indexed e flags
       let on : On flags (n - 1) = rw is (w.points (slot_at t) (λ z. off (is ∙ z))) in (on, f.within (n - 1) on)
 
 -- No secret has the slot of the term's root: it is none.
-pub no-slot-secret : {file roots t : List ℕ} → Laid file → RootsOf file roots → Begins t → get_or roots (slot_at t) 0 ≡ 0 → ¬ IsSecret (certificate_of file) (term_of t)
+pub no-slot-secret : {file roots t : List ℕ} → Laid file → ∥ RootsOf file roots ∥₁ → Begins t → get_or roots (slot_at t) 0 ≡ 0 → ¬ IsSecret (certificate_of file) (term_of t)
 unfolding pattern_of
 no-slot-secret {file} {roots} {t} laid flags b absent = none_found laid secret_kind (λ p. p ≡ term_of t) apart
   where
     apart : (i : ℕ) → i < block_count file → HoldsAt file secret_kind (λ p. p ≡ term_of t) i → ⊥
     apart i inside h =
         let start = (laid.terms i inside (secret-lists h.has_kind)).term in
-        let on : get_or roots (slot_at t) 0 ≡ 1 = ap (λ (n : ℕ). get_or roots n 0) (sym (slot_same start b h.holds)) ∙ flags.flagged i inside h.has_kind in
+        let on : get_or roots (slot_at t) 0 ≡ 1 = ap (λ (n : ℕ). get_or roots n 0) (sym (slot_same start b h.holds)) ∙ root-flagged flags i inside h.has_kind in
         omega (arith, absent)
-
--- The first number is 0, and a test tells whether the second is.
-pub both_zero : {x y a b : ℕ} → x ≡ a → y ≡ b → x ≡ 0 → Says (eqb y 0) ((a ≡ 0) × (b ≡ 0))
-both_zero {x} {y} {a} {b} p q z = says_same (eqb y 0) to (λ w. q ∙ w.1) (says_eq y 0)
-  where
-    to : y ≡ 0 → (a ≡ 0) × (b ≡ 0)
-    to e = (sym p ∙ z, sym q ∙ e)

@@ -1,6 +1,7 @@
 -- Laws of marks: what a pattern laid on a term covers, by the pattern's symbol, and the same by places, with what a bad pattern
 -- cancels. Assumes nothing.
 use mathlib.Core.Path.{◌≡◌, refl, sym, ap, ◌∙◌}
+use mathlib.Core.Bool.{Bool, true}
 use mathlib.Core.List.{List, [], ◌∷◌, ◌++◌, append_assoc}
 use mathlib.Core.Logic.{◌⊎◌, inl, inr, ◌↔◌}
 use mathlib.Core.Option.{some, none-ne-some}
@@ -268,9 +269,6 @@ module _ {p e : List ℕ} {h : ℕ} (l : Laying p e h) where
     pub left-begins : Begins (from (4 * (h + 1)) e)
     left-begins = begins (from-reads e (4 * (h + 1)) w.left-term)
 
-    pub left-within : 4 * (h + 1) ≤ length e
-    left-within = let b = left-begins.room in omega (arith, from-length (4 * (h + 1)) e)
-
     pub left-laying : Laying (from 4 p) e (h + 1)
     left-laying = next w.first.below w.left-term w.left-match
 
@@ -282,7 +280,7 @@ module _ {p e : List ℕ} {h : ℕ} (l : Laying p e h) where
       pub right-laying : Laying (from (4 * (1 + i)) p) e (h + 1 + j)
       right-laying = rw right-entry (next (right-begins w.first past) w.right-term w.right-match)
 
-      pub pair-raised : {a b c : List ℕ} → Raised a b (MarkOver (term_of (from 4 p)) (sub_at e (h + 1)) (h + 1))
+      pub pair-raised : {a b c : List Bool} → Raised a b (MarkOver (term_of (from 4 p)) (sub_at e (h + 1)) (h + 1))
           → Raised b c (MarkOver (term_of (from (4 * (1 + i)) p)) (sub_at e (h + 1 + j)) (h + 1 + j)) → Raised a c (MarkOver (term_of p) (sub_at e h) h)
       pair-raised r s = raised-as (raised-twice r s) same
         where
@@ -338,7 +336,7 @@ module _ {p e : List ℕ} {h : ℕ} (l : Laying p e h) where
     pub content-laying : Laying (from 4 p) e (h + 1)
     content-laying = next w.first.below w.content-term w.content-match
 
-    pub wrapped-raised : {a b : List ℕ} → Raised a b (MarkOver (term_of (from 4 p)) (sub_at e (h + 1)) (h + 1))
+    pub wrapped-raised : {a b : List Bool} → Raised a b (MarkOver (term_of (from 4 p)) (sub_at e (h + 1)) (h + 1))
         → Raised a b (MarkOver (term_of p) (sub_at e h) h)
     wrapped-raised r = raised-as r same
       where
@@ -351,7 +349,7 @@ module _ {p e : List ℕ} {h : ℕ} (l : Laying p e h) where
             rw (term_of-reads w.first.below, term_of-reads w.first.whole, content-is, w.term) (m.1, m.0)
 
   -- A mark: every entry of the term is at or below it.
-  pub mark-raised : MarkedTag (tag_at p) → {a b : List ℕ} {r : ℕ} → r ≡ size (sub_at e h) → Painted a b h (h + r) 1 → Raised a b (MarkOver (term_of p) (sub_at e h) h)
+  pub mark-raised : MarkedTag (tag_at p) → {a b : List Bool} {r : ℕ} → r ≡ size (sub_at e h) → Painted a b h (h + r) true → Raised a b (MarkOver (term_of p) (sub_at e h) h)
   mark-raised tag {a} {b} {r} is painted = raised-as (painted-raised painted) (λ k. go k (first l.pattern.reads))
     where
       go : (k : ℕ) → First (tag_at p) (value_at p) (drop 4 p) (l.pattern.term ∷ l.pattern.others)
@@ -365,7 +363,7 @@ module _ {p e : List ℕ} {h : ℕ} (l : Laying p e h) where
       go k (first_wrapped {w = w} i g q m) = absurd (omega (arith, wrapping-symbol w i, marked-variable tag))
 
   -- Any other symbol has no mark.
-  pub no-mark : ¬ (tag_at p ≡ pair_tag) → ¬ WrapperTag (tag_at p) → ¬ MarkedTag (tag_at p) → {a : List ℕ} → length a ≡ 64 → Raised a a (MarkOver (term_of p) (sub_at e h) h)
+  pub no-mark : ¬ (tag_at p ≡ pair_tag) → ¬ WrapperTag (tag_at p) → ¬ MarkedTag (tag_at p) → {a : List Bool} → length a ≡ 64 → Raised a a (MarkOver (term_of p) (sub_at e h) h)
   no-mark no-pair no-wrapper no-marked {a} long = raised-none long (λ k. go k (first l.pattern.reads))
     where
       go : (k : ℕ) → First (tag_at p) (value_at p) (drop 4 p) (l.pattern.term ∷ l.pattern.others) → ¬ MarkOver (term_of p) (sub_at e h) h k

@@ -19,17 +19,13 @@ use Rattle.judge.specs.Certificate.{Certificate}
 use Rattle.judge.specs.Cover.{NoHat, Open}
 use Rattle.judge.specs.Cover as cover
 use Rattle.judge.specs.Listed.{listed_of, AnyListed, MatchesEverywhere, SharesListed, NeverHat}
-use Rattle.judge.specs.Laid.{Laid}
-use Rattle.judge.specs.CoverEntries.{sub_at, On, SomeOn, Flags, Narrowed, Lays, NoHatOver, shares_no_good, is_bad, Flagged, OpenBelow, OpenAmong, OpenFlags, ClosedBelow, Concluded}
+use Rattle.judge.specs.CoverEntries.{sub_at, On, SomeOn, Flags, Narrowed, Lays, NoHatOver, shares_no_good, is_bad, Flagged, OpenBelow, OpenAmong, OpenFlags, ClosedBelow}
 use Rattle.judge.proofs.Covering.Flags.{on-small}
 use Rattle.judge.proofs.Covering.Marks.{cancels-place}
 use Rattle.judge.proofs.Covering.Hats.{encryption-tag}
 
 -- What may stand above every open place, by the answers of the searches.
 module _ {c : Certificate} {t : Term Variable} where
-  pub no-good-shares : ¬ SharesListed c good_kind t → NeverHat c t
-  no-good-shares none = inl none
-
   pub by-bad : SharesListed c good_kind t → (b : Bool) → Says b (MatchesEverywhere c bad_kind t) → Says b (NeverHat c t)
   by-bad shares b says = says_same b (λ m. inr m) go says
     where
@@ -57,22 +53,13 @@ module _ {c : Certificate} {u : Term Variable} {h k : ℕ} where
 
 -- Closing below entry h: nothing has to be closed, or what no marked bad pattern leaves open strictly below it.
 module _ {c : Certificate} {e : List ℕ} {h : ℕ} where
-  pub closed_none : {old : List ℕ} → length old ≡ 64 → (get_or e (4 * h) 0 ≡ 3 → NeverHat c (sub_at e h)) → ClosedBelow c old old e h
-  closed_none long fine = record { long = long; bits = λ b. b; on = λ k. (λ o. (o, λ tag a b. never-over (fine tag)), λ w. w.0) }
+  pub closed_none : {old : List Bool} → length old ≡ 64 → (get_or e (4 * h) 0 ≡ 3 → NeverHat c (sub_at e h)) → ClosedBelow c old old e h
+  closed_none long fine = record { long = long; on = λ k. (λ o. (o, λ tag a b. never-over (fine tag)), λ w. w.0) }
 
-  -- No flag is on there.
-  pub closed-unasked : {old : List ℕ} {end : ℕ} → length old ≡ 64 → end ≡ h + size (sub_at e h) → ¬ SomeOn old (h + 1) end → ClosedBelow c old old e h
-  closed-unasked long is none = record {
-    long = long;
-    bits = λ b. b;
-    on = λ k. (λ o. (o, λ tag a b. absurd (none (record { number = k; above = omega arith; below = omega arith; on = o }))), λ w. w.0);
-  }
-
-  pub closed-below : {old new kept : List ℕ} {end : ℕ} → get_or e (4 * h) 0 ≡ 3 → ¬ NeverHat c (sub_at e h) → end ≡ h + size (sub_at e h)
+  pub closed-below : {old new kept : List Bool} {end : ℕ} → get_or e (4 * h) 0 ≡ 3 → ¬ NeverHat c (sub_at e h) → end ≡ h + size (sub_at e h)
       → Flags kept (λ k. AnyListed c bad_kind (Lays c.atoms (sub_at e h) h k)) → Narrowed old new (h + 1) end kept → ClosedBelow c old new e h
   closed-below tag never is f n = record {
     long = n.long;
-    bits = n.bits;
     on = λ k. (
       λ o. (let w = (n.on k).0 o in (w.0, λ t a b. kept-over ((f.on k).0 (w.1 (omega arith) (omega arith))))),
       λ w. (n.on k).1 (w.0, λ l g. (f.on k).1 (over-kept never (w.1 tag (omega arith) (omega arith)))),
@@ -80,16 +67,9 @@ module _ {c : Certificate} {e : List ℕ} {h : ℕ} where
   }
 
 -- Entry after entry, among the flagged ones.
-pub open_none : {c : Certificate} {e flags : List ℕ} → Flagged e flags → 4 * size (term_of e) ≡ length e → OpenAmong c e flags 0 flags
-open_none {c} {e} {flags} f whole = record {
-  long = f.long;
-  bits = λ b. b;
-  on = λ k. (λ o. (o, record { inside = let l = f.within k o in omega arith; every = λ h l. absurd (omega arith) }), λ w. w.0);
-}
-
-pub open_more : {c : Certificate} {e : List ℕ} {h : ℕ} {first old new : List ℕ} → OpenAmong c e first h old
+pub open_more : {c : Certificate} {e : List ℕ} {h : ℕ} {first old new : List Bool} → OpenAmong c e first h old
     → ClosedBelow c old new e h → OpenAmong c e first (h + 1) new
-open_more {c} {e} {h} {first} {old} {new} f s = record { long = s.long; bits = λ b. s.bits (f.bits b); on = λ k. (λ o. to k ((s.on k).0 o), λ w. (s.on k).1 (back k w)) }
+open_more {c} {e} {h} {first} {old} {new} f s = record { long = s.long; on = λ k. (λ o. to k ((s.on k).0 o), λ w. (s.on k).1 (back k w)) }
   where
     Fine : ℕ → ℕ → Type 0
     Fine k h = get_or e (4 * h) 0 ≡ 3 → h < k → k < h + size (sub_at e h) → NoHatOver c (sub_at e h) h k
@@ -104,37 +84,29 @@ open_more {c} {e} {h} {first} {old} {new} f s = record { long = s.long; bits = �
     back : (k : ℕ) → On first k × OpenBelow c e (h + 1) k → On old k × Fine k h
     back k w = ((f.on k).1 (w.0, record { inside = w.1.inside; every = λ j l. w.1.every j (omega arith) }), w.1.every h (omega arith))
 
-pub open-all : {c : Certificate} {e first flags : List ℕ} {h n : ℕ} → OpenAmong c e first h flags → h ≡ n
+pub open-all : {c : Certificate} {e : List ℕ} {first flags : List Bool} {h n : ℕ} → OpenAmong c e first h flags → h ≡ n
     → OpenAmong c e first n flags
 open-all f is = rw is at f
 
 -- With a flag on, or with none.
-pub open-asked : {c : Certificate} {e wanted flags : List ℕ} → Flagged e wanted → OpenAmong c e wanted (size (term_of e)) flags
+pub open-asked : {c : Certificate} {e : List ℕ} {wanted flags : List Bool} → Flagged e wanted → OpenAmong c e wanted (size (term_of e)) flags
     → OpenFlags c e wanted flags
 open-asked {c} {e} {wanted} w f = record {
   long = f.long;
-  bits = f.bits;
   on = λ k. (
     λ o. (let v = (f.on k).0 o in (v.0, record { some_entry = λ z. (let l = w.within k v.0 in omega arith); is_open = v.1 })),
     λ v. (f.on k).1 (v.0, v.1.is_open),
   );
 }
 
-pub open-unasked : {c : Certificate} {e wanted : List ℕ} → Flagged e wanted → ¬ SomeOn wanted 0 64 → OpenFlags c e wanted wanted
+pub open-unasked : {c : Certificate} {e : List ℕ} {wanted : List Bool} → Flagged e wanted → ¬ SomeOn wanted 0 64 → OpenFlags c e wanted wanted
 open-unasked {c} {e} {wanted} w none = record {
   long = w.long;
-  bits = λ b. b;
   on = λ k. (λ o. absurd (none (record { number = k; above = omega arith; below = on-small wanted w.long k o; on = o })), λ v. v.0);
 }
 
--- A term stands at the entries, where one is flagged.
-pub flagged-term : {file e flags : List ℕ} → Laid file → Flagged e flags → {low high : ℕ} → SomeOn flags low high → Concluded file e
-flagged-term {e = e} laid f w =
-    let some_entry : ¬ (length e ≡ 0) = λ z. (let l = f.within w.number w.on in omega arith) in
-    record { laid = laid; term = f.entries.some_term some_entry; whole = f.entries.whole some_entry; short = f.entries.short }
-
 -- What is open lies within.
-pub opened-within : {c : Certificate} {e wanted opened : List ℕ} → Flagged e wanted → OpenFlags c e wanted opened → Flagged e opened
+pub opened-within : {c : Certificate} {e : List ℕ} {wanted opened : List Bool} → Flagged e wanted → OpenFlags c e wanted opened → Flagged e opened
 opened-within w f = record { entries = w.entries; long = f.long; within = λ k o. w.within k ((f.on k).0 o).0 }
 
 -- On the places this is document 01's open place of a premise.

@@ -50,9 +50,9 @@ module _ (file : List ℕ) where
       go (no n) = omega (arith, count, most, ap length (one_block n))
 
 -- A second atom block is a block of the file.
-pub two-inside : (file : List ℕ) → length file % block_size ≡ 0 → TwoAtomBlocks file → HasBlock file 1
+pub two_inside : (file : List ℕ) → length file % block_size ≡ 0 → TwoAtomBlocks file → HasBlock file 1
 unfolding block_at
-two-inside file whole two = elim (dec_le (block_size * 1 + block_size) (length file)) [
+two_inside file whole two = elim (dec_le (block_size * 1 + block_size) (length file)) [
   | yes inside ↦ inside
   | no outside ↦
       let short : length (block_at file 1) ≤ 0 = rw (length-take, length-drop) (omega arith) in

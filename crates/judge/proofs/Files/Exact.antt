@@ -8,13 +8,12 @@ use native.Mathlib.Decide.{ℕ_discrete}
 use native.Mathlib.Omega.{arith}
 use lib.Dec.{leb}
 use borrow.Author.Tests.{leb-true, le-leb}
-use Rattle.blocks.specs.Kinds.{secret_kind, bad_kind, ListsTerm}
 use Rattle.blocks.specs.Layout.{within}
 use Rattle.terms.specs.First.{Found, FirstNot, fails, holds, first_not}
 use Rattle.std.specs.Prelude.{Some, None}
 use Rattle.terms.proofs.FirstLaws.{first-is, first-only}
 use Rattle.terms.specs.Decide.{answer}
-use Rattle.terms.specs.Decisions.{Says, says_same}
+use Rattle.terms.specs.Decisions.{Says}
 use Rattle.judge.specs.declared.verdict.Fault.{Fault}
 use Rattle.judge.specs.Verdict.{first_fault}
 
@@ -63,13 +62,6 @@ says_both P Q false false n m = λ w. n w.0
 
 pub says-within : (low high x : ℕ) → Says (within low high x) ((low ≤ x) × (x ≤ high))
 says-within low high x = says_both (low ≤ x) (x ≤ high) (leb low x) (leb x high) (says-le low x) (says-le x high)
-
--- What the test of a kind says, k being the kind of block i.
-pub says-lists : {k kind : ℕ} → k ≡ kind → (b : Bool) → b ≡ within secret_kind bad_kind k → Says b (ListsTerm kind)
-says-lists {k} {kind} same b is =
-    let says = rw (sym is) at (says-within secret_kind bad_kind k) in
-    says_same b (λ w. let low = w.0 in let high = w.1 in record { low = omega arith; high = omega arith })
-    (λ w. let low = w.low in let high = w.high in (omega arith, omega arith)) says
 
 -- In other words.
 pub reworded : {R R' : Type 0} {W W' : Fault → Type 0} {o : Option Fault} → (R → R') → (R' → R)

@@ -25,7 +25,7 @@ use Rattle.judge.specs.File.{block_count, pattern_of, rule_of, file_atoms, used_
 use Rattle.judge.specs.Laid.{TermBlock, RuleBlock, SecretBlock, GoodBlock, Laid}
 use Rattle.judge.specs.Verdict.{length_right, length_fault, block_fault, form_from, form_fault}
 use Rattle.judge.specs.Meaning.{LengthRight, KindRight, atom_block, later, BlockRight}
-use Rattle.judge.proofs.Files.AtomBlocks.{two-inside}
+use Rattle.judge.proofs.Files.AtomBlocks.{two_inside}
 use Rattle.judge.proofs.Files.Exact.{first_block}
 use Rattle.judge.proofs.Files.Judged.{length-judged, used-both, used-length, block-judged}
 
@@ -151,7 +151,7 @@ laid file l blocks = record {
   atoms = record {
     whole = l.whole;
     first = fits file 0 (blocks 0 (omega arith));
-    second = λ two. fits file 1 (blocks 1 (omega (arith, two-inside file l.whole two)));
+    second = λ two. fits file 1 (blocks 1 (omega (arith, two_inside file l.whole two)));
   };
   terms = λ i h. term-block file i (blocks i h);
   rules = λ i h. rule-block file i (blocks i h);
@@ -164,8 +164,8 @@ pub long : (file : List ℕ) → length_right file ≡ true → LengthRight file
 unfolding length_fault
 long file h = (length-judged file).none_right (rw (h, length_fault))
 
-pub block-fits : (file : List ℕ) (i : ℕ) → block_fault file i ≡ none → Fitting (block_at file i)
-block-fits file i h = fits file i ((block-judged file i).none_right h)
+pub block_fits : (file : List ℕ) (i : ℕ) → block_fault file i ≡ none → Fitting (block_at file i)
+block_fits file i h = fits file i ((block-judged file i).none_right h)
 
 pub layout-laid : (file : List ℕ) → length_right file ≡ true → form_fault file ≡ none → Laid file
 unfolding form_fault form_from

@@ -28,7 +28,7 @@ use Rattle.judge.specs.Cover.{SureHat, NoHat, shares_no_good, is_bad, Open, AtOp
 use Rattle.judge.specs.Cover.{Covered, sure_hat, in_premise}
 use Rattle.judge.specs.Verdict.{no_secret?, open_secret, FineSpot, fine?, uncovered}
 use Rattle.judge.specs.Judgement.{OnlyRulesFrom, Heads}
-use Rattle.judge.proofs.Files.AtomBlocks.{one_block, two_blocks, two-inside}
+use Rattle.judge.proofs.Files.AtomBlocks.{one_block, two_blocks, two_inside}
 use Rattle.judge.proofs.Files.Members.{block_listed, listed-block}
 
 -- ---- what the judging of a rule asks of a certificate
@@ -157,7 +157,7 @@ module _ {file : List ℕ} {n : ℕ} (laid : Laid file) (only : OnlyRulesFrom fi
       past two = elim (dec_lt 1 n) [
         | yes l ↦ l
         | no off ↦
-            let inside = two-inside file laid.atoms.whole two in
+            let inside = two_inside file laid.atoms.whole two in
             let rule = only.rules 1 (omega arith) (omega (arith, laid.exact, inside)) in
             absurd (omega arith)
       ]
@@ -170,7 +170,7 @@ module _ {file : List ℕ} {n : ℕ} (laid : Laid file) (only : OnlyRulesFrom fi
         where
           none : ¬ TwoAtomBlocks head
           none two =
-              let inside : 1 < n = omega (arith, long, two-inside head (omega (arith, long)) two) in
+              let inside : 1 < n = omega (arith, long, two_inside head (omega (arith, long)) two) in
               off (ap kind_of (sym (block 1 inside)) ∙ two)
 
   same-atoms : file_atoms head ≡ file_atoms file
@@ -215,7 +215,7 @@ module _ {file : List ℕ} {n : ℕ} (laid : Laid file) (only : OnlyRulesFrom fi
       -- A second atom block of the head is one of the file.
       second_fits : TwoAtomBlocks head → Fitting (block_at head 1)
       second_fits two =
-          let inside : 1 < n = omega (arith, long, two-inside head (omega (arith, long)) two) in
+          let inside : 1 < n = omega (arith, long, two_inside head (omega (arith, long)) two) in
           let same : block_at head 1 ≡ block_at file 1 = block 1 inside in
           rw same (laid.atoms.second (ap kind_of (sym same) ∙ two))
 

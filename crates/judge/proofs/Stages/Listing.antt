@@ -1,28 +1,27 @@
 -- Laws of specs/Listed.antt: a search over the blocks of a file finds what the certificate lists. Assumes nothing.
-use mathlib.Core.Path.{◌≡◌, sym, ap, subst, ◌∙◌}
+use mathlib.Core.Path.{◌≡◌, refl, sym, ap, subst, ◌∙◌}
 use mathlib.Core.Bool.{Bool, true, false}
 use mathlib.Core.Logic.{◌⊎◌, inl, inr, ◌↔◌}
 use mathlib.Core.List.Memᴰ
 use mathlib.Core.List.{List, map, Memᴰ}
-use Prim.Native.Nat.{ℕ, ◌+◌, ◌*◌, ◌<◌, ◌≤◌}
-use lib.ListN.{length}
+use Prim.Native.Nat.{ℕ, ◌+◌, ◌<◌}
 use borrow.Author.Tests.{ne_eqb}
 use native.Mathlib.Omega.{arith}
-use native.Mathlib.Decide.{dec_lt, ℕ_discrete}
+use native.Mathlib.Decide.{ℕ_discrete}
 use Rattle.blocks.specs.Kinds.{secret_kind, good_kind, bad_kind, ListsTerm}
-use Rattle.blocks.specs.Block.{block_at, kind_of, first_count, first_entries}
+use Rattle.blocks.specs.Block.{block_at, kind_of}
 use Rattle.blocks.proofs.KindLaws.{which-lists}
 use Rattle.terms.specs.Term.{Term, Variable, atom, replace, as_term}
 use Rattle.terms.proofs.InstanceLaws.{replace-as_term}
 use Rattle.terms.specs.Entry.{Begins, term_of, from}
 use Rattle.terms.proofs.EntryLaws.{from-length}
 use Rattle.terms.specs.Decisions.{Says, says_same}
-use Rattle.terms.proofs.AnswerLaws.{says-yes, answer-yes, answer-no, answer-says, says-answer}
+use Rattle.terms.proofs.AnswerLaws.{says-yes, answer-says, says-answer}
 use Rattle.terms.specs.Decide.{answer}
 use Rattle.judge.specs.File.{block_count, blocks_of, of_kind, pattern_of, secret_of, certificate_of}
 use Rattle.judge.specs.Laid.{Laid, TermBlock, SecretBlock}
 use Rattle.judge.proofs.Files.Members.{BlockOf, block_listed, listed-block}
-use Rattle.judge.specs.Listed.{listed_of, AnyListed, Everywhere, HoldsAt, HeldAmong, Searching, TermPart}
+use Rattle.judge.specs.Listed.{listed_of, AnyListed, Everywhere, HoldsAt, HeldAmong, HasAt, Searching, SomeMet, TermPart}
 
 -- A secret block's term is its secret.
 pub secret-term : {b : List ℕ} → SecretBlock b → pattern_of b ≡ as_term (secret_of b)
@@ -34,10 +33,6 @@ pub term-block : {file : List ℕ} {kind i : ℕ} → Laid file → ListsTerm ki
     → kind_of (block_at file i) ≡ kind → TermBlock (block_at file i)
 term-block {i = i} laid lists inside k = laid.terms i inside (rw k lists)
 
-pub term-part : {file : List ℕ} {i : ℕ} → TermBlock (block_at file i) → {e : List ℕ} → e ≡ first_entries (block_at file i)
-    → length e ≡ 4 * first_count (block_at file i) → TermPart file i e
-term-part w same size = let short = w.short in record { part = same; term = rw same w.term; whole = rw same w.whole; short = omega arith }
-
 -- A part of the entries that begins with a term can be searched for as well.
 pub search-part : {file : List ℕ} {kind : ℕ} {e : List ℕ} (n : ℕ) → Searching file kind e → Begins (from n e) → Searching file kind (from n e)
 search-part {e = e} n s b = let short = s.short in
@@ -48,23 +43,15 @@ pub block-there : {file : List ℕ} {kind i : ℕ} → Laid file → ListsTerm k
     → (b : Bool) → Says b (kind_of (block_at file i) ≡ kind) → b ≡ true → (i < block_count file) × TermBlock (block_at file i)
 block-there laid lists inside b says t = (inside, term-block laid lists inside (says-yes b says t))
 
--- What one block answers: of this kind, and of another.
-pub block-answer : {file : List ℕ} {kind i : ℕ} (P : Term Variable → Type 0) → kind_of (block_at file i) ≡ kind
-    → {e : List ℕ} → TermPart file i e → (b : Bool) (d : Dec (P (term_of e))) → b ≡ answer d → Says b (HoldsAt file kind P i)
+-- What one block answers: by its term's entries; and where its pattern counts for every place.
+pub block-answer : {file : List ℕ} {i : ℕ} (P : Term Variable → Type 0) → {e : List ℕ} → TermPart file i e
+    → (b : Bool) (d : Dec (P (term_of e))) → b ≡ answer d → Says b (P (pattern_of (block_at file i)))
 unfolding pattern_of
-block-answer P kind part b d is =
-    let same = ap term_of part.part in
-    says_same b (λ h. record { has_kind = kind; holds = subst P same h }) (λ h. subst P (sym same) h.holds) (answer-says b d is)
+block-answer P part b d is = rw (ap term_of part.part) at (answer-says b d is)
 
--- The same where the block's pattern counts for every place.
-pub counted-answer : {file : List ℕ} {kind i : ℕ} (P : Term Variable → Type 0) → kind_of (block_at file i) ≡ kind → Everywhere kind (pattern_of (block_at file i))
-    → {e : List ℕ} → TermPart file i e → (b : Bool) (d : Dec (P (term_of e))) → b ≡ answer d → Says b (HoldsAt file kind (λ p. Everywhere kind p × P p) i)
-counted-answer P kind counts part b d is =
-    says_same b (λ w. record { has_kind = w.has_kind; holds = (counts, w.holds) }) (λ w. record { has_kind = w.has_kind; holds = w.holds.1 })
-    (block-answer P kind part b d is)
-
-pub other-kind : {file : List ℕ} {kind i : ℕ} {P : Term Variable → Type 0} → ¬ (kind_of (block_at file i) ≡ kind) → ¬ HoldsAt file kind P i
-other-kind off h = off h.has_kind
+pub counted-answer : (file : List ℕ) (i : ℕ) (P : Term Variable → Type 0) → Everywhere (kind_of (block_at file i)) (pattern_of (block_at file i))
+    → (b : Bool) → Says b (P (pattern_of (block_at file i))) → Says b (HasAt file i (λ kind p. Everywhere kind p × P p))
+counted-answer file i P counts b says = says_same b (λ h. (counts, h)) (λ w. w.1) says
 
 module _ {file : List ℕ} (laid : Laid file) where
   -- The term of a block of a kind that lists one is listed, and nothing else is.
@@ -130,20 +117,14 @@ module _ {file : List ℕ} (laid : Laid file) where
     pub none_found : ((i : ℕ) → i < block_count file → ¬ HoldsAt file kind P i) → ¬ AnyListed (certificate_of file) kind P
     none_found none s = let w = held_at s in none w.0 w.1 w.2
 
--- A search among some blocks, from the last one back: found at one, ended at a lower kind, or through.
-module _ {file : List ℕ} {kind : ℕ} (P : Term Variable → Type 0) {low high : ℕ} where
-  pub among-found : {i : ℕ} → low ≤ i → i < high → (b : Bool) → Says b (HoldsAt file kind P i) → b ≡ true → HeldAmong file kind P low high
-  among-found above below b says t = record { number = _; above = above; below = below; holds = says-yes b says t }
-
-  pub among-lower : {i n : ℕ} → Laid file → i < block_count file → n ≡ kind_of (block_at file i) → n < kind
-      → ((k : ℕ) → i < k → k < high → ¬ HoldsAt file kind P k) → ¬ HeldAmong file kind P low high
-  among-lower {i} laid inside is lower none w = elim (dec_lt i w.number) [
-    | yes past ↦ none w.number past w.below w.holds
-    | no before ↦ omega (arith, laid.ordered w.number i (omega arith) inside, w.holds.has_kind)
-  ]
-
-  pub among_none : ((k : ℕ) → low ≤ k → k < high → ¬ HoldsAt file kind P k) → ¬ HeldAmong file kind P low high
-  among_none none w = none w.number w.above w.below w.holds
+-- What a search finds, by a test that tells of each block whether its pattern, of its kind, has P.
+pub some-met : {file : List ℕ} {kind low high : ℕ} {post : ℕ → Bool → Type 0} {b : Bool} (P : ℕ → Term Variable → Type 0)
+    → ((i : ℕ) (r : Bool) → post i r → Says r (HasAt file i P)) → SomeMet file kind low high post b → Says b (HeldAmong file kind (P kind) low high)
+some-met {file} {kind} {b = true} P told met =
+    let w = met.some refl in
+    record { number = w.0; above = w.1; below = w.2; holds = record { has_kind = w.3; holds = rw w.3 at (told w.0 true w.4) } }
+some-met {file} {kind} {b = false} P told met =
+    λ w. let is = w.holds.has_kind in told w.number false (met.none refl w.number w.above w.below is) (rw is w.holds.holds)
 
 -- Among one block, and among all.
 pub one-among : {file : List ℕ} {kind i : ℕ} (P : Term Variable → Type 0) → HeldAmong file kind P i (i + 1) ↔ HoldsAt file kind P i
@@ -162,26 +143,7 @@ all_among {file} {kind} {n} s P all b says d = says-answer b (says_same b to bac
     back : AnyListed (certificate_of file) kind P → HeldAmong file kind P 0 n
     back a = let w = held_at s.laid kind P a in record { number = w.0; above = omega arith; below = omega (arith, w.1); holds = w.2 }
 
--- The answer of a search, early and at its end.
-module _ {file : List ℕ} {kind : ℕ} {e : List ℕ} (asked : Searching file kind e) (P : Term Variable → Type 0) where
-  pub found-answer : {i : ℕ} → i < block_count file → (b : Bool) → Says b (HoldsAt file kind P i) → b ≡ true
-      → (d : Dec (AnyListed (certificate_of file) kind P)) → true ≡ answer d
-  found-answer inside b says t d = sym (answer-yes d (one_found asked.laid kind P asked.lists inside (says-yes b says t)))
-
-  pub none-answer : ((i : ℕ) → i < block_count file → ¬ HoldsAt file kind P i) → (d : Dec (AnyListed (certificate_of file) kind P)) → false ≡ answer d
-  none-answer none d = sym (answer-no d (none_found asked.laid kind P none))
-
-  -- Kinds do not fall: a search from the last block back ends at a lower kind, one from the first block on at a higher.
-  pub lower-answer : {i n : ℕ} → i < block_count file → n ≡ kind_of (block_at file i) → n < kind
-      → ((k : ℕ) → i < k → k < block_count file → ¬ HoldsAt file kind P k) → (d : Dec (AnyListed (certificate_of file) kind P)) → false ≡ answer d
-  lower-answer {i} inside is lower above = none-answer (λ k there held. elim (dec_lt i k) [
-    | yes past ↦ above k past there held
-    | no before ↦ omega (arith, asked.laid.ordered k i (omega arith) inside, held.has_kind)
-  ])
-
-  pub higher-answer : {i n : ℕ} → n ≡ kind_of (block_at file i) → kind < n
-      → ((k : ℕ) → k < i → ¬ HoldsAt file kind P k) → (d : Dec (AnyListed (certificate_of file) kind P)) → false ≡ answer d
-  higher-answer {i} is higher below = none-answer (λ k there held. elim (dec_lt k i) [
-    | yes before ↦ below k before held
-    | no past ↦ omega (arith, asked.laid.ordered i k (omega arith) there, held.has_kind)
-  ])
+-- The answer of a search of all blocks.
+pub met-answer : {file : List ℕ} {kind n : ℕ} {e : List ℕ} {post : ℕ → Bool → Type 0} {b : Bool} → Searching file kind e → (P : ℕ → Term Variable → Type 0) → n ≡ block_count file
+    → ((i : ℕ) (r : Bool) → post i r → Says r (HasAt file i P)) → SomeMet file kind 0 n post b → (d : Dec (AnyListed (certificate_of file) kind (P kind))) → b ≡ answer d
+met-answer {kind = kind} {b = b} s P all told met d = all_among s (P kind) all b (some-met P told met) d

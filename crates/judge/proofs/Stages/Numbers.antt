@@ -4,12 +4,12 @@ use mathlib.Core.Path.{◌≡◌, refl, sym, ap, subst, ◌∙◌}
 use mathlib.Core.Bool.{Bool, true, false, not}
 use mathlib.Core.Logic.{◌⊎◌, inl, inr}
 use mathlib.Core.List.{List, [], ◌∷◌}
-use Prim.Native.Nat.{ℕ, ◌+◌, ◌*◌, ◌/◌, ◌%◌}
+use Prim.Native.Nat.{ℕ, ◌+◌, ◌*◌, ◌/◌, ◌%◌, ◌≤◌}
 use native.Mathlib.Omega.{arith}
 use lib.Dec.{eqb}
-use lib.ListN.{drop}
-use borrow.Author.Tests.{eq-eqb, ne_eqb}
-use Rattle.blocks.specs.Block.{block_at, kind_of}
+use lib.ListN.{drop, get_or}
+use Rattle.std.specs.Int.{to_le_bytes, w16}
+use Rattle.blocks.specs.Block.{block_at}
 use Rattle.terms.specs.Term.{Term, Message, Variable, variable, atom, pair, replace, as_term, wrapped, Wrapping, encryption, hash, signature}
 use Rattle.terms.specs.Tag.{atom_tag, pair_tag, hash_tag, wrapping_tag, WrapperTag}
 use Rattle.terms.specs.Entry.{Begins, Reads, terms_of, term_of, symbol_of, with_zero, before, before_all, tag_at, value_at, size, from}
@@ -20,17 +20,13 @@ use Rattle.terms.specs.Atom.{atom_at, known_of}
 use Rattle.terms.proofs.AtomLaws.{known-listed}
 use Rattle.terms.specs.OneTerm.{IsEncryption}
 use Rattle.terms.specs.Decisions.{Says, says_same}
-use Rattle.terms.proofs.AnswerLaws.{says_eq, says-yes, says-no, answer-yes, answer-no, answer-says}
+use Rattle.terms.proofs.AnswerLaws.{says_eq, says-yes, says-no, answer-says}
 use Rattle.terms.specs.Decide.{answer}
-use Rattle.judge.specs.declared.form.Judged.TheVariants.{Fine, Faulty}
-use Rattle.judge.specs.declared.listed.Condition.{Condition}
 use Rattle.judge.specs.Certificate.{Certificate, Secret, inverse}
 use Rattle.judge.specs.File.{pattern_of, secret_of}
 use Rattle.judge.specs.Laid.{SecretBlock, GoodBlock}
 use Rattle.judge.specs.Conditions.{KnownAtom, WeaklyClosed, KeptKey}
 use Rattle.judge.specs.Meaning.{SecretNotKnown, SecretClosed, RootKeyKept}
-use Rattle.judge.specs.Judgement.{judged_of}
-use Rattle.judge.specs.Verdict.{on_kind, kind_asked, Meets, meets?, fault_on, condition_at}
 use Rattle.judge.specs.Listed.{IsSecret, is_secret?, TermPart}
 use Rattle.judge.proofs.Stages.ListedLaws.{as_term-only, secret-is}
 use Rattle.judge.proofs.Stages.Listing.{secret-term}
@@ -77,6 +73,9 @@ atom-first {e} b is = go (first b.reads)
 pub one-atom : (a : ℕ) → Reads (1 ∷ 0 ∷ a % 256 ∷ a / 256 ∷ []) (atom a ∷ [])
 unfolding terms_of with_zero symbol_of before_all before
 one-atom a = let value : a % 256 + 256 * (a / 256) ≡ a = omega arith in record { is = rw value refl }
+
+pub atom-bytes : (a : ℕ) → a ≤ 65535 → {b : List ℕ} → b ≡ to_le_bytes w16 a → 1 ∷ 0 ∷ get_or b 0 0 ∷ get_or b 1 0 ∷ [] ≡ 1 ∷ 0 ∷ a % 256 ∷ a / 256 ∷ []
+atom-bytes a small is = let high : (a / 256) % 256 ≡ a / 256 = omega arith in rw (is, high) refl
 
 module _ (c : Certificate) where
   -- Is the message that the entries begin with a listed secret?
@@ -256,33 +255,3 @@ module _ {file : List ℕ} {i : ℕ} {e : List ℕ} (part : TermPart file i e) w
   -- The root of a good pattern is an encryption.
   pub good-root : GoodBlock (block_at file i) → IsEncryption (term_of e)
   good-root g = record { key = g.key; content = g.content; is = sym pattern-at ∙ g.same }
-
--- What is asked, where the code has found which condition it is.
-pub meets-as : {condition is : Condition} → condition ≡ is → (c : Certificate) (block : List ℕ) (b : Bool)
-    → Says b (Meets is c block) → Says b (Meets condition c block)
-meets-as {condition} {is} given c block b says = subst (λ (x : Condition). Says b (Meets x c block)) (sym given) says
-
--- A block of another kind, one that meets the condition, and one that does not.
-module _ (condition : Condition) (c : Certificate) (file : List ℕ) (i : ℕ) where
-  pub not-asked : ¬ (kind_of (block_at file i) ≡ kind_asked condition) → Fine ≡ judged_of (on_kind (kind_asked condition) (condition_at condition c) file i)
-  unfolding judged_of on_kind
-  not-asked off = rw (ne_eqb (kind_of (block_at file i)) (kind_asked condition) off, on_kind)
-
-  module _ (asked : kind_of (block_at file i) ≡ kind_asked condition) (b : Bool) (says : Says b (Meets condition c (block_at file i))) where
-    pub met : b ≡ true → Fine ≡ judged_of (on_kind (kind_asked condition) (condition_at condition c) file i)
-    unfolding judged_of on_kind condition_at
-    met said = rw (
-      eq-eqb (kind_of (block_at file i)) (kind_asked condition) asked,
-      answer-yes (meets? condition c (block_at file i)) (says-yes b says said),
-      on_kind,
-      condition_at,
-    )
-
-    pub unmet : b ≡ false → Faulty (fault_on condition i) ≡ judged_of (on_kind (kind_asked condition) (condition_at condition c) file i)
-    unfolding judged_of on_kind condition_at
-    unmet said = rw (
-      eq-eqb (kind_of (block_at file i)) (kind_asked condition) asked,
-      answer-no (meets? condition c (block_at file i)) (says-no b says said),
-      on_kind,
-      condition_at,
-    )

@@ -1,16 +1,13 @@
 -- Laws of the flagged roots: a term whose root no secret has is no secret, and shares an instance with none. Assumes
 -- nothing.
 use mathlib.Core.Path.{◌≡◌, refl, sym, ap, ap₂, subst, ◌∙◌}
-use mathlib.Core.Bool.{Bool, false, not}
+use mathlib.Core.Bool.{Bool}
 use mathlib.Core.List.{List, ◌∷◌}
 use Prim.Native.Nat.{ℕ, ◌+◌, ◌%◌, ◌<◌, ◌≤◌}
 use native.Mathlib.Omega.{arith}
 use native.Mathlib.Decide.{ℕ_discrete}
-use lib.Dec.{eqb}
-use borrow.Author.Tests.{eq-eqb, eqb-true, not-false}
 use borrow.Author.Rules.{part_to_end}
-use lib.ListN.{length, get_or, set, drop}
-use lib.Seq.{get_or-set_same, get_or-set_other, get_or-drop}
+use lib.ListN.{length, get_or, drop}
 use Rattle.blocks.specs.Kinds.{secret_kind}
 use Rattle.blocks.specs.Block.{block_at, kind_of, first_entries}
 use Rattle.blocks.proofs.KindLaws.{secret-lists}
@@ -29,13 +26,14 @@ use Rattle.terms.specs.Reading.{First, first, first_atom, first_pair, first_wrap
 use Rattle.terms.proofs.EntryLaws.{begins-tag, term_of-reads, begins, pair-first, from-length}
 use Rattle.terms.proofs.RootLaws.{tags-apart, values-apart}
 use Rattle.judge.specs.File.{block_count, pattern_of, certificate_of}
-use mathlib.Core.Logic.{◌⊎◌, inl, inr, ⊎_elim, ◌↔◌}
+use mathlib.Core.Logic.{inl, inr, ◌↔◌, ∥∥₁_elim}
+use native.Mathlib.Nat.{ℕ_set}
 use Rattle.judge.specs.Laid.{Laid, SecretBlock}
 use Rattle.terms.specs.Decisions.{Says, says_same}
 use Rattle.terms.specs.Decide.{answer}
 use Rattle.terms.proofs.AnswerLaws.{answer-says}
 use Rattle.judge.specs.Listed.{atoms_in, pair_roots, wrapper_roots, variable_roots}
-use Rattle.judge.specs.Listed.{HoldsAt, TermPart, SharesListed, IsSecret, slot_for, slot_by, slot_at, FlaggedAt, FlaggedMore, SecretSlot, RootsOf, NoRoot}
+use Rattle.judge.specs.Listed.{TermPart, SharesListed, IsSecret, slot_for, slot_by, slot_at, FlaggedAt, SecretSlot, RootsOf, NoRoot}
 use Rattle.judge.proofs.Stages.Listing.{none_found}
 use Rattle.judge.proofs.Stages.Numbers.{pair-message}
 
@@ -155,50 +153,9 @@ slot_same b d same = slot-term b ∙ ap term_slot same ∙ sym (slot-term d)
 pub pair-room : {e : List ℕ} → Begins e → tag_at e ≡ pair_tag → 8 ≤ length e
 pair-room {e} b two = let half = (begins (pair-first b two).below).room in omega (arith, from-length 4 e)
 
-pub left-tag : (e : List ℕ) → tag_at (drop 4 e) ≡ get_or e 4 0
-left-tag e = get_or-drop 4 e 0 0
-
--- ---- flagging
-
--- After one store the flags stay, and the one stored is there.
-module _ (roots : List ℕ) {n : ℕ} (inside : n < length roots) where
-  pub flag-kept : (k : ℕ) → get_or roots k 0 ≡ 1 → get_or (set roots n 1) k 0 ≡ 1
-  flag-kept k on = elim (ℕ_discrete k n) [
-    | yes e ↦ rw e (get_or-set_same roots n 1 0 inside)
-    | no off ↦ get_or-set_other roots n k 1 0 off ∙ on
-  ]
-
-  pub flag-here : {m : ℕ} → n ≡ m → get_or (set roots n 1) m 0 ≡ 1
-  flag-here e = rw (← e) (get_or-set_same roots n 1 0 inside)
-
-  pub flag-only : (k : ℕ) → get_or (set roots n 1) k 0 ≡ 1 → (get_or roots k 0 ≡ 1) ⊎ (n ≡ k)
-  flag-only k on = elim (ℕ_discrete k n) [ yes e ↦ inr (sym e) | no off ↦ inl (sym (get_or-set_other roots n k 1 0 off) ∙ on) ]
-
--- One more block whose root is flagged if it is a secret's.
-pub flags-more : {file old new : List ℕ} {i : ℕ} → FlaggedMore file i old new
-    → ((j : ℕ) → j < i → kind_of (block_at file j) ≡ secret_kind → FlaggedAt old (first_entries (block_at file j)))
-    → (j : ℕ) → j < i + 1 → kind_of (block_at file j) ≡ secret_kind → FlaggedAt new (first_entries (block_at file j))
-flags-more {file} {old} {new} {i} more all j below kind = elim (ℕ_discrete j i) [
-  | yes e ↦ subst (λ (n : ℕ). FlaggedAt new (first_entries (block_at file n))) (sym e) (more.here (ap (λ (n : ℕ). kind_of (block_at file n)) (sym e) ∙ kind))
-  | no off ↦ more.kept _ (all j (omega arith) kind)
-]
-
+-- The root of a secret among some blocks is one among more.
 pub slots-before : {file : List ℕ} {i n slot : ℕ} → i ≤ n → SecretSlot file i slot → SecretSlot file n slot
 slots-before l w = record { number = w.number; before = let b = w.before in omega arith; has_kind = w.has_kind; same = w.same }
-
-pub only-more : {file old new : List ℕ} {i : ℕ} → FlaggedMore file i old new
-    → ((k : ℕ) → get_or old k 0 ≡ 1 → SecretSlot file i k) → (k : ℕ) → get_or new k 0 ≡ 1 → SecretSlot file (i + 1) k
-only-more {file} {old} {new} {i} more all k on = ⊎_elim
-    (λ o. slots-before (omega arith) (all k o))
-    (λ w. record { number = i; before = omega arith; has_kind = w.0; same = w.1 })
-    (more.only k on)
-
--- A flag that the code found to be 0.
-pub absent-told : {x : ℕ} → not (eqb x 0) ≡ false → x ≡ 0
-absent-told {x} e = eqb-true x 0 (not-false (eqb x 0) e)
-
-pub told-absent : (x : ℕ) → x ≡ 0 → not (eqb x 0) ≡ false
-told-absent x e = rw (eq-eqb x 0 e)
 
 -- ---- what the flags say
 
@@ -250,7 +207,11 @@ lefts-share {s} {t} left right two other share =
       right = record { by = share.right.by; same = halves };
     })
 
-module _ {file roots e : List ℕ} (laid : Laid file) (flags : RootsOf file roots) (b : Begins e) (none : NoRoot roots e) where
+-- The root of a secret is flagged.
+pub root-flagged : {file roots : List ℕ} → ∥ RootsOf file roots ∥₁ → (i : ℕ) → i < block_count file → kind_of (block_at file i) ≡ secret_kind → FlaggedAt roots (first_entries (block_at file i))
+root-flagged flags i inside kind = ∥∥₁_elim flags (ℕ_set _ _) (λ w. w.flagged i inside kind)
+
+module _ {file roots e : List ℕ} (laid : Laid file) (flags : ∥ RootsOf file roots ∥₁) (b : Begins e) (none : NoRoot roots e) where
   -- Where a secret and e's term have a message in common, their roots have one slot, which is flagged.
   apart : (i : ℕ) → i < block_count file → kind_of (block_at file i) ≡ secret_kind → Common (pattern_of (block_at file i)) (term_of e) → ⊥
   unfolding pattern_of
@@ -274,7 +235,7 @@ module _ {file roots e : List ℕ} (laid : Laid file) (flags : RootsOf file root
     where
       clash : slot_at (first_entries (block_at file i)) ≡ slot_at e → ⊥
       clash same =
-          let on : get_or roots (slot_at e) 0 ≡ 1 = ap (λ (n : ℕ). get_or roots n 0) (sym same) ∙ flags.flagged i inside kind in
+          let on : get_or roots (slot_at e) 0 ≡ 1 = ap (λ (n : ℕ). get_or roots n 0) (sym same) ∙ root-flagged flags i inside kind in
           omega (arith, none.absent)
 
   pub no-root-shares : ¬ SharesListed (certificate_of file) secret_kind (term_of e)
@@ -313,10 +274,8 @@ instance-shares atoms {b} secret {t} = (to, back)
 -- As the code finds it at block i.
 pub instance-answer : (atoms : List Atom) {file : List ℕ} {i : ℕ} {p : List ℕ} {t : Term Variable} → Laid file → i < block_count file
     → kind_of (block_at file i) ≡ secret_kind → TermPart file i p
-    → (b : Bool) (d : Dec (Matches atoms t (term_of p))) → b ≡ answer d → Says b (HoldsAt file secret_kind (λ s. Share atoms s t) i)
+    → (b : Bool) (d : Dec (Matches atoms t (term_of p))) → b ≡ answer d → Says b (Share atoms (pattern_of (block_at file i)) t)
 unfolding pattern_of
 instance-answer atoms {file} {i} {p} {t} laid inside kind part b d is =
-    let there : term_of p ≡ pattern_of (block_at file i) = ap term_of part.part in
-    let secret = laid.secrets i inside kind in
-    says_same b (λ m. record { has_kind = kind; holds = (instance-shares atoms secret).0 (rw there at m) }) (λ w. rw there ((instance-shares atoms secret).1 w.holds))
-    (answer-says b d is)
+    let same = instance-shares atoms (laid.secrets i inside kind) in
+    says_same b (λ m. same.0 (rw (ap term_of part.part) at m)) (λ w. rw (ap term_of part.part) (same.1 w)) (answer-says b d is)

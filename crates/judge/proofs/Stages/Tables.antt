@@ -1,13 +1,15 @@
 -- Laws of the table of what is noted of the listed terms. Assumes nothing.
 use mathlib.Core.Path.{◌≡◌, refl, sym, ap, ◌∙◌}
-use mathlib.Core.Bool.{Bool, true, false, not}
-use mathlib.Core.Logic.{◌↔◌}
+use mathlib.Core.Bool.{Bool, true, false, ◌||◌}
+use Rattle.std.specs.Int.{from_bool}
+use mathlib.Core.Logic.{◌↔◌, ∥∥₁_elim}
+use mathlib.Core.HLevel.{⊥_prop}
+use native.Mathlib.Bridge.{le_prop}
+use native.Mathlib.Nat.{ℕ_set}
 use mathlib.Core.List.{List}
-use Prim.Native.Nat.{ℕ, ◌+◌, ◌*◌, ◌-◌, ◌<◌, ◌≤◌}
+use Prim.Native.Nat.{ℕ, ◌+◌, ◌*◌, ◌<◌, ◌≤◌}
 use native.Mathlib.Omega.{arith}
 use native.Mathlib.Decide.{ℕ_discrete}
-use lib.Dec.{eqb}
-use borrow.Author.Tests.{eqb-true, eqb-false}
 use lib.ListN.{length, get_or, set, length-set}
 use lib.Seq.{get_or-set_same, get_or-set_other}
 use Rattle.blocks.specs.Kinds.{secret_kind, bad_kind, ListsTerm}
@@ -23,14 +25,13 @@ use Rattle.terms.proofs.EntryLaws.{size-positive}
 use Rattle.terms.specs.TermGraph.{SizesOf}
 use Rattle.terms.specs.Sizes.{SizedFrom, KeptBelow}
 use Rattle.terms.specs.Nonces.{NoncesIn}
-use Rattle.terms.proofs.SizeLaws.{marked-inside, kept_more, sizes-at, sizes-kept}
-use Rattle.terms.specs.Decisions.{Says, says_same}
+use Rattle.terms.proofs.SizeLaws.{kept_more, sizes-at, sizes-kept}
+use Rattle.terms.specs.Decisions.{Says}
 use Rattle.judge.specs.Hat.{Marked}
-use Rattle.judge.specs.CoverEntries.{put_on}
 use Rattle.judge.specs.File.{block_count, pattern_of, certificate_of}
 use Rattle.judge.specs.Laid.{Laid}
-use Rattle.judge.specs.Listed.{atoms_in, AnyListed, Everywhere, SharesListed, SharesEverywhere, Searching, HoldsAt, HeldAmong, TermPart, row_size, listed_rows, nonce_slots, mark_slot, MarkTag, LastMark, Noted, MarkedBad, SizesBelow, SizesIn, SizeOf}
-use Rattle.judge.proofs.Stages.Listing.{none_found, one-among}
+use Rattle.judge.specs.Listed.{atoms_in, AnyListed, Everywhere, SharesListed, SharesEverywhere, Searching, TermPart, row_size, listed_rows, nonce_slots, mark_slot, Noted, MarkedBad, SizesBelow, SizesIn, SizeOf}
+use Rattle.judge.proofs.Stages.Listing.{none_found}
 use Rattle.judge.proofs.Stages.Roots.{instance-shares}
 
 -- A listed term has at most 63 entries.
@@ -38,24 +39,6 @@ listed-short : {file : List ℕ} {i : ℕ} → Laid file → i < block_count fil
 listed-short {file} {i} laid inside lists =
     let b = laid.terms i inside lists in
     omega (arith, b.short, first-length (block_at file i) b.fitting)
-
--- No entry has the tag of a mark.
-pub no-tag : {e : List ℕ} {low high k : ℕ} → high ≤ k → ((j : ℕ) → j < k → ¬ ((low ≤ j) × MarkedTag (get_or e (4 * j) 0))) → ¬ MarkTag e low high
-no-tag past none w = none w.number (let l = w.below in omega arith) (w.above, w.tag)
-
--- The last mark, from the last entry back.
-pub last_none : {e : List ℕ} {n : ℕ} → n ≡ 0 → ((k : ℕ) → n ≤ k → ¬ MarkedTag (get_or e (4 * k) 0)) → LastMark e 0
-last_none is none = record { behind = λ k low. none k (omega arith); here = λ off. absurd (off refl) }
-
-pub past-tags : (e : List ℕ) {n : ℕ} → length e ≤ 4 * n → (k : ℕ) → n ≤ k → ¬ MarkedTag (get_or e (4 * k) 0)
-past-tags e short k low tag = let inside = marked-inside e k tag in omega arith
-
-pub tags-down : (e : List ℕ) {n : ℕ} → 0 < n → ((k : ℕ) → n ≤ k → ¬ MarkedTag (get_or e (4 * k) 0)) → ¬ MarkedTag (get_or e (4 * (n - 1)) 0)
-    → (k : ℕ) → n - 1 ≤ k → ¬ MarkedTag (get_or e (4 * k) 0)
-tags-down e {n} some_left none off k low = elim (ℕ_discrete k (n - 1)) [
-  | yes same ↦ rw same off
-  | no other ↦ none k (omega arith)
-]
 
 -- With block i's row filled in.
 sized-kept : {e z : List ℕ} (i v : ℕ) → length e ≤ most_term_bytes → SizedFrom e z (row_size * i) 0 → SizedFrom e (set z (mark_slot i) v) (row_size * i) 0
@@ -96,32 +79,29 @@ row_other {file} {sizes} {i} below off = record {
 }
 
 -- Whether one of the first n blocks is a marked bad pattern, as it is found block by block.
-pub record SomeBelow (file : List ℕ) (n flag : ℕ) : Type 0 where
-  pub some : (i : ℕ) → i < n → MarkedBad file i → flag ≡ 1
+pub record SomeBelow (file : List ℕ) (n : ℕ) (b : Bool) : Type 0 where
+  pub some : (i : ℕ) → i < n → MarkedBad file i → b ≡ true
 
-pub some-none : {file : List ℕ} {flag : ℕ} → SomeBelow file 0 flag
-some-none = record { some = λ i low. absurd (omega arith) }
-
-pub some_more : {file : List ℕ} {n flag v : ℕ} → SomeBelow file n flag → (b : Bool) → v ≡ put_on flag b → Says b (MarkedBad file n) → SomeBelow file (n + 1) v
-unfolding put_on
-some_more {file} {n} {flag} {v} w b is says = record { some = λ i low marked. go b is says i low marked (ℕ_discrete i n) }
+pub some_more : {file : List ℕ} {n : ℕ} {a : Bool} → SomeBelow file n a → (b : Bool) → Says b (MarkedBad file n) → SomeBelow file (n + 1) (a || b)
+some_more {file} {n} {a} w b says = record { some = λ i low marked. go a b says (ℕ_discrete i n) low marked w.some }
   where
-    go : (b : Bool) → v ≡ put_on flag b → Says b (MarkedBad file n) → (i : ℕ) → i < n + 1 → MarkedBad file i → Dec (i ≡ n) → v ≡ 1
-    go true is says i low marked d = is
-    go false is says i low marked (yes same) = absurd (says (rw same at marked))
-    go false is says i low marked (no off) = is ∙ w.some i (omega arith) marked
+    go : (a b : Bool) → Says b (MarkedBad file n) → {i : ℕ} → Dec (i ≡ n) → i < n + 1 → MarkedBad file i → ((j : ℕ) → j < n → MarkedBad file j → a ≡ true) → (a || b) ≡ true
+    go true b says d low marked before = refl
+    go false true says d low marked before = refl
+    go false false says (yes same) low marked before = absurd (says (rw same at marked))
+    go false false says (no off) low marked before = before _ (omega arith) marked
 
 -- All rows, the slot behind them, and then the flags of the nonces.
-pub rows_all : {file sizes new : List ℕ} {n flag : ℕ} → Laid file → n ≡ block_count file → SizesBelow file n sizes → SomeBelow file n flag
+pub rows_all : {file sizes new : List ℕ} {n flag : ℕ} {b : Bool} → Laid file → n ≡ block_count file → SizesBelow file n sizes → SomeBelow file n b → flag ≡ from_bool b
     → KeptBelow nonce_slots (set sizes listed_rows flag) new → NoncesIn (atoms_in file) (from nonce_slots new) → SizesIn file new
-rows_all {file} {sizes} {new} {n} {flag} laid all rows some still nonces = record {
+rows_all {file} {sizes} {new} {n} {flag} laid all rows some is still nonces = record {
   rows = record {
     long = kept.long ∙ rows.long;
     at = λ i low lists. sizes-kept (row_size * i) (rows.at i (omega arith) lists) kept
         (let short = listed-short laid low lists in let few = laid.few in omega arith);
     marks = λ i low lists. rw (kept.same (mark_slot i) (let few = laid.few in omega arith)) (rows.marks i (omega arith) lists);
   };
-  some = λ i low marked. still.same listed_rows (omega arith) ∙ get_or-set_same sizes listed_rows flag 0 (let long = rows.long in omega arith) ∙ some.some i (omega arith) marked;
+  some = λ i low marked. still.same listed_rows (omega arith) ∙ get_or-set_same sizes listed_rows flag 0 (let long = rows.long in omega arith) ∙ is ∙ ap from_bool (some.some i (omega arith) marked);
   nonces = nonces;
 }
   where
@@ -132,53 +112,33 @@ rows_all {file} {sizes} {new} {n} {flag} laid all rows some still nonces = recor
     kept = record { long = still.long ∙ behind.long; same = λ k low. still.same k (omega arith) ∙ behind.same k low }
 
 -- The sizes of the term of block i, as it is read.
-pub term-sizes : {file sizes e t : List ℕ} {kind i : ℕ} → SizesIn file sizes → Searching file kind e → i < block_count file → kind_of (block_at file i) ≡ kind
+pub term-sizes : {file sizes e t : List ℕ} {kind i : ℕ} → ∥ SizesIn file sizes ∥₁ → Searching file kind e → i < block_count file → kind_of (block_at file i) ≡ kind
     → t ≡ first_entries (block_at file i) → SizesOf t (from (row_size * i) sizes)
-term-sizes {i = i} all s inside kind is =
-    rw is (all.rows.at i inside (rw kind s.lists))
+term-sizes {i = i} all s inside kind is = rw is (record {
+  inside = λ k low. ∥∥₁_elim all le_prop (λ a. (a.rows.at i inside (rw kind s.lists)).inside k low);
+  at = λ k low. ∥∥₁_elim all (ℕ_set _ _) (λ a. (a.rows.at i inside (rw kind s.lists)).at k low);
+})
 
--- What the table says of block i, which is of a kind that lists a term.
-module _ {file sizes : List ℕ} {kind i : ℕ} (all : SizesIn file sizes) (lists : ListsTerm kind) (inside : i < block_count file) (is : kind_of (block_at file i) ≡ kind) where
-  marked-bad : (kind ≡ bad_kind) × Marked (pattern_of (block_at file i)) → MarkedBad file i
-  marked-bad w = (is ∙ w.0, w.1)
+-- A pattern that the table says has no mark counts for every place.
+pub unmarked-counts : {file sizes : List ℕ} {i v : ℕ} → ∥ SizesIn file sizes ∥₁ → i < block_count file → ListsTerm (kind_of (block_at file i)) → v ≡ get_or sizes (mark_slot i) 0 → v ≡ 0
+    → Everywhere (kind_of (block_at file i)) (pattern_of (block_at file i))
+unmarked-counts {i = i} all inside lists slot none w = ∥∥₁_elim all ⊥_prop (λ a. (a.rows.marks i inside lists).marked.1 w (sym slot ∙ none))
 
-  module _ {v : ℕ} (slot : v ≡ get_or sizes (mark_slot i) 0) where
-    pub unmarked-counts : v ≡ 0 → Everywhere kind (pattern_of (block_at file i))
-    unmarked-counts none w = (all.rows.marks i inside (rw is lists)).marked.1 (marked-bad w) (sym slot ∙ none)
-
-    pub marked-out : ¬ (v ≡ 0) → {P : Term Variable → Type 0} → ¬ HoldsAt file kind (λ p. Everywhere kind p × P p) i
-    marked-out some-mark w =
-        let m = (all.rows.marks i inside (rw is lists)).marked.0 (λ z. some-mark (slot ∙ z)) in w.holds.0 (sym is ∙ m.0, m.1)
-
--- The search of that one block, where it counts for every place.
-pub counted-among : (file : List ℕ) {kind : ℕ} (i : ℕ) (P : Term Variable → Type 0) → Everywhere kind (pattern_of (block_at file i)) → (b : Bool)
-    → Says b (HeldAmong file kind P i (i + 1)) → Says b (HoldsAt file kind (λ p. Everywhere kind p × P p) i)
-counted-among file i P counts b says =
-    says_same b (λ w. (let h = (one-among P).0 w in record { has_kind = h.has_kind; holds = (counts, h.holds) }))
-    (λ w. (one-among P).1 (record { has_kind = w.has_kind; holds = w.holds.1 })) says
+-- One that the table says has one does not.
+pub marked-counts-not : {file sizes : List ℕ} {i v : ℕ} → ∥ SizesIn file sizes ∥₁ → i < block_count file → ListsTerm (kind_of (block_at file i)) → v ≡ get_or sizes (mark_slot i) 0 → ¬ (v ≡ 0)
+    → ¬ Everywhere (kind_of (block_at file i)) (pattern_of (block_at file i))
+marked-counts-not {i = i} all inside lists slot some every = ∥∥₁_elim all ⊥_prop (λ a. every ((a.rows.marks i inside lists).marked.0 (λ none. some (slot ∙ none))))
 
 -- No mark stands behind those of a bad block's term.
-pub marks-behind : {file sizes t : List ℕ} {i v : ℕ} → SizesIn file sizes → i < block_count file → kind_of (block_at file i) ≡ bad_kind → t ≡ first_entries (block_at file i)
+pub marks-behind : {file sizes t : List ℕ} {i v : ℕ} → ∥ SizesIn file sizes ∥₁ → i < block_count file → kind_of (block_at file i) ≡ bad_kind → t ≡ first_entries (block_at file i)
     → v ≡ get_or sizes (mark_slot i) 0 → (k : ℕ) → v ≤ k → ¬ MarkedTag (get_or t (4 * k) 0)
-marks-behind {i = i} all inside is part slot = rw (part, slot) ((all.rows.marks i inside (bad-lists is)).behind is)
-
--- What the slot says of the block.
-pub noted-told : {file : List ℕ} {i v : ℕ} → Noted file i v → Says (not (eqb v 0)) (MarkedBad file i)
-noted-told {file} {i} {v} noted = go (eqb v 0) refl
-  where
-    go : (b : Bool) → eqb v 0 ≡ b → Says (not b) (MarkedBad file i)
-    go true q = λ w. noted.marked.1 w (eqb-true v 0 q)
-    go false q = noted.marked.0 (eqb-false v 0 q)
-
--- A block of another kind has none.
-pub other-noted : {file : List ℕ} {i : ℕ} → ¬ (kind_of (block_at file i) ≡ bad_kind) → Noted file i 0
-other-noted off = record { marked = (λ n. absurd (n refl), λ w. absurd (off w.0)); behind = λ is. absurd (off is) }
+marks-behind {i = i} all inside is part slot = rw (part, slot) (λ k low mark. ∥∥₁_elim all ⊥_prop (λ a. (a.rows.marks i inside (bad-lists is)).behind is k low mark))
 
 -- No bad pattern is marked: then all of them count for every place.
-pub none-marked : {file sizes : List ℕ} → Laid file → SizesIn file sizes → ¬ (get_or sizes listed_rows 0 ≡ 1) → ¬ AnyListed (certificate_of file) bad_kind Marked
-none-marked laid all off = none_found laid bad_kind Marked (λ i inside w. off (all.some i inside (w.has_kind, w.holds)))
+pub none-marked : {file sizes : List ℕ} → Laid file → ∥ SizesIn file sizes ∥₁ → ¬ (get_or sizes listed_rows 0 ≡ 1) → ¬ AnyListed (certificate_of file) bad_kind Marked
+none-marked laid all off = none_found laid bad_kind Marked (λ i inside w. off (∥∥₁_elim all (ℕ_set _ _) (λ a. a.some i inside (w.has_kind, w.holds))))
 
-pub all-count : {file sizes : List ℕ} {t : Term Variable} → Laid file → SizesIn file sizes → ¬ (get_or sizes listed_rows 0 ≡ 1)
+pub all-count : {file sizes : List ℕ} {t : Term Variable} → Laid file → ∥ SizesIn file sizes ∥₁ → ¬ (get_or sizes listed_rows 0 ≡ 1)
     → SharesListed (certificate_of file) bad_kind t ↔ SharesEverywhere (certificate_of file) bad_kind t
 all-count laid all off = (
   λ a. record { term = a.term; listed = a.listed; holds = (λ w. none-marked laid all off (record { term = a.term; listed = a.listed; holds = w.1 }), a.holds) },
@@ -186,10 +146,10 @@ all-count laid all off = (
 )
 
 -- A secret of another size is another term.
-pub other-size : {file e t : List ℕ} {i n : ℕ} → TermPart file i t → SizeOf e n → ¬ (length t ≡ 4 * n) → ¬ HoldsAt file secret_kind (λ p. p ≡ term_of e) i
+pub other-size : {file e t : List ℕ} {i n : ℕ} → TermPart file i t → SizeOf e n → ¬ (length t ≡ 4 * n) → ¬ (pattern_of (block_at file i) ≡ term_of e)
 unfolding pattern_of
 other-size {e = e} {t = t} part type_size off h =
-    let same : term_of t ≡ term_of e = ap term_of part.part ∙ h.holds in
+    let same : term_of t ≡ term_of e = ap term_of part.part ∙ h in
     let sizes : size (term_of t) ≡ size (term_of e) = ap size same in
     off (omega (arith, part.whole, type_size.is))
 
@@ -203,10 +163,10 @@ grown by (wrapped w k t) = let content = grown by t in omega arith
 
 -- A secret that is smaller is no instance.
 pub too_small : {file e t : List ℕ} {i n : ℕ} → Laid file → i < block_count file → kind_of (block_at file i) ≡ secret_kind → TermPart file i t → SizeOf e n → length t < 4 * n
-    → ¬ HoldsAt file secret_kind (λ p. Share (atoms_in file) p (term_of e)) i
+    → ¬ Share (atoms_in file) (pattern_of (block_at file i)) (term_of e)
 unfolding pattern_of
 too_small {e = e} {t = t} {i = i} laid inside kind part type_size small h =
-    let m = (instance-shares _ (laid.secrets i inside kind)).1 h.holds in
+    let m = (instance-shares _ (laid.secrets i inside kind)).1 h in
     let less = grown m.by (term_of e) in
     let is : size (replace m.by (term_of e)) ≡ size (term_of t) = ap size (m.same ∙ sym (ap term_of part.part)) in
     absurd (omega (arith, part.whole, type_size.is))

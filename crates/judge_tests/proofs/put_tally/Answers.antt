@@ -4,15 +4,13 @@ use borrow.Author.Rules.{rules}
 use Rattle.judge_tests.proofs.put_tally.Goals as goal
 
 pub loop-k-init : goal.loop-k-init
-loop-k-init c = (stored-none (search rules), search rules, search rules)
+loop-k-init c = stored-none (search rules)
 
 pub bounds-counts-k-in-loop-k : goal.bounds-counts-k-in-loop-k
-bounds-counts-k-in-loop-k c = stored-room c.loop-k.invariant.0 c.loop-k-test.true _
+bounds-counts-k-in-loop-k c = stored-room c.loop-k.invariant (search rules) _
 
 pub loop-k-preserved : goal.loop-k-preserved
-loop-k-preserved c =
-    let next = stored_more c.loop-k.invariant.0 c.loop-k-test.true in
-    (next, search rules, next.long)
+loop-k-preserved c = stored_more c.loop-k.invariant (search rules)
 
 pub returns : goal.returns
-returns c = stored-all _ c.loop-k.invariant.0 c.loop-k-test.false
+returns c = stored-all _ c.loop-k.invariant (search rules)

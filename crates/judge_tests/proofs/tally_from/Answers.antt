@@ -4,10 +4,10 @@ use borrow.Author.Rules.{rules}
 use Rattle.judge_tests.proofs.tally_from.Goals as goal
 
 pub loop-k-init : goal.loop-k-init
-loop-k-init c = (loaded-none (search rules), search rules)
+loop-k-init c = loaded-none (search rules)
 
 pub loop-k-preserved : goal.loop-k-preserved
-loop-k-preserved c = (loaded-more c.loop-k.invariant.0 c.loop-k-test.true, search rules)
+loop-k-preserved c = loaded-more c.loop-k.invariant (search rules)
 
 pub returns : goal.returns
-returns c = loaded-all _ c.requires c.loop-k.invariant.0 c.loop-k-test.false
+returns c = loaded-all _ c.requires c.loop-k.invariant (search rules)

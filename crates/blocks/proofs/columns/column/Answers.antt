@@ -29,18 +29,15 @@ pub loop-row-preserved : goal.loop-row-preserved
 loop-row-preserved c =
     let args = c.args in let column : ℕ → ℕ = cell args.block.now args.k in
     let place : 4 + 24 * c.loop-row.row + args.k ≡ place_of args.k c.loop-row.row = omega arith in
-    let byte : c.wide.result ≡ column c.loop-row.row = c.wide.ensures.0 ∙ ap (byte_at args.block.now) place in (
-      search rules,
+    let byte : c.from-sum.result ≡ column c.loop-row.row = c.from-sum.ensures ∙ ap (byte_at args.block.now) place in (
+      sum_step column c.loop-row.row c.loop-row.invariant.0 byte,
       (
-        sum_step column c.loop-row.row c.loop-row.invariant.1.0 byte,
-        (
-          sum_step (sum_of column) c.loop-row.row c.loop-row.invariant.1.1.0 c.loop-row.invariant.1.0,
-          (search rules, omega (arith, square-more c.loop-row.row)),
-        ),
+        sum_step (sum_of column) c.loop-row.row c.loop-row.invariant.1.0 c.loop-row.invariant.0,
+        (search rules, omega (arith, square-more c.loop-row.row)),
       ),
     )
 
 pub returns : goal.returns
 unfolding column_sum column_below
 returns c =
-    let inv = c.loop-row.invariant in let all : c.loop-row.row ≡ 21 = omega arith in record { sum = rw all at inv.1.0; below = rw all at inv.1.1.0 }
+    let inv = c.loop-row.invariant in let all : c.loop-row.row ≡ 21 = omega arith in record { sum = rw all at inv.0; below = rw all at inv.1.0 }

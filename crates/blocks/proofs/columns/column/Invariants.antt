@@ -1,14 +1,10 @@
 use mathlib.Core.Path.{◌≡◌}
-use Prim.Native.Nat.{◌-◌, ◌*◌, ◌≤◌}
+use Prim.Native.Nat.{◌*◌, ◌≤◌}
 use Rattle.blocks.specs.Columns.{sum_of, cell}
 use Rattle.blocks.proofs.columns.column.Given as goal
 
 abbrev pub invariant-loop-row : goal.invariant-loop-row
 invariant-loop-row l =
-    (l.row ≤ 21)
-    × ((l.sum ≡ sum_of (cell l.block l.k) l.row)
+    (l.sum ≡ sum_of (cell l.block l.k) l.row)
     × ((l.below ≡ sum_of (sum_of (cell l.block l.k)) l.row)
-    × ((l.sum ≤ 255 * l.row) × (2 * l.below ≤ 255 * (l.row * l.row)))))
-
-abbrev pub decreases-loop-row : goal.decreases-loop-row
-decreases-loop-row l = 21 - l.row
+    × ((l.sum ≤ 255 * l.row) × (2 * l.below ≤ 255 * (l.row * l.row))))

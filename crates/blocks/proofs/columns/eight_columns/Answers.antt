@@ -22,15 +22,15 @@ first_step f l n {x} inside first p i h = go (ℕ_discrete i n)
 
 pub loop-k-init : goal.loop-k-init
 loop-k-init c = (
-  (search rules, (search rules, search rules)),
+  (search rules, search rules),
   (λ i h. absurd (not-suc-le-zero h), λ i h. absurd (not-suc-le-zero h)),
 )
 
 pub loop-k-preserved : goal.loop-k-preserved
 loop-k-preserved c =
-    let args = c.args in let long = c.loop-k.invariant.0.1 in let sum : ℕ → ℕ = λ i. column_sum args.block.now (args.from + i) in
+    let args = c.args in let long = c.loop-k.invariant.0 in let sum : ℕ → ℕ = λ i. column_sum args.block.now (args.from + i) in
     let below : ℕ → ℕ = λ i. column_below args.block.now (args.from + i) in (
-      (omega arith, (simp length-set long.0, simp length-set long.1)),
+      (simp length-set long.0, simp length-set long.1),
       (
         first_step sum c.loop-k.sums c.loop-k.k (omega arith) c.loop-k.invariant.1.0 c.column-one.ensures.sum,
         first_step below c.loop-k.below c.loop-k.k (omega arith) c.loop-k.invariant.1.1 c.column-one.ensures.below,

@@ -5,10 +5,6 @@ use Rattle.blocks.proofs.columns.eight_sums.Given as goal
 
 abbrev pub invariant-loop-k : goal.invariant-loop-k
 invariant-loop-k l =
-    (l.k ≤ 8)
-    × ((l.a ≡ sum_of (λ i. column_sum l.block (l.from + i)) l.k)
+    (l.a ≡ sum_of (λ i. column_sum l.block (l.from + i)) l.k)
     × ((l.b + (16 - l.from) * l.a ≡ sum_of (λ i. column_weighted l.block (l.from + i)) l.k)
-    × ((l.a ≤ 65535 * l.k) × (l.b ≤ 2097120 * l.k))))
-
-abbrev pub decreases-loop-k : goal.decreases-loop-k
-decreases-loop-k l = 8 - l.k
+    × ((l.a ≤ 65535 * l.k) × (l.b ≤ 2097120 * l.k)))

@@ -1,7 +1,7 @@
 -- `judge::cover::mark_around` meets its contract; the measure is what is left of the pattern's entries. Assumes nothing.
-use mathlib.Core.Path.{refl, sym, ◌∙◌}
+use mathlib.Core.Path.{sym, ◌∙◌}
 use Rattle.terms.proofs.SizeLaws.{size-at}
-use Rattle.judge.proofs.Covering.Around.{pattern-room, term-room, pattern-tag, term-tag, laid_end, marks-told, mark-found, mark-laid, around-differ, no-mark-found, none-behind, none-laid}
+use Rattle.judge.proofs.Covering.Around.{pattern-room, pattern-tag, term-tag, marks-told, mark-found, mark-laid, around-differ, no-mark-found, none-behind, none-laid}
 use Rattle.judge.proofs.Covering.Around.{left-around, right-around, pair-marked, pair-laid-around, content-around, wrapped-marked, wrapped-laid-around, found_as, raised-to}
 use Rattle.terms.proofs.TagLaws.{one_tag, one-child}
 use Rattle.terms.proofs.AnswerLaws.{says-yes, says-no}
@@ -10,137 +10,54 @@ use Rattle.judge.proofs.cover.+mark_around.Goals as goal
 
 pub returns-then-last-i : goal.returns-then-last-i
 returns-then-last-i t c =
-    let pre = c.requires in let none = none-behind pre.0 c.if-last-i.true in record { marked = none; flags = none-laid pre.0 none pre.1 }
-
-pub overflow_mul-tag : goal.overflow_mul-tag
-overflow_mul-tag t c =
-    let l = c.requires.0 in let a = pattern-room l in let b = term-room l in let s = l.pattern_short in let r = l.short in search rules
-
-pub bounds-p-i : goal.bounds-p-i
-bounds-p-i t c =
-    let l = c.requires.0 in let a = pattern-room l in let b = term-room l in let s = l.pattern_short in let r = l.short in search rules
-
-pub end_of-requires : goal.end_of-requires
-end_of-requires t c = let l = c.requires.0 in (l.sizes, l.term, l.inside, l.short)
-
-pub paint-requires : goal.paint-requires
-paint-requires t c =
-    let pre = c.requires in let end = laid_end pre.0 c.end_of.ensures.0 in (pre.1, end.0, end.1)
+    let pre = c.requires in let none = none-behind pre c.if-last-i.true in record { marked = none; flags = none-laid pre none (search rules) }
 
 pub returns-then-is_marked : goal.returns-then-is_marked
 returns-then-is_marked t c =
-    let l = c.requires.0 in record { marked = mark-found l (says-yes c.is_marked.result c.is_marked.ensures c.if-is_marked.true); flags = mark-laid l (says-yes c.is_marked.result c.is_marked.ensures c.if-is_marked.true) c.end_of.ensures.0 c.paint.ensures }
-
-pub overflow_mul-h : goal.overflow_mul-h
-overflow_mul-h t c =
-    let l = c.requires.0 in let a = pattern-room l in let b = term-room l in let s = l.pattern_short in let r = l.short in search rules
-
-pub bounds-e-h : goal.bounds-e-h
-bounds-e-h t c =
-    let l = c.requires.0 in let a = pattern-room l in let b = term-room l in let s = l.pattern_short in let r = l.short in search rules
+    let l = c.requires in record { marked = mark-found l (says-yes c.is_marked.result c.is_marked.ensures c.if-is_marked.true); flags = mark-laid l (says-yes c.is_marked.result c.is_marked.ensures c.if-is_marked.true) c.end_of.ensures.0 c.paint.ensures }
 
 pub is_alike-requires : goal.is_alike-requires
-is_alike-requires t c = let l = c.requires.0 in (pattern-tag l, term-tag l)
+is_alike-requires t c = let l = c.requires in (pattern-tag l, term-tag l)
 
 pub bounds-y-i : goal.bounds-y-i
-bounds-y-i t c = let l = c.requires.0 in l.pattern_sizes.inside _ (pattern-room l)
-
-pub overflow_add-i : goal.overflow_add-i
-overflow_add-i t c =
-    let l = c.requires.0 in let end = (size-at _ l.pattern_sizes l.pattern c.wide.ensures.0).1 in let short = l.pattern_short in search rules
+bounds-y-i t c = let l = c.requires in l.pattern_sizes.inside _ (pattern-room l)
 
 pub has_mark-hidden-requires : goal.has_mark-hidden-requires
 has_mark-hidden-requires t c =
-    let l = c.requires.0 in ((size-at _ l.pattern_sizes l.pattern c.wide.ensures.0).1, l.pattern_short)
-
-pub raise-requires : goal.raise-requires
-raise-requires t c =
-    let l = c.requires.0 in let b = term-room l in let r = l.short in (c.requires.1, search rules)
+    let l = c.requires in ((size-at _ l.pattern_sizes l.pattern c.wide.ensures.0).1, l.pattern_short)
 
 pub returns-then-not-is_alike : goal.returns-then-not-is_alike
 returns-then-not-is_alike t c =
-    let pre = c.requires in let l = pre.0 in let found = marks-told l c.wide.ensures.0 c.has_mark-hidden.result c.has_mark-hidden.ensures in record { marked = found_as l c.raise.ensures.0 found; flags = raised-to c.raise.ensures.1 (around-differ l (says-no c.is_marked.result c.is_marked.ensures c.if-is_marked.false) (says-no c.is_alike.result c.is_alike.ensures (c.if-not-is_alike.true)) pre.1 c.has_mark-hidden.result found refl) }
-
-pub overflow_add-i-then-tag-eq-PAIR : goal.overflow_add-i-then-tag-eq-PAIR
-overflow_add-i-then-tag-eq-PAIR t c =
-    let l = c.requires.0 in let a = pattern-room l in let b = term-room l in let s = l.pattern_short in let r = l.short in search rules
-
-pub overflow_add-h : goal.overflow_add-h
-overflow_add-h t c =
-    let l = c.requires.0 in let a = pattern-room l in let b = term-room l in let s = l.pattern_short in let r = l.short in search rules
+    let pre = c.requires in let l = pre in let found = marks-told l c.wide.ensures.0 c.has_mark-hidden.result c.has_mark-hidden.ensures in record { marked = found_as l c.raise.ensures.0 found; flags = raised-to c.raise.ensures.1 (around-differ l (says-no c.is_marked.result c.is_marked.ensures c.if-is_marked.false) (says-no c.is_alike.result c.is_alike.ensures (c.if-not-is_alike.true)) (search rules) c.has_mark-hidden.result found) }
 
 pub mark_around-left-requires : goal.mark_around-left-requires
 mark_around-left-requires t c =
-    let pre = c.requires in let inside = pre.0.pattern_inside in (search rules, (left-around pre.0 c.if-tag-eq-PAIR.true (says-yes c.is_alike.result c.is_alike.ensures (c.if-not-is_alike.false)), pre.1))
-
-pub overflow_add-past : goal.overflow_add-past
-overflow_add-past t c =
-    let l = c.requires.0 in let a = pattern-room l in let b = term-room l in let s = l.pattern_short in let r = l.short in search rules
-
-pub overflow_add-i-then-tag-eq-PAIR-2 : goal.overflow_add-i-then-tag-eq-PAIR-2
-overflow_add-i-then-tag-eq-PAIR-2 t c =
-    let l = c.requires.0 in let a = pattern-room l in let b = term-room l in let s = l.pattern_short in let r = l.short in search rules
+    let pre = c.requires in let inside = pre.pattern_inside in (search rules, left-around pre c.if-tag-eq-PAIR.true (says-yes c.is_alike.result c.is_alike.ensures (c.if-not-is_alike.false)))
 
 pub bounds-y-i-then-tag-eq-PAIR : goal.bounds-y-i-then-tag-eq-PAIR
 bounds-y-i-then-tag-eq-PAIR t c =
-    let l = c.requires.0 in l.pattern_sizes.inside _ (pattern-room (left-around l c.if-tag-eq-PAIR.true (says-yes c.is_alike.result c.is_alike.ensures (c.if-not-is_alike.false))))
-
-pub overflow_add-past-then-tag-eq-PAIR : goal.overflow_add-past-then-tag-eq-PAIR
-overflow_add-past-then-tag-eq-PAIR t c =
-    let l = c.requires.0 in let end = (size-at _ l.pattern_sizes (left-around l c.if-tag-eq-PAIR.true (says-yes c.is_alike.result c.is_alike.ensures (c.if-not-is_alike.false))).pattern c.wide-then-tag-eq-PAIR.ensures.0).1 in let short = l.pattern_short in search rules
-
-pub overflow_add-h-then-tag-eq-PAIR : goal.overflow_add-h-then-tag-eq-PAIR
-overflow_add-h-then-tag-eq-PAIR t c =
-    let l = c.requires.0 in let a = pattern-room l in let b = term-room l in let s = l.pattern_short in let r = l.short in search rules
-
-pub overflow_add-h-then-tag-eq-PAIR-2 : goal.overflow_add-h-then-tag-eq-PAIR-2
-overflow_add-h-then-tag-eq-PAIR-2 t c =
-    let l = c.requires.0 in let a = pattern-room l in let b = term-room l in let s = l.pattern_short in let r = l.short in search rules
-
-pub bounds-z-h : goal.bounds-z-h
-bounds-z-h t c =
-    let l = c.requires.0 in let b = term-room (left-around l c.if-tag-eq-PAIR.true (says-yes c.is_alike.result c.is_alike.ensures (c.if-not-is_alike.false))) in let r = l.short in search rules
-
-pub overflow_add-h-then-tag-eq-PAIR-3 : goal.overflow_add-h-then-tag-eq-PAIR-3
-overflow_add-h-then-tag-eq-PAIR-3 t c =
-    let l = c.requires.0 in let end = (size-at _ l.sizes (left-around l c.if-tag-eq-PAIR.true (says-yes c.is_alike.result c.is_alike.ensures (c.if-not-is_alike.false))).term c.wide-then-tag-eq-PAIR-2.ensures.0).1 in let short = l.short in search rules
+    let l = c.requires in l.pattern_sizes.inside _ (pattern-room (left-around l c.if-tag-eq-PAIR.true (says-yes c.is_alike.result c.is_alike.ensures (c.if-not-is_alike.false))))
 
 pub mark_around-right-requires : goal.mark_around-right-requires
 mark_around-right-requires t c =
-    let pre = c.requires in let inside = pre.0.pattern_inside in
-    (search rules, (right-around pre.0 c.if-tag-eq-PAIR.true (says-yes c.is_alike.result c.is_alike.ensures (c.if-not-is_alike.false)) c.wide-then-tag-eq-PAIR.ensures.0 c.wide-then-tag-eq-PAIR-2.ensures.0, c.mark_around-left.ensures.flags.long))
-
-pub raise-requires-then-tag-eq-PAIR : goal.raise-requires-then-tag-eq-PAIR
-raise-requires-then-tag-eq-PAIR t c =
-    let l = c.requires.0 in let b = term-room l in let r = l.short in (c.mark_around-right.ensures.flags.long, search rules)
+    let pre = c.requires in let inside = pre.pattern_inside in
+    (search rules, right-around pre c.if-tag-eq-PAIR.true (says-yes c.is_alike.result c.is_alike.ensures (c.if-not-is_alike.false)) c.wide-then-tag-eq-PAIR.ensures.0 c.wide-then-tag-eq-PAIR-2.ensures.0)
 
 pub returns-then-tag-eq-PAIR : goal.returns-then-tag-eq-PAIR
 returns-then-tag-eq-PAIR t c =
-    let l = c.requires.0 in let past = c.wide-then-tag-eq-PAIR.ensures.0 in let right = c.wide-then-tag-eq-PAIR-2.ensures.0 in let found = pair-marked l c.if-tag-eq-PAIR.true (says-yes c.is_alike.result c.is_alike.ensures (c.if-not-is_alike.false)) past right c.mark_around-left.result c.mark_around-right.result c.either-found.ensures c.mark_around-left.ensures.marked c.mark_around-right.ensures.marked in record { marked = found_as l c.raise-then-tag-eq-PAIR.ensures.0 found; flags = raised-to c.raise-then-tag-eq-PAIR.ensures.1 (pair-laid-around l c.if-tag-eq-PAIR.true (says-yes c.is_alike.result c.is_alike.ensures (c.if-not-is_alike.false)) past right c.mark_around-left.ensures.flags c.mark_around-right.ensures.flags c.either-found.result found refl) }
+    let l = c.requires in let past = c.wide-then-tag-eq-PAIR.ensures.0 in let right = c.wide-then-tag-eq-PAIR-2.ensures.0 in let found = pair-marked l c.if-tag-eq-PAIR.true (says-yes c.is_alike.result c.is_alike.ensures (c.if-not-is_alike.false)) past right c.mark_around-left.result c.mark_around-right.result c.mark_around-left.ensures.marked c.mark_around-right.ensures.marked in record { marked = found_as l c.raise-then-tag-eq-PAIR.ensures.0 found; flags = raised-to c.raise-then-tag-eq-PAIR.ensures.1 (pair-laid-around l c.if-tag-eq-PAIR.true (says-yes c.is_alike.result c.is_alike.ensures (c.if-not-is_alike.false)) past right c.mark_around-left.ensures.flags c.mark_around-right.ensures.flags _ found) }
 
 pub children-requires : goal.children-requires
-children-requires t c = pattern-tag c.requires.0
-
-pub overflow_add-i-then-children-eq1 : goal.overflow_add-i-then-children-eq1
-overflow_add-i-then-children-eq1 t c =
-    let l = c.requires.0 in let a = pattern-room l in let b = term-room l in let s = l.pattern_short in let r = l.short in search rules
-
-pub overflow_add-h-then-children-eq1 : goal.overflow_add-h-then-children-eq1
-overflow_add-h-then-children-eq1 t c =
-    let l = c.requires.0 in let a = pattern-room l in let b = term-room l in let s = l.pattern_short in let r = l.short in search rules
+children-requires t c = pattern-tag c.requires
 
 pub mark_around-inner-requires : goal.mark_around-inner-requires
 mark_around-inner-requires t c =
-    let pre = c.requires in let inside = pre.0.pattern_inside in (search rules, (content-around pre.0 (one_tag _ (sym c.children.ensures.0 ∙ c.if-children-eq1.true)) (says-yes c.is_alike.result c.is_alike.ensures (c.if-not-is_alike.false)), pre.1))
-
-pub raise-requires-then-children-eq1 : goal.raise-requires-then-children-eq1
-raise-requires-then-children-eq1 t c =
-    let l = c.requires.0 in let b = term-room l in let r = l.short in (c.mark_around-inner.ensures.flags.long, search rules)
+    let pre = c.requires in let inside = pre.pattern_inside in (search rules, content-around pre (one_tag _ (sym c.children.ensures.0 ∙ c.if-children-eq1.true)) (says-yes c.is_alike.result c.is_alike.ensures (c.if-not-is_alike.false)))
 
 pub returns-then-children-eq1 : goal.returns-then-children-eq1
 returns-then-children-eq1 t c =
-    let l = c.requires.0 in let found = wrapped-marked l (one_tag _ (sym c.children.ensures.0 ∙ c.if-children-eq1.true)) (says-yes c.is_alike.result c.is_alike.ensures (c.if-not-is_alike.false)) c.mark_around-inner.result c.mark_around-inner.ensures.marked in record { marked = found_as l c.raise-then-children-eq1.ensures.0 found; flags = raised-to c.raise-then-children-eq1.ensures.1 (wrapped-laid-around l (one_tag _ (sym c.children.ensures.0 ∙ c.if-children-eq1.true)) (says-yes c.is_alike.result c.is_alike.ensures (c.if-not-is_alike.false)) c.mark_around-inner.ensures.flags c.mark_around-inner.result found refl) }
+    let l = c.requires in let found = wrapped-marked l (one_tag _ (sym c.children.ensures.0 ∙ c.if-children-eq1.true)) (says-yes c.is_alike.result c.is_alike.ensures (c.if-not-is_alike.false)) c.mark_around-inner.result c.mark_around-inner.ensures.marked in record { marked = found_as l c.raise-then-children-eq1.ensures.0 found; flags = raised-to c.raise-then-children-eq1.ensures.1 (wrapped-laid-around l (one_tag _ (sym c.children.ensures.0 ∙ c.if-children-eq1.true)) (says-yes c.is_alike.result c.is_alike.ensures (c.if-not-is_alike.false)) c.mark_around-inner.ensures.flags c.mark_around-inner.result found) }
 
 pub returns : goal.returns
 returns t c =
-    let pre = c.requires in let none = no-mark-found pre.0 (says-no c.is_marked.result c.is_marked.ensures c.if-is_marked.false) c.if-tag-eq-PAIR.false (λ w. c.if-children-eq1.false (c.children.ensures.0 ∙ sym (one-child w))) in record { marked = none; flags = none-laid pre.0 none pre.1 }
+    let pre = c.requires in let none = no-mark-found pre (says-no c.is_marked.result c.is_marked.ensures c.if-is_marked.false) c.if-tag-eq-PAIR.false (λ w. c.if-children-eq1.false (c.children.ensures.0 ∙ sym (one-child w))) in record { marked = none; flags = none-laid pre none (search rules) }

@@ -14,24 +14,18 @@ loop-k-init c = (search rules, raised-start, first-place _)
 
 pub is_risky-requires : goal.is_risky-requires
 is_risky-requires c =
-    let pre = c.requires in let whole = pre.0.whole in (searching-at (standing-concluded pre.0 (search rules)) (secret-lists refl), pre.1, pre.2)
-
-pub bounds-risky-k : goal.bounds-risky-k
-bounds-risky-k c = let whole = c.requires.0.whole in let short = c.requires.0.short in search rules
+    let pre = c.requires in let whole = pre.whole in searching-at (standing-concluded pre (search rules)) (secret-lists refl)
 
 pub next_place-k-requires : goal.next_place-k-requires
 next_place-k-requires c =
-    let pre = c.requires in let whole = pre.0.whole in let at = standing-concluded pre.0 (search rules) in (at.term, at.inside, at.short)
-
-pub loop-k-smaller : goal.loop-k-smaller
-loop-k-smaller c = let whole = c.requires.0.whole in search rules
+    let pre = c.requires in let whole = pre.whole in let at = standing-concluded pre (search rules) in (at.term, at.inside, at.short)
 
 pub loop-k-preserved : goal.loop-k-preserved
 loop-k-preserved c =
-    let pre = c.requires in let whole = pre.0.whole in let short = pre.0.short in
-    let inv = c.loop-k.invariant in let to = c.next_place-k.ensures in let next = next_place_lem pre.0.term whole inv.2 to.1 to.2 to.0 in
-    (search rules, places-more inv.1 inv.2 (search rules) c.is_risky.result c.flag_of.ensures c.is_risky.ensures to.1 next.between, next.place)
+    let pre = c.requires in let whole = pre.whole in let short = pre.short in
+    let inv = c.loop-k.invariant in let to = c.next_place-k.ensures in let next = next_place_lem pre.term whole inv.2 to.1 to.2 to.0 in
+    (search rules, places-more inv.1 inv.2 (search rules) c.is_risky.result c.is_risky.ensures to.1 next.between, next.place)
 
 pub returns : goal.returns
 returns c =
-    let whole = c.requires.0.whole in entries-flags (concluded-entries c.requires.0) c.loop-k.invariant.1 (search rules)
+    let whole = c.requires.whole in entries-flags (concluded-entries c.requires) c.loop-k.invariant.1 (search rules)

@@ -1,13 +1,8 @@
-use Prim.Native.Nat.{ℕ, ◌≤◌, ◌<◌, ◌-◌}
-use lib.ListN.{length}
-use Rattle.blocks.specs.Limits.{most_term_entries}
+use Prim.Native.Nat.{ℕ, ◌<◌}
 use mathlib.Core.Path.{◌≡◌}
 use Rattle.terms.specs.Entry.{term_of}
 use Rattle.judge.specs.CoverEntries.{FlaggedWith}
 use Rattle.judge.proofs.cover.stands_among.Given as goal
 
 abbrev pub invariant-loop-k : goal.invariant-loop-k
-invariant-loop-k l = (l.k ≤ most_term_entries) × ((j : ℕ) → j < l.k → ¬ FlaggedWith l.e l.flags (λ s. s ≡ term_of l.t) j)
-
-abbrev pub decreases-loop-k : goal.decreases-loop-k
-decreases-loop-k l = length l.e - l.k
+invariant-loop-k l = (j : ℕ) → j < l.k → ¬ FlaggedWith l.e l.flags (λ s. s ≡ term_of l.t) j

@@ -5,21 +5,12 @@ use mathlib.Core.Path.{◌≡◌}
 use lib.ListN.{length}
 use Rattle.terms.proofs.PlaceEntryLaws.{first-place, next_place_lem}
 use Rattle.judge.proofs.Covering.Flags.{raised-start}
-use Rattle.judge.proofs.Covering.Covers.{standing-entries, entries-flags, places-more}
+use Rattle.judge.proofs.Covering.Covers.{standing-entries, places-more}
 use borrow.Author.Rules.{rules}
 use Rattle.judge.proofs.cover.wanted_places.Goals as goal
 
-pub index_of-index-requires : goal.index_of-index-requires
-index_of-index-requires c = c.requires.2
-
 pub loop-k-init : goal.loop-k-init
 loop-k-init c = (search rules, raised-start, first-place _)
-
-pub is_wanted-requires : goal.is_wanted-requires
-is_wanted-requires c = let pre = c.requires in (pre.0, pre.1, search rules, pre.2, pre.3, c.index_of-index.ensures)
-
-pub bounds-wanted-k : goal.bounds-wanted-k
-bounds-wanted-k c = let short = c.requires.1.short in search rules
 
 pub next_place-k-requires : goal.next_place-k-requires
 next_place-k-requires c =
@@ -30,7 +21,4 @@ loop-k-preserved c =
     let pre = c.requires in let short = pre.1.short in
     let inv = c.loop-k.invariant in let to = c.next_place-k.ensures in let premise = c.args.premise.now in let some_entry : ¬ (length premise ≡ 0) = λ z. omega (arith, to.1, to.2) in
     let next = next_place_lem (pre.1.some_term some_entry) (pre.1.whole some_entry) inv.2 to.1 to.2 to.0 in
-    (search rules, places-more inv.1 inv.2 (search rules) c.is_wanted.result c.flag_of.ensures c.is_wanted.ensures to.1 next.between, next.place)
-
-pub returns : goal.returns
-returns c = entries-flags c.requires.1 c.loop-k.invariant.1 (search rules)
+    (search rules, places-more inv.1 inv.2 (search rules) c.is_wanted.result c.is_wanted.ensures to.1 next.between, next.place)

@@ -1,9 +1,5 @@
-use Prim.Native.Nat.{◌≤◌, ◌-◌}
 use Rattle.judge.specs.CoverEntries.{Narrowed}
 use Rattle.judge.proofs.flag.narrow.Given as goal
 
 abbrev pub invariant-loop-k : goal.invariant-loop-k
-invariant-loop-k l = (l.low ≤ l.k) × (l.k ≤ l.high) × Narrowed l.initial.flags l.flags l.low l.k l.kept
-
-abbrev pub decreases-loop-k : goal.decreases-loop-k
-decreases-loop-k l = l.high - l.k
+invariant-loop-k l = Narrowed l.initial.flags l.flags l.low l.k l.kept

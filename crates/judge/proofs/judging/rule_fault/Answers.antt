@@ -2,52 +2,39 @@
 -- of 12 too, and what is remembered is about the rule before. Assumes nothing.
 use mathlib.Core.Path.{sym, ap, ◌∙◌}
 use Rattle.judge.specs.Judgement.{judged_of}
-use Rattle.judge.proofs.Stages.Heads.{heads}
-use Rattle.judge.proofs.Stages.FormLaws.{judged-some, first-stop, first_more, first-end}
-use Rattle.judge.proofs.Stages.JudgingLaws.{refuse-secret, hold-both, held_start, held_next, held-end, secret-start, uncovered-start, rule-secret, rule-uncovered}
+use Rattle.judge.specs.Verdict.{rule_fault}
+use Rattle.judge.proofs.Stages.FormLaws.{none_of, passed, tried, goes-on, first_step, first_end}
+use Rattle.judge.proofs.Stages.JudgingLaws.{refused, hold-both, held_next, held-end, held-told, held-nothing, secret-start, uncovered-start}
 use Rattle.judge.proofs.Covering.Repeats.{nothing-before}
 use borrow.Author.Rules.{rules}
 use Rattle.judge.proofs.judging.rule_fault.Goals as goal
 
-pub overflow_mul-head : goal.overflow_mul-head
-overflow_mul-head c = let laid = c.requires in let inside = c.leading-n.ensures.inside in search rules
-
-pub slice_bounds-head-end : goal.slice_bounds-head-end
-slice_bounds-head-end c = let laid = c.requires in let inside = c.leading-n.ensures.inside in search rules
-
-pub secret_roots-roots-requires : goal.secret_roots-roots-requires
-secret_roots-roots-requires c = (heads c.requires c.leading-n.ensures).laid
-
-pub listed_sizes-sizes-requires : goal.listed_sizes-sizes-requires
-listed_sizes-sizes-requires c = (heads c.requires c.leading-n.ensures).laid
-
 pub loop-i-init : goal.loop-i-init
-loop-i-init c =
-    (search rules, secret-start _ _, held_start _ _ _ (uncovered-start _ _), nothing-before (search rules), nothing-before (search rules))
+loop-i-init c = (secret-start _ _, uncovered-start _ _, nothing-before (search rules), nothing-before (search rules))
 
-pub rule_at-requires : goal.rule_at-requires
-rule_at-requires c =
-    let laid = c.requires in (
-      record { laid = laid; heads = heads laid c.leading-n.ensures; rooted = c.secret_roots-roots.ensures; sized = c.listed_sizes-sizes.ensures },
-      c.loop-i-test.true,
-      c.loop-i.invariant.3,
-      c.loop-i.invariant.4,
-    )
-
-pub returns-in-Refuse : goal.returns-in-Refuse
-returns-in-Refuse c =
-    let inv = c.loop-i.invariant in judged-some (rule-secret _ _ (sym inv.1 ∙ first-stop _ _ _ c.loop-i-test.true (refuse-secret _ _ _ c.rule_at.ensures.answer c.in-Refuse.is)))
+pub returns-in_err-held : goal.returns-in_err-held
+unfolding rule_fault
+returns-in_err-held c =
+    let left = sym (first_step _ _ _ c.loop-i-test.true) ∙ c.loop-i.invariant.0 in
+    passed c.from_residual.ensures.1 (tried _ _ (tried _ _ (refused _ _ _ c.in_err-held.ensures.answer) ∙ ap judged_of left))
 
 pub loop-i-preserved : goal.loop-i-preserved
 loop-i-preserved c =
-    let inv = c.loop-i.invariant in let told = hold-both _ _ _ c.rule_at.ensures.answer c.in-Hold.is in (
-      search rules,
-      first_more _ _ _ c.loop-i-test.true told.0 ∙ inv.1,
-      held_next _ _ _ c.loop-i-test.true _ told.1 inv.2,
+    let inv = c.loop-i.invariant in let told = hold-both _ _ _ c.in_ok-held.ensures.answer in let fine = none_of _ told.0 in (
+      rw fine at (sym (first_step _ _ _ c.loop-i-test.true) ∙ inv.0),
+      held_next _ _ _ c.loop-i-test.true _ told.1 inv.1,
       c.rule_at.ensures.premise,
       c.rule_at.ensures.conclusion,
     )
 
-pub returns : goal.returns
-returns c =
-    let inv = c.loop-i.invariant in held-end _ _ _ c.loop-i-test.false _ inv.2 ∙ ap judged_of (sym (rule-uncovered _ _ (sym inv.1 ∙ first-end _ _ _ c.loop-i-test.false)))
+pub returns-in-Some : goal.returns-in-Some
+unfolding rule_fault
+returns-in-Some c =
+    let inv = c.loop-i.invariant in let done = c.loop-i-test.false in
+    goes-on _ _ (sym (first_end _ _ _ done) ∙ inv.0) (held-told _ (sym c.in-Some.is ∙ held-end _ _ _ done _ inv.1))
+
+pub returns-in-None : goal.returns-in-None
+unfolding rule_fault
+returns-in-None c =
+    let inv = c.loop-i.invariant in let done = c.loop-i-test.false in
+    goes-on _ _ (sym (first_end _ _ _ done) ∙ inv.0) (held-nothing _ (sym c.in-None.is ∙ held-end _ _ _ done _ inv.1))

@@ -1,16 +1,15 @@
 -- `judge::line::put` meets its contract: the first i bytes of the text are written. Assumes nothing.
-use mathlib.Core.Path.{refl}
 use lib.ListN.{length-set}
 use Rattle.judge.proofs.Answering.Printing.{pasted-none, pasted-more, put_all}
 use borrow.Author.Rules.{rules}
 use Rattle.judge.proofs.line.put.Goals as goal
 
 pub loop-i-init : goal.loop-i-init
-loop-i-init c = (pasted-none _ _, search rules, refl)
+loop-i-init c = (pasted-none _ _, search rules)
 
 pub loop-i-preserved : goal.loop-i-preserved
 loop-i-preserved c =
-    let inv = c.loop-i.invariant in (pasted-more inv.0 c.requires inv.2 c.loop-i-test.true, search rules, simp length-set inv.2)
+    let inv = c.loop-i.invariant in (pasted-more inv.0 c.requires inv.1 c.loop-i-test.true, simp length-set inv.1)
 
 pub returns : goal.returns
-returns c = let inv = c.loop-i.invariant in put_all inv.0 c.requires inv.1 c.loop-i-test.false
+returns c = put_all c.loop-i.invariant.0 c.requires c.loop-i-test.false

@@ -3,10 +3,6 @@ use Rattle.judge.specs.File.{certificate_of}
 use Rattle.judge.proofs.Stages.Numbers.{inverse-at}
 use Rattle.judge.proofs.listed.inverse_of.Goals as goal
 
-pub atom_at-requires : goal.atom_at-requires
-unfolding certificate_of
-atom_at-requires c = c.requires.atoms
-
 pub returns : goal.returns
 unfolding certificate_of
 returns c = (inverse-at (certificate_of c.args.file.now) _ c.atom_at.ensures.0, c.atom_at.ensures.1)

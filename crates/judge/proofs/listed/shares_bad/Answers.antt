@@ -5,19 +5,7 @@ use Rattle.judge.specs.Listed.{shares_listed?, shares_everywhere?}
 use Rattle.judge.proofs.Stages.Tables.{all-count}
 use Rattle.judge.proofs.listed.shares_bad.Goals as goal
 
-pub some_marked-requires : goal.some_marked-requires
-some_marked-requires c = c.requires.1.rows.long
-
-pub shares_unmarked-requires : goal.shares_unmarked-requires
-shares_unmarked-requires c = c.requires
-
-pub shares_listed-requires : goal.shares_listed-requires
-shares_listed-requires c = c.requires
-
-pub returns-then-some_marked : goal.returns-then-some_marked
-returns-then-some_marked c = c.shares_unmarked.ensures
-
 pub returns-else-some_marked : goal.returns-else-some_marked
 returns-else-some_marked c =
-    let pre = c.requires in let same = all-count pre.0.laid pre.1 (says-no c.some_marked.result c.some_marked.ensures c.if-some_marked.false) in
+    let pre = c.requires in let same = all-count pre.0.laid c.args.tables.now.sized (says-no c.some_marked.result c.some_marked.ensures c.if-some_marked.false) in
     c.shares_listed.ensures ∙ answer-same (shares_listed? _ _ _) (shares_everywhere? _ _ _) same.0 same.1

@@ -6,9 +6,6 @@ use Rattle.judge.proofs.Stages.Listing.{all_among}
 use borrow.Author.Rules.{rules}
 use Rattle.judge.proofs.listed.shares_listed.Goals as goal
 
-pub shares_among-requires : goal.shares_among-requires
-shares_among-requires c = let pre = c.requires in (pre.0, pre.1, pre.2, search rules, search rules)
-
 pub returns : goal.returns
 returns c =
-    all_among c.requires.0 (λ p. Share (atoms_in c.args.file.now) p (term_of c.args.e.now)) (search rules) c.shares_among.result c.shares_among.ensures (shares_listed? _ _ _)
+    all_among c.requires.0 (λ p. Share (atoms_in c.args.tables.now.file.now) p (term_of c.args.e.now)) (search rules) c.shares_among.result c.shares_among.ensures (shares_listed? _ _ _)

@@ -1,31 +1,22 @@
 -- `judge::listed::unmarked_shares` meets its contract. Assumes nothing.
-use native.Mathlib.Omega.{arith}
-use Rattle.judge.specs.Listed.{atoms_in}
+use borrow.Author.Tests.{ne_eqb}
+use Rattle.blocks.proofs.KindLaws.{bad-lists}
+use Rattle.terms.specs.Decisions.{says_same}
+use Rattle.terms.specs.Term.{Term, Variable}
 use Rattle.terms.specs.Instance.{Share}
 use Rattle.terms.specs.Entry.{term_of}
-use Rattle.terms.proofs.AnswerLaws.{says-yes, says-no}
-use Rattle.judge.proofs.Stages.Listing.{other-kind}
-use Rattle.judge.proofs.Stages.Tables.{unmarked-counts, marked-out, counted-among}
-use borrow.Author.Rules.{rules}
+use Rattle.judge.specs.Listed.{atoms_in}
+use Rattle.judge.proofs.Stages.Listing.{one-among, counted-answer}
+use Rattle.judge.proofs.Stages.Tables.{unmarked-counts, marked-counts-not}
 use Rattle.judge.proofs.listed.unmarked_shares.Goals as goal
 
-pub last_mark_of-requires : goal.last_mark_of-requires
-last_mark_of-requires c = let pre = c.requires in let few = pre.0.laid.few in (pre.2.rows.long, search rules)
+pub returns-then-last_mark_of-eq0 : goal.returns-then-last_mark_of-eq0
+returns-then-last_mark_of-eq0 c =
+    let pre = c.requires in let b = c.shares_among.result in let P = (λ (p : Term Variable). Share (atoms_in c.args.tables.now.file.now) p (term_of c.args.e.now)) in
+    let one = one-among P in
+    counted-answer c.args.tables.now.file.now c.args.i P (unmarked-counts c.args.tables.now.sized pre.1 (bad-lists pre.2) c.last_mark_of.ensures c.if-last_mark_of-eq0.true) b
+    (says_same b (λ w. (one.0 w).holds) (λ h. one.1 (record { has_kind = pre.2; holds = h })) c.shares_among.ensures)
 
-pub returns-then-last_mark_of-gt0 : goal.returns-then-last_mark_of-gt0
-returns-then-last_mark_of-gt0 c =
-    let pre = c.requires in marked-out pre.2 pre.0.lists pre.1 (says-yes c.is_kind.result c.is_kind.ensures c.if-is_kind.true) c.last_mark_of.ensures (λ z. omega (arith, c.if-last_mark_of-gt0.true))
-
-pub overflow_add-i : goal.overflow_add-i
-overflow_add-i c = let few = c.requires.0.laid.few in let below = c.requires.1 in search rules
-
-pub shares_among-requires : goal.shares_among-requires
-shares_among-requires c = let pre = c.requires in (pre.0, pre.2, pre.3, omega arith, omega (arith, pre.1))
-
-pub returns-else-last_mark_of-gt0 : goal.returns-else-last_mark_of-gt0
-returns-else-last_mark_of-gt0 c =
-    let pre = c.requires in counted-among c.args.file.now c.args.i (λ p. Share (atoms_in c.args.file.now) p (term_of c.args.e.now)) (unmarked-counts pre.2 pre.0.lists pre.1 (says-yes c.is_kind.result c.is_kind.ensures c.if-is_kind.true) c.last_mark_of.ensures (omega (arith, c.if-last_mark_of-gt0.false)))
-    c.shares_among.result c.shares_among.ensures
-
-pub returns-else-is_kind : goal.returns-else-is_kind
-returns-else-is_kind c = other-kind (says-no c.is_kind.result c.is_kind.ensures c.if-is_kind.false)
+pub returns-else-last_mark_of-eq0 : goal.returns-else-last_mark_of-eq0
+returns-else-last_mark_of-eq0 c =
+    let off = c.if-last_mark_of-eq0.false in rw (ne_eqb _ _ off) (λ h. marked-counts-not c.args.tables.now.sized c.requires.1 (bad-lists c.requires.2) c.last_mark_of.ensures off h.0)

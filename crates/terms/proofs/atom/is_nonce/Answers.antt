@@ -4,11 +4,8 @@ use Rattle.terms.specs.Decisions.{says_same}
 use Rattle.terms.specs.Atom.{foreign_nonce}
 use native.Mathlib.Omega.{arith}
 use lib.Dec.{leb}
-use Rattle.terms.proofs.NonceLaws.{flag-says, unflagged-nonce}
+use Rattle.terms.proofs.NonceLaws.{unflagged-nonce}
 use Rattle.terms.proofs.atom.is_nonce.Goals as goal
-
-pub returns-then-n-nonces : goal.returns-then-n-nonces
-returns-then-n-nonces c = λ atoms told. flag-says told c.if-n-nonces.true
 
 pub returns-else-n-nonces : goal.returns-else-n-nonces
 returns-else-n-nonces c =

@@ -1,19 +1,19 @@
--- `terms::classes::find` meets its contract: node k is on the way to the name, with `left` links at most left to follow.
+-- `terms::classes::find` meets its contract: node k is on the way to the name, with so many links at most left to follow.
 -- Assumes nothing.
+use native.Mathlib.Omega.{arith}
 use Rattle.terms.proofs.NameLaws.{way-starts, way-arrives, way-goes-on, way-ends}
 use borrow.Author.Rules.{rules}
 use Rattle.terms.proofs.classes.find.Goals as goal
 
-pub loop-left-init : goal.loop-left-init
-loop-left-init c = (search rules, search rules, search rules, way-starts _ _)
+pub loop-init : goal.loop-init
+loop-init c = (search rules, way-starts _ _)
 
 pub returns-then-next-k : goal.returns-then-next-k
 returns-then-next-k c =
-    (way-arrives c.loop-left.invariant.3 (search rules) c.wide-next.ensures.0 c.if-next-k.true, search rules)
+    (way-arrives c.loop.invariant.1 (search rules) c.wide-next.ensures.0 c.if-next-k.true, search rules)
 
-pub loop-left-preserved : goal.loop-left-preserved
-loop-left-preserved c =
-    (search rules, search rules, search rules, way-goes-on c.loop-left.invariant.3 (search rules) c.wide-next.ensures.0 c.loop-left-test.true)
+pub loop-preserved : goal.loop-preserved
+loop-preserved c = (search rules, way-goes-on c.loop.invariant.1 (search rules) c.wide-next.ensures.0 (omega arith))
 
 pub returns : goal.returns
-returns c = (way-ends c.loop-left.invariant.3 (search rules), search rules)
+returns c = (way-ends c.loop.invariant.1 (omega arith), search rules)

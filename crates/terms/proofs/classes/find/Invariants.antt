@@ -1,11 +1,6 @@
-use mathlib.Core.Path.{◌≡◌}
-use Prim.Native.Nat.{◌<◌, ◌≤◌}
-use lib.ListN.{length}
+use Prim.Native.Nat.{◌<◌, ◌-◌}
 use Rattle.terms.proofs.NameLaws.{WayToName}
 use Rattle.terms.proofs.classes.find.Given as goal
 
-abbrev pub invariant-loop-left : goal.invariant-loop-left
-invariant-loop-left l = (l.k < 256) × (l.left ≤ 256) × (length l.c ≡ 256) × WayToName l.c l.i l.left l.k
-
-abbrev pub decreases-loop-left : goal.decreases-loop-left
-decreases-loop-left l = l.left
+abbrev pub invariant-loop : goal.invariant-loop
+invariant-loop l = (l.k < 256) × WayToName l.c l.fn.i (256 - l.counter) l.k

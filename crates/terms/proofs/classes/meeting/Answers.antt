@@ -3,6 +3,7 @@ use mathlib.Core.Path.{sym, ◌∙◌}
 use mathlib.Core.Logic.{inl, inr}
 use native.Mathlib.Omega.{arith}
 use Rattle.terms.specs.Meeting.{Symbols}
+use Rattle.terms.proofs.TermGraphLaws.{two_terms}
 use Rattle.terms.proofs.TagLaws.{one_tag, one-child}
 use Rattle.terms.proofs.ClassLaws.{both-symbols}
 use Rattle.terms.specs.TermGraph.{OwnEntry}
@@ -11,17 +12,14 @@ use Rattle.terms.proofs.classes.meeting.Goals as goal
 use Rattle.terms.proofs.classes.meeting.Goals.{Else-a-ge-VARIABLE_NODES}
 
 -- Both names are symbols, and stand at entries.
-both : (c : Else-a-ge-VARIABLE_NODES) → let args = c.args in Symbols args.s.now args.t.now args.a args.b
-both c = let pre = c.requires in both-symbols pre.1 pre.2 pre.3 c.if-a-ge-VARIABLE_NODES.false
+both : (c : Else-a-ge-VARIABLE_NODES) → let args = c.args in Symbols args.g.now.s.now args.g.now.t.now args.a args.b
+both c = let pre = c.requires in both-symbols pre.0 pre.1 pre.2 c.if-a-ge-VARIABLE_NODES.false
 
-first : (c : Else-a-ge-VARIABLE_NODES) → let args = c.args in OwnEntry args.s.now args.t.now args.a
-first c = let pre = c.requires in symbol-inside pre.0 (home-symbol pre.1 c.if-a-ge-VARIABLE_NODES.false)
+first : (c : Else-a-ge-VARIABLE_NODES) → let args = c.args in OwnEntry args.g.now.s.now args.g.now.t.now args.a
+first c = let pre = c.requires in symbol-inside (two_terms c.args.g.now.terms) (home-symbol pre.0 c.if-a-ge-VARIABLE_NODES.false)
 
-second : (c : Else-a-ge-VARIABLE_NODES) → let args = c.args in OwnEntry args.s.now args.t.now args.b
-second c = let pre = c.requires in symbol-inside pre.0 (home-symbol pre.2 (omega (arith, pre.3, c.if-a-ge-VARIABLE_NODES.false)))
-
-pub returns-then-a-ge-VARIABLE_NODES : goal.returns-then-a-ge-VARIABLE_NODES
-returns-then-a-ge-VARIABLE_NODES c = c.if-a-ge-VARIABLE_NODES.true
+second : (c : Else-a-ge-VARIABLE_NODES) → let args = c.args in OwnEntry args.g.now.s.now args.g.now.t.now args.b
+second c = let pre = c.requires in symbol-inside (two_terms c.args.g.now.terms) (home-symbol pre.1 (omega (arith, pre.2, c.if-a-ge-VARIABLE_NODES.false)))
 
 pub tag_at-tag-requires : goal.tag_at-tag-requires
 tag_at-tag-requires c = first (goal.at.tag_at-tag-requires c).Else-a-ge-VARIABLE_NODES
@@ -56,7 +54,7 @@ returns-then-value_at c =
 
 pub children-requires : goal.children-requires
 children-requires c =
-    rw c.tag_at-tag.ensures (own-tag c.requires.0 (first (goal.at.children-requires c).Else-a-ge-VARIABLE_NODES))
+    rw c.tag_at-tag.ensures (own-tag (two_terms c.args.g.now.terms) (first (goal.at.children-requires c).Else-a-ge-VARIABLE_NODES))
 
 pub returns-then-children-eq1 : goal.returns-then-children-eq1
 returns-then-children-eq1 c =

@@ -1,14 +1,7 @@
 -- `terms::entry::end_of` meets its contract. Assumes nothing.
 use native.Mathlib.Omega.{arith}
 use Rattle.terms.proofs.SizeLaws.{size-at}
-use borrow.Author.Rules.{rules}
 use Rattle.terms.proofs.entry.end_of.Goals as goal
-
-pub bounds-z-h : goal.bounds-z-h
-bounds-z-h c = let pre = c.requires in let small = pre.2 in let short = pre.3 in search rules
-
-pub overflow_add-result : goal.overflow_add-result
-overflow_add-result c = let small = c.requires.2 in let short = c.requires.3 in search rules
 
 pub returns : goal.returns
 returns c =

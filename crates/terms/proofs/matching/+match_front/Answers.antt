@@ -9,6 +9,7 @@ use Rattle.terms.proofs.MatchLaws.{variable-nonces, variable-refused}
 use Rattle.terms.proofs.MatchLaws.{symbol-ready, symbol-step, symbol-clash}
 use borrow.Author.Rules.{rules}
 use Rattle.terms.proofs.matching.+match_front.Goals as goal
+use Rattle.terms.proofs.matching.+match_front.Goals.{then-not-may_take-via-then-not-may_take, then-not-may_take-via-else-not-may_take+then-not-bindable}
 
 pub returns-then-need-eq0 : goal.returns-then-need-eq0
 returns-then-need-eq0 t c = λ atoms told held. made_none c.if-need-eq0.true held
@@ -21,9 +22,12 @@ may_take-requires t c =
     let ready = c.requires in let inside = ready.inside in (subject-begins ready c.if-need-eq0.false, omega arith, ready.small)
 
 pub returns-then-not-may_take : goal.returns-then-not-may_take
-returns-then-not-may_take t c =
-    λ atoms told held. variable-refused c.requires c.if-need-eq0.false c.slot-x.ensures c.if-x-lt-SLOTS.true (search rules) atoms
-    (says-no c.may_take.result (c.may_take.ensures atoms told) (c.if-not-may_take.true))
+returns-then-not-may_take t c = λ atoms told held. elim c.then-not-may_take.branch [
+  | then-not-may_take-via-then-not-may_take w ↦ variable-refused c.requires c.if-need-eq0.false c.slot-x.ensures c.if-x-lt-SLOTS.true (search rules) atoms
+      (says-no c.may_take.result (c.may_take.ensures atoms told) w.if-not-may_take.true)
+  | then-not-may_take-via-else-not-may_take+then-not-bindable w ↦ variable-clash c.requires c.if-need-eq0.false c.slot-x.ensures c.if-x-lt-SLOTS.true (search rules) atoms
+      (denied w.if-not-bindable.true w.bindable.ensures)
+]
 
 pub bindable-requires : goal.bindable-requires
 bindable-requires t c =
@@ -31,7 +35,7 @@ bindable-requires t c =
 
 pub returns-then-need-eq1 : goal.returns-then-need-eq1
 returns-then-need-eq1 t c =
-    λ atoms told held. let free = said c.if-bindable.true c.bindable.ensures in
+    λ atoms told held. let free = said c.if-not-bindable.false c.bindable.ensures in
     variable-last c.requires c.if-need-eq0.false c.slot-x.ensures c.if-x-lt-SLOTS.true (search rules) atoms c.if-need-eq1.true held
     (says-yes c.may_take.result (c.may_take.ensures atoms told) (c.if-not-may_take.false)) free
 
@@ -61,14 +65,9 @@ pub returns-else-need-eq1 : goal.returns-else-need-eq1
 returns-else-need-eq1 t c =
     λ atoms told held. let may = says-yes c.may_take.result (c.may_take.ensures atoms told) (c.if-not-may_take.false) in
     variable-step c.requires c.if-need-eq0.false c.slot-x.ensures c.if-x-lt-SLOTS.true (search rules) atoms c.term_size.ensures.0 c.bind.ensures
-    (said c.if-bindable.true c.bindable.ensures) c.match_front.result
+    (said c.if-not-bindable.false c.bindable.ensures) c.match_front.result
     (c.match_front.ensures atoms told
     (variable-nonces c.requires c.if-need-eq0.false c.slot-x.ensures c.if-x-lt-SLOTS.true (search rules) atoms held may c.bind.ensures))
-
-pub returns-else-bindable : goal.returns-else-bindable
-returns-else-bindable t c =
-    λ atoms told held. variable-clash c.requires c.if-need-eq0.false c.slot-x.ensures c.if-x-lt-SLOTS.true (search rules) atoms
-    (denied c.if-bindable.false c.bindable.ensures)
 
 pub returns-then-same_entry : goal.returns-then-same_entry
 returns-then-same_entry t c =
@@ -77,4 +76,4 @@ returns-then-same_entry t c =
 
 pub returns-else-same_entry : goal.returns-else-same_entry
 returns-else-same_entry t c =
-    λ atoms told held. symbol-clash c.requires c.if-need-eq0.false c.slot-x.ensures c.if-x-lt-SLOTS.false atoms (denied c.if-same_entry.false c.same_entry.ensures)
+    λ atoms told held. rw c.if-same_entry.false (symbol-clash c.requires c.if-need-eq0.false c.slot-x.ensures c.if-x-lt-SLOTS.false atoms (denied c.if-same_entry.false c.same_entry.ensures))

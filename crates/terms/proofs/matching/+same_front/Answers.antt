@@ -3,6 +3,7 @@ use Rattle.terms.proofs.EntryLaws.{begins-tag}
 use Rattle.terms.proofs.FrontLaws.{front-begins, none-compared}
 use Rattle.terms.proofs.SameLaws.{same-below, same_step, same-clash, said, denied}
 use borrow.Author.Rules.{rules}
+use borrow.Author.Tests.{eq-eqb}
 use Rattle.terms.proofs.matching.+same_front.Goals as goal
 
 pub same_entry-requires : goal.same_entry-requires
@@ -17,7 +18,7 @@ same_front-requires t c =
     (search rules, same-below c.requires c.if-need-eq0.false (said c.if-same_entry.true c.same_entry.ensures) c.children.ensures.0)
 
 pub returns-then-need-eq0 : goal.returns-then-need-eq0
-returns-then-need-eq0 t c = none-compared _ _ _ c.if-need-eq0.true
+returns-then-need-eq0 t c = rw (eq-eqb _ _ c.if-need-eq0.true) (none-compared _ _ _ c.if-need-eq0.true)
 
 pub returns-then-same_entry : goal.returns-then-same_entry
 returns-then-same_entry t c =
@@ -26,4 +27,4 @@ returns-then-same_entry t c =
 
 pub returns-else-same_entry : goal.returns-else-same_entry
 returns-else-same_entry t c =
-    same-clash c.requires c.if-need-eq0.false (denied c.if-same_entry.false c.same_entry.ensures)
+    rw c.if-same_entry.false (same-clash c.requires c.if-need-eq0.false (denied c.if-same_entry.false c.same_entry.ensures))

@@ -17,17 +17,6 @@ pub returns-then-wide-gt-LAST : goal.returns-then-wide-gt-LAST
 returns-then-wide-gt-LAST c =
     let args = c.args in let is = c.wide.ensures.0 in (home-past args.e.now args.base args.slots args.k (omega (arith, c.if-wide-gt-LAST.true)), search rules)
 
-pub first_slot-requires : goal.first_slot-requires
-first_slot-requires c = says-yes c.is_variable.result c.is_variable.ensures (c.if-not-is_variable.false)
-
-pub overflow_add-result-2 : goal.overflow_add-result-2
-overflow_add-result-2 c =
-    let first = c.first_slot.ensures.0 in let is = c.wide.ensures.0 in let few = c.if-wide-gt-LAST.false in search rules
-
-pub overflow_add-result-3 : goal.overflow_add-result-3
-overflow_add-result-3 c =
-    let first = c.first_slot.ensures.0 in let is = c.wide.ensures.0 in let few = c.if-wide-gt-LAST.false in search rules
-
 pub returns : goal.returns
 returns c =
     let args = c.args in let first = c.first_slot.ensures.0 in let is = c.wide.ensures.0 in let few = c.if-wide-gt-LAST.false in (

@@ -1,15 +1,11 @@
 use mathlib.Core.Path.{◌≡◌}
 use mathlib.Core.Bool.{true}
-use Prim.Native.Nat.{ℕ, ◌+◌, ◌-◌, ◌≤◌, ◌<◌}
+use Prim.Native.Nat.{ℕ, ◌+◌, ◌≤◌, ◌<◌}
 use lib.ListN.{get_or}
-use Rattle.terms.specs.Slot.{any_slots, slot_count}
+use Rattle.terms.specs.Slot.{any_slots}
 use Rattle.terms.specs.TermGraph.{variable_nodes, right_variables}
 use Rattle.terms.proofs.sharing.nonces_alone.Given as goal
 
 abbrev pub invariant-loop-k : goal.invariant-loop-k
-invariant-loop-k l = (l.k ≤ slot_count) × (any_slots ≤ l.k)
-    × (l.alone ≡ true → (j : ℕ) → any_slots ≤ j → j < l.k
-    → (get_or l.c (variable_nodes + j) 0 ≡ variable_nodes + j) × (get_or l.c (right_variables + j) 0 ≡ right_variables + j))
-
-abbrev pub decreases-loop-k : goal.decreases-loop-k
-decreases-loop-k l = slot_count - l.k
+invariant-loop-k l = l.alone ≡ true → (j : ℕ) → any_slots ≤ j → j < l.k
+    → (get_or l.c (variable_nodes + j) 0 ≡ variable_nodes + j) × (get_or l.c (right_variables + j) 0 ≡ right_variables + j)

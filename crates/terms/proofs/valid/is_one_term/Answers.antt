@@ -6,8 +6,7 @@ use borrow.Author.Rules.{rules}
 use Rattle.terms.proofs.valid.is_one_term.Goals as goal
 
 pub are_terms-requires : goal.are_terms-requires
-are_terms-requires c =
-    (search rules, search rules, search rules, some-tags c.tags-tags.result c.requires.0 c.tags-tags.ensures)
+are_terms-requires c = (search rules, search rules, some-tags c.tags-tags.result c.requires.0 c.tags-tags.ensures)
 
 pub returns : goal.returns
 returns c =

@@ -1,23 +1,14 @@
--- `terms::valid::wrong_atom` meets its contract: the atoms before atom i are right. Assumes nothing.
-use native.Mathlib.Omega.{arith}
-use borrow.Author.Count.{below_none, below_more}
-use Rattle.terms.proofs.AnswerLaws.{says-yes, says-no}
-use Rattle.terms.proofs.AtomLaws.{joined_length, atom-wrong, atoms-right}
+-- `terms::valid::wrong_atom` meets its contract. Assumes nothing.
+use Prim.Native.Nat.{ℕ}
 use borrow.Author.Rules.{rules}
+use Rattle.std.proofs.lemmas.Iterator.{first_from_Range}
+use Rattle.terms.specs.Atom.{AtomRight, joined_atoms, atom_right?, wrong_atom}
+use Rattle.terms.proofs.FirstLaws.{first-found, first-only}
 use Rattle.terms.proofs.valid.wrong_atom.Goals as goal
 
-pub loop-i-init : goal.loop-i-init
-loop-i-init c = (search rules, below_none _)
-
-pub loop-i-preserved : goal.loop-i-preserved
-loop-i-preserved c =
-    (search rules, below_more _ _ c.loop-i.invariant.1 (says-yes c.right_atom.result c.right_atom.ensures c.if-right_atom.true))
-
-pub returns-else-right_atom : goal.returns-else-right_atom
-returns-else-right_atom c =
-    let a = c.args in atom-wrong _ _ (omega (arith, c.loop-i-test.true, joined_length a.atoms.now a.more.now)) c.loop-i.invariant.1
-    (says-no c.right_atom.result c.right_atom.ensures c.if-right_atom.false)
-
 pub returns : goal.returns
+unfolding wrong_atom
 returns c =
-    let a = c.args in atoms-right _ (λ k l. c.loop-i.invariant.1 k (omega (arith, joined_length a.atoms.now a.more.now)))
+    let all = joined_atoms c.args.atoms.now c.args.more.now in
+    let found = first_from_Range _ _ _ c.find.result (λ (i : ℕ). ¬ AtomRight all i) (AtomRight all) c.find.ensures.ran (search rules) (search rules) in
+    rw c.count.ensures at (first-only (atom_right? all) (first-found _ found))

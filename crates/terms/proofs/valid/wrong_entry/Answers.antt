@@ -1,39 +1,21 @@
--- `terms::valid::wrong_entry` meets its contract: the entries before entry i are right. Assumes nothing.
-use native.Mathlib.Omega.{arith}
-use mathlib.Core.Path.{◌≡◌, sym, ap, ◌∙◌}
-use mathlib.Core.List.{List}
-use Prim.Native.Nat.{ℕ, ◌+◌, ◌/◌}
-use lib.ListN.{length}
-use borrow.Author.Count.{below_none, below_more}
-use Rattle.terms.specs.Atom.{joined_atoms}
-use Rattle.terms.specs.EntryTables.{limits_of}
-use Rattle.terms.proofs.AtomLaws.{joined_length}
-use Rattle.terms.proofs.EntryTableLaws.{entry-yes, entry-no, entry-wrong, entries-right}
+-- `terms::valid::wrong_entry` meets its contract. Assumes nothing.
+use mathlib.Core.Path.{ap, ◌∙◌}
+use Prim.Native.Nat.{ℕ, ◌*◌}
 use borrow.Author.Rules.{rules}
+use Rattle.std.proofs.lemmas.Iterator.{first_from_Range}
+use Rattle.terms.specs.Atom.{joined_atoms}
+use Rattle.terms.specs.Entry.{from}
+use Rattle.terms.specs.EntryTables.{ByLimits, limits_of}
+use Rattle.terms.specs.TermEntry.{right_at?, wrong_entry}
+use Rattle.terms.proofs.EntryTableLaws.{limits-right}
+use Rattle.terms.proofs.FirstLaws.{first-along, first-found, first-only}
 use Rattle.terms.proofs.valid.wrong_entry.Goals as goal
 
--- The limits are those for so many atoms.
-tables : (atoms more : List ℕ) (kind : ℕ) {limits : List ℕ} → limits ≡ limits_of kind (length atoms / 4 + length more / 4)
-    → limits ≡ limits_of kind (length (joined_atoms atoms more))
-tables atoms more kind is = is ∙ ap (limits_of kind) (sym (joined_length atoms more))
-
-pub loop-i-init : goal.loop-i-init
-loop-i-init c = (search rules, below_none _)
-
-pub loop-i-preserved : goal.loop-i-preserved
-loop-i-preserved c =
-    let a = c.args in (
-      search rules,
-      below_more _ _ c.loop-i.invariant.1 (entry-yes (joined_atoms a.atoms.now a.more.now) a.kind (tables a.atoms.now a.more.now a.kind c.limits-limits.ensures) a.e.now
-          c.loop-i.i c.right_entry.result c.right_entry.ensures c.if-right_entry.true),
-    )
-
-pub returns-else-right_entry : goal.returns-else-right_entry
-returns-else-right_entry c =
-    let a = c.args in entry-wrong (joined_atoms a.atoms.now a.more.now) a.kind a.e.now c.loop-i.i (search rules) c.loop-i.invariant.1
-    (entry-no (joined_atoms a.atoms.now a.more.now) a.kind (tables a.atoms.now a.more.now a.kind c.limits-limits.ensures) a.e.now c.loop-i.i c.right_entry.result c.right_entry.ensures
-    c.if-right_entry.false)
-
 pub returns : goal.returns
+unfolding wrong_entry
 returns c =
-    let a = c.args in entries-right (joined_atoms a.atoms.now a.more.now) a.kind a.e.now (λ k l. c.loop-i.invariant.1 k (omega arith))
+    let a = c.args in let all = joined_atoms a.atoms.now a.more.now in
+    let right = λ (i : ℕ). ByLimits all c.limits-limits.result (from (4 * i) a.e.now) in
+    let found = first_from_Range _ _ _ c.find.result (λ (i : ℕ). ¬ right i) right c.find.ensures.ran (search rules) (search rules) in
+    first-only (right_at? all a.kind a.e.now)
+    (first-along (λ k l. limits-right all a.kind (c.limits-limits.ensures ∙ ap (limits_of a.kind) c.count.ensures) a.e.now k) (first-found _ found))

@@ -1,6 +1,0 @@
--- `judge::listed::row` meets its contract. Assumes nothing.
-use mathlib.Core.Path.{refl}
-use Rattle.judge.proofs.listed.row.Goals as goal
-
-pub returns : goal.returns
-returns c = refl
