@@ -1,13 +1,16 @@
 -- Number 5: the test of a layout is true just where the layout is right. Assumes nothing.
-use mathlib.Core.Path.{◌≡◌, refl, sym, ◌∙◌}
+use mathlib.Core.Path.{◌≡◌, refl, sym, ap, ◌∙◌}
 use mathlib.Core.Bool.{Bool, true, false, ◌&&◌, cond}
 use mathlib.Core.List.{List, [], ◌∷◌}
 use Prim.Native.Nat.{ℕ, zero, suc, ◌+◌, ◌-◌, ◌≤◌, ◌<◌}
 use native.Mathlib.Decide.{dec_lt}
 use native.Mathlib.Omega.{arith}
 use lib.Dec.{eqb, leb}
-use lib.ListN.{length, get_or, take, drop, length-take, get_or-eq_default}
+use lib.ListN.{length, get_or, take, drop, length-take, get_or-eq_default, drop_of_length-le}
 use lib.Seq.{get_or-take, get_or-drop}
+use Rattle.std.specs.Int.Bits.{bit_or}
+use Rattle.std.proofs.lemmas.List.{drop-take}
+use Rattle.std.proofs.lemmas.Nat.{le_or_l}
 use borrow.Author.Tests.{eq-eqb, ne_eqb, eqb-true, le-leb, leb-true}
 use Rattle.blocks.specs.Kinds.{atoms_kind, secret_kind, bad_kind, rule_kind}
 use Rattle.blocks.specs.Limits.{block_size, most_entries, most_term_entries}
@@ -48,6 +51,27 @@ from_zero b from h = zero-all (drop from (take 508 b)) (λ k. go k (dec_lt (from
     go k (no g) =
         let most : length (take 508 b) ≤ from + k = rw length-take (omega arith) in
         get_or-drop from (take 508 b) k 0 ∙ get_or-eq_default (take 508 b) 0 most
+
+-- Two bytes put together are zero just where both are.
+pub or-zero : (a b : ℕ) → eqb (bit_or a b) 0 ≡ (eqb a 0 && eqb b 0)
+or-zero zero b = refl
+or-zero (suc a) b =
+    ne_eqb (bit_or (suc a) b) 0 (λ e. omega (arith, le_or_l (suc a) b, e))
+    ∙ sym (ap (λ (t : Bool). t && eqb b 0) (ne_eqb (suc a) 0 (λ e. omega (arith, e))))
+
+-- Behind byte 507 there is nothing to look at.
+pub zero-end : (b : List ℕ) (from : ℕ) → 508 ≤ from → zero_from b from ≡ true
+unfolding zero_from all_zero
+zero-end b from g =
+    let most : length (take 508 b) ≤ from = rw length-take (omega arith) in
+    ap all_zero (drop_of_length-le (take 508 b) most)
+
+-- Before it, the bytes that a part of the block has.
+pub zero_part : (b : List ℕ) (from : ℕ) → from ≤ 508 → all_zero (take (508 - from) (drop from b)) ≡ zero_from b from
+unfolding zero_from
+zero_part b from l =
+    let whole : from + (508 - from) ≡ 508 = omega arith in
+    ap all_zero (sym (drop-take from (508 - from) b) ∙ ap (λ (n : ℕ). drop from (take n b)) whole)
 
 -- ---- counts
 

@@ -12,7 +12,7 @@ ghost use Rattle.blocks.specs.Limits.{block_size};
 ghost use Rattle.blocks.specs.Block.{HasBlock, has_block, block_at, word_at, kind_of, first_count, second_count};
 ghost use Rattle.blocks.specs.Block.{first_entries, second_entries, behind, Fitting};
 ghost use Rattle.blocks.specs.Check.{check_a, check_b, check_right, values_of, sealing, sealing_values, after_sealing};
-ghost use Rattle.blocks.specs.Layout.{within, counts_right, zero_from, layout_right};
+ghost use Rattle.blocks.specs.Layout.{within, counts_right, all_zero, zero_from, layout_right};
 
 use columns::{eight_sums, header_sums};
 use kinds::Kind;
@@ -222,13 +222,23 @@ fn counts_right(kind: u8, first: usize, second: usize) -> bool
     }
 }
 
+// Whether all the bytes are zero. All are asked, which the compiler does many at a time.
+fn all_zero(bytes: &[u8]) -> bool
+    ensures { result ≡ all_zero bytes.now }
+{
+    let mut seen = 0;
+    for i in 0..bytes.len() {
+        seen |= bytes[i];
+    }
+    seen == 0
+}
+
 // Whether the bytes from `from` up to byte 507 are zero.
-#[tactic(auto, unfolding(crate::specs::Layout::zero_from, crate::specs::Layout::all_zero))]
 fn zero_from(block: &[u8], from: usize) -> bool
     requires { length block.now ≡ block_size }
     ensures { result ≡ zero_from block.now from }
 {
-    block[..508].iter().skip(from).all(|x| *x == 0)
+    from >= 508 || all_zero(&block[from..508])
 }
 
 // Whether the counts, byte 3 and the unused entries are right: number 5.

@@ -13,7 +13,7 @@ ghost use Rattle.judge.specs.Values.{verdict_values, judging_values};
 
 use crate::cover::RuleFault;
 use crate::flag::FLAGS;
-use crate::listed::Condition;
+use crate::listed::{Condition, LISTED_SIZES};
 use crate::tables::Tables;
 use crate::verdict::{Fault, Verdict};
 use crate::{cover, flag, form, listed};
@@ -125,7 +125,8 @@ fn rule_fault(file: &[u8]) -> Result<(), Fault>
     let n = leading(file);
     let head = &file[0..limits::BLOCK_SIZE * n];
     let roots = listed::secret_roots(head);
-    let sizes = listed::listed_sizes(head);
+    let mut sizes = [0u8; LISTED_SIZES];
+    listed::listed_sizes(head, &mut sizes);
     let tables = Tables {
         file: head,
         sizes: &sizes,

@@ -342,20 +342,19 @@ fn put_nonces(file: &[u8], sizes: &mut [u8; LISTED_SIZES])
     sizes[NONCE_SLOTS..].copy_from_slice(&flags);
 }
 
-// What is noted of a file: the sizes of block i's term in its row, which bad patterns are marked, and which atoms are nonces.
-pub fn listed_sizes(file: &[u8]) -> [u8; LISTED_SIZES]
+// Notes of a file the sizes of block i's term in its row, which bad patterns are marked, and which atoms are nonces. The table is
+// lent: handed back by value it stood on the stack three times.
+pub fn listed_sizes(file: &[u8], sizes: &mut [u8; LISTED_SIZES])
     requires { Laid file.now }
-    ensures { SizesIn file.now result }
+    ensures { SizesIn file.now sizes.new }
 {
-    let mut sizes = [0u8; LISTED_SIZES];
     let mut some = false;
     let count = file.len() / limits::BLOCK_SIZE;
     for i in 0..count {
-        some |= fill_row(file, i, &mut sizes);
+        some |= fill_row(file, i, sizes);
     }
     sizes[ROWS] = u8::from(some);
-    put_nonces(file, &mut sizes);
-    sizes
+    put_nonces(file, sizes);
 }
 
 // Room for what is noted of a file: a row of 64 for each block, with the sizes of its subterms and, in the last slot, where the

@@ -1,10 +1,10 @@
 -- Laws of specs/Asked.antt, shaped like the code's branches. Assumes nothing.
-use mathlib.Core.Path.{◌≡◌, refl, sym, ap, ◌∙◌}
+use mathlib.Core.Path.{◌≡◌, sym, ap, ◌∙◌}
 use mathlib.Core.List.{List}
-use Prim.Native.Nat.{ℕ, ◌%◌, ◌≤◌, ◌<◌}
+use Prim.Native.Nat.{ℕ, ◌+◌, ◌%◌, ◌≤◌, ◌<◌}
+use native.Mathlib.Omega.{arith}
 use lib.ListN.{length}
 use borrow.Author.Tests.{eq-eqb, ne_eqb, le-leb, lt-leb}
-use borrow.Rule.Slice.PartMut.{put_mid}
 use Rattle.std.specs.Prelude.{Result}
 use Rattle.blocks.specs.declared.Unwritten.{Unwritten}
 use Rattle.judge.specs.declared.verdict.Fault.TheVariants.{Length, Missing, Uncovered, Loader}
@@ -12,8 +12,7 @@ use Rattle.judge.specs.declared.verdict.Verdict.{Verdict}
 use Rattle.judge.specs.declared.verdict.Verdict.TheVariants.{Accepted, Refused}
 use Rattle.judge.specs.Answer.{part_of}
 use Rattle.judge.specs.Verdict.{verdict_of}
-use Rattle.judge.specs.Line.{printing, after_printing}
-use Rattle.judge.proofs.Answering.Printing.{part-pasted}
+use Rattle.judge.specs.Line.{Room, Put, printing, after_printing}
 use Rattle.judge_tests.specs.Asked.{packed_writing, no_counts, verdict_from, copying, after_copying}
 
 pub printed : (file buffer : List ℕ) {v : Verdict} {w : Result ℕ Unwritten} {after : List ℕ} {n : ℕ} → v ≡ verdict_of file → w ≡ printing v buffer
@@ -51,10 +50,14 @@ module _ (file buffer : List ℕ) {v u : Verdict} {part : List ℕ} (made : v �
       let l = lt-leb (length part) (length buffer) h in
       (sym (rw (← same, l)), sym (rw (← same, l)))
 
-  pub copied : {after : List ℕ} → length part ≤ length buffer → after ≡ part
-      → (length part % 65536 ≡ copying file u buffer) × (put_mid 0 (length part) buffer after ≡ after_copying file u buffer)
+  pub copied : {after : List ℕ} {n : ℕ} → length part ≤ length buffer → Put buffer 0 part after n
+      → (n % 65536 ≡ copying file u buffer) × (after ≡ after_copying file u buffer)
   unfolding copying after_copying
-  copied h e =
+  copied h d =
       let same : part ≡ part_of file u = is ∙ ap (part_of file) made in
       let l = le-leb (length part) (length buffer) h in
-      (sym (rw (← same, l)), part-pasted buffer 0 (length part) e refl ∙ sym (rw (← same, l)))
+      let whole : 0 + length part ≡ length part = omega arith in
+      (ap (λ (m : ℕ). m % 65536) (d.end ∙ whole) ∙ sym (rw (← same, l)), d.bytes ∙ sym (rw (← same, l)))
+
+pub room : (buffer part : List ℕ) → length part ≤ length buffer → Room buffer 0 part
+room buffer part h = record { fits = omega arith }

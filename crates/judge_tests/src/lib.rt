@@ -5,7 +5,7 @@
 ghost use Rattle.std.specs.Prelude.{◌≡◌, length};
 ghost use Rattle.blocks.specs.Check.{sealing, after_sealing};
 ghost use Rattle.judge.specs.Verdict.{verdict_of};
-ghost use Rattle.judge.specs.Line.{printing, after_printing};
+ghost use Rattle.judge.specs.Line.{Room, Put, printing, after_printing};
 ghost use Rattle.judge_tests.specs.Asked.{packed_writing, verdict_from, copying, after_copying};
 ghost use Rattle.judge_tests.specs.Asked.{tally_numbers, tally_from, numbers_of, tallying, after_tallying};
 
@@ -119,6 +119,18 @@ fn verdict_from(number: u32, block: u8, place: u8) -> Verdict
     Verdict::Refused(Fault::Uncovered(block, place))
 }
 
+// Copies a part to the buffer's start, and answers its length. (Byte by byte: with `copy_from_slice` the archive needs `memmove`
+// from outside, too.)
+fn copy(buffer: &mut [u8], part: &[u8]) -> usize
+    requires { Room buffer.old 0 part.now }
+    ensures { Put buffer.old 0 part.now buffer.new result }
+{
+    for i in 0..part.len() {
+        buffer[i] = part[i];
+    }
+    part.len()
+}
+
 // The refused part of the file for the verdict with this number, block and place, copied to the buffer's start: its
 // length; 65,536, and the buffer unaltered, if it is shorter than the part.
 #[unsafe(no_mangle)]
@@ -136,6 +148,5 @@ pub extern "C" fn zepayong_part(
     if buffer.len() < part.len() {
         return 65536;
     }
-    buffer[..part.len()].copy_from_slice(part);
-    (part.len() % 65536) as u32
+    (copy(buffer, part) % 65536) as u32
 }

@@ -2,14 +2,17 @@
 use mathlib.Core.Path.{◌≡◌, refl, sym, ap, ◌∙◌}
 use mathlib.Core.List.{List, [], ◌∷◌}
 use Prim.Native.Nat.{ℕ, ◌≤◌}
+use mathlib.Core.Bool.{true, false}
+use mathlib.Core.Logic.{◌⊎◌, inl, inr}
 use native.Mathlib.Omega.{arith}
+use borrow.Author.Tests.{ne_eqb}
 use lib.ListN.{get_or}
 use Rattle.judge.specs.declared.verdict.Fault.{Fault}
 use Rattle.judge.specs.declared.verdict.Fault.TheVariants.{Length, Check, Kind, Missing, Layout, AtomEntry}
 use Rattle.judge.specs.declared.verdict.Fault.TheVariants.{TermEntry, NotOneTerm, KnownSecret, NotClosed, KeyNotKept, Uncovered, OpenSecret, Loader}
 use Rattle.judge.specs.declared.verdict.Verdict.{Verdict}
 use Rattle.judge.specs.declared.verdict.Verdict.TheVariants.{Accepted, Refused}
-use Rattle.judge.specs.Answer.{number_of, block_of, place_of}
+use Rattle.judge.specs.Answer.{number_of, block_of, place_of, partless}
 use Rattle.judge.specs.Values.{VerdictValues, verdict_values}
 
 -- Every number is one of 1 to 16.
@@ -71,3 +74,15 @@ same-values (Refused f) (Accepted c) e =
 same-values (Refused f) (Refused g) e =
     let l = ap (λ (x : VerdictValues). x.values) e in
     ap Refused (same-fault f g (ap (λ (x : VerdictValues). x.number) e) (ap (λ (m : List ℕ). get_or m 0 0) l) (ap (λ (m : List ℕ). get_or m 1 0) l))
+
+-- ---- which numbers have no part
+
+pub partless-yes : (n : ℕ) → (n ≡ 1) ⊎ ((n ≡ 4) ⊎ (n ≡ 16)) → true ≡ partless n
+unfolding partless
+partless-yes n (inl h) = rw h
+partless-yes n (inr (inl h)) = rw h
+partless-yes n (inr (inr h)) = rw h
+
+pub partless-no : (n : ℕ) → ¬ ((n ≡ 1) ⊎ ((n ≡ 4) ⊎ (n ≡ 16))) → false ≡ partless n
+unfolding partless
+partless-no n h = rw (ne_eqb n 1 (λ e. h (inl e)), ne_eqb n 4 (λ e. h (inr (inl e))), ne_eqb n 16 (λ e. h (inr (inr e))))

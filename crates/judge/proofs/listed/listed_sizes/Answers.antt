@@ -1,12 +1,12 @@
 -- `judge::listed::listed_sizes` meets its contract: after i blocks their rows are filled in. Assumes nothing.
-use mathlib.Core.Path.{refl}
+use borrow.Author.Rules.{rules}
 use native.Mathlib.Omega.{arith}
 use Rattle.judge.proofs.Stages.Tables.{some_more, rows_all}
 use Rattle.judge.proofs.listed.listed_sizes.Goals as goal
 
 pub loop-i-init : goal.loop-i-init
 loop-i-init c =
-    (record { long = refl; at = λ j low lists. absurd (omega arith); marks = λ j low lists. absurd (omega arith) }, record { some = λ j low. absurd (omega arith) })
+    (record { long = search rules; at = λ j low lists. absurd (omega arith); marks = λ j low lists. absurd (omega arith) }, record { some = λ j low. absurd (omega arith) })
 
 pub loop-i-preserved : goal.loop-i-preserved
 loop-i-preserved c =
